@@ -55,7 +55,7 @@ no_variable name h valid c (looks.Struct g args) s a b n j e =
     let k = compound_at h s.0 in
     let f : Comp (name k.name) (terms_by (term_of name h) k.args) ≡ Var j = sym (s.3 name ∙ term-Struct name h valid s.0) ∙ e in absurd (cc)
 
-variable_member : (t : Term) (x : ℕ) → as_member t ≡ Ok (seen.Open x) → t ≡ Var x
+pub variable_member : (t : Term) (x : ℕ) → as_member t ≡ Ok (seen.Open x) → t ≡ Var x
 variable_member (Var y) x e = let f : y ≡ x = cc in ap Var f
 variable_member (Int z) x e = absurd (cc)
 variable_member (Atom a) x e = absurd (cc)

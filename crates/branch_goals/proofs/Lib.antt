@@ -2,3 +2,5 @@ mod DomainLists
 mod Findings
 mod Labels
 mod Listing
+mod Naming
+mod Seeking

@@ -22,7 +22,7 @@ use Rattle.branch_state.specs.States.{State}
 abbrev pub labelled_in : Naming → State → Order → Cell → Labelled
 labelled_in name s o c =
     let G = family_of s.levels.current.sets in
-    heap_label INFINITY name s.heaps.now s.levels.current.posted G o
+    heap_label INFINITY INFINITY name s.heaps.now s.levels.current.posted G o
     (seen_term name s.heaps.now G c)
 
 -- the values of a variable of the heap: those of its set, and all where the store doesn't have it

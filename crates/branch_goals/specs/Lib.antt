@@ -2,3 +2,4 @@ pub mod Domains
 pub mod Findings
 pub mod Labels
 pub mod Lists
+pub mod Searches

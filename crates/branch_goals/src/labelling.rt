@@ -28,7 +28,7 @@ pub enum Labelling {
 }
 
 /// The variable that a cell comes to. Cells of other terms have the number 0.
-fn variable_of(heap: &Heap, c: Cell) -> usize
+pub(crate) fn variable_of(heap: &Heap, c: Cell) -> usize
     requires { IsOf heap.now.now c }
     ensures { (name : Naming) → IsVariableOf name heap.now.now c result }
 {

@@ -6,7 +6,9 @@ mod domains;
 mod finding;
 mod labelling;
 mod lists;
+mod searches;
 
 pub use crate::builtins::find;
 pub use crate::finding::Found;
 pub use crate::labelling::{Labelling, label};
+pub use crate::searches::{Sought, seek};

@@ -81,7 +81,7 @@ fn compound_node(f: AtomId, args: &[Cell]) -> ListNode
 }
 
 /// What a cell is as a member of a list: `None` for an atom or a compound term.
-fn member_at<V: View>(heap: &Heap, view: &V, at: Cell) -> Option<Member>
+pub(crate) fn member_at<V: View>(heap: &Heap, view: &V, at: Cell) -> Option<Member>
     requires own { IsOf heap.now.now at }
     requires linked { HasLinksBelow (length (V.sets view.now)) heap.now.now }
     requires some { HasNoEmpty (V.sets view.now) }

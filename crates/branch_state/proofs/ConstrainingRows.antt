@@ -1,33 +1,24 @@
--- Rows of constraints: their fresh variables, and how many there can be.
-use Rattle.std.proofs.Common.{◌≡◌, ℕ, zero, suc, ◌+◌, ◌<◌, ◌≤◌, Bool, true, false, cond, ℤ, pos, ◌^◌, List, [], ◌∷◌, length, get_or, Option, Some, None, Result, Ok, Err, refl, ap, sym, ◌∙◌, subst, arith}
-use Rattle.std.specs.Prelude.{codes, slice_get, option_map, All, IfOk, FitsSigned}
+-- Rows of comparisons and of constraints on lists: their fresh variables, how many there can be, and the integers of those that are equated.
+use Rattle.std.proofs.Common.{◌≡◌, ℕ, suc, ◌+◌, ◌≤◌, Bool, true, false, cond, ℤ, pos, List, [], ◌∷◌, length, Ok, Err, refl, ap, sym, subst, arith}
+use Rattle.std.specs.Prelude.{codes, FitsSigned}
 use Rattle.std.specs.Int.{w64}
 use Rattle.std.proofs.lemmas.List.Elements.{All-nil, All-cons}
 use Rattle.std.specs.Str.{bytes_eq}
 use Rattle.fd_language.specs.Term.{Term, Terms, Var, Int, Atom, Comp, no_terms, term}
 use Rattle.fd_model.specs.declared.kinds.ConstraintKind.{ConstraintKind}
 use Rattle.fd_model.specs.declared.kinds.ConstraintKind.TheVariants.{Compare, AllDifferent, Element, Atmost}
-use Rattle.fd_model.specs.declared.kinds.QueryFault.{QueryFault}
 use Rattle.fd_model.specs.ConstraintLaws.{cells}
-use Rattle.fd_model.specs.Constraining.{expand}
+use Rattle.fd_model.specs.Constraining.{basic}
 use Rattle.fd_model.specs.Linear.{Comparison, IsAtMost, comparison, normal_form, collect, of_one}
 use Rattle.fd_model.specs.LinearRows.{Expansion, linear_rows, compares, no_number}
 use Rattle.fd_model.specs.ListRows.{different_rows, units}
 use Rattle.fd_model.specs.Members.{Member, Open, Known, walk, as_member, prepend, after, placed, equated_from, fresh_after}
 use Rattle.fd_model.proofs.Lemmas.{one_ok, both_ok, test_ok, element_ok, atmost_ok, members_count}
-use Rattle.std.proofs.lemmas.Option.{slice_get-get_or, none-some}
-use Rattle.term_pool.specs.declared.TermId.{TermId}
-use Rattle.term_pool.specs.Contents.{Contents, Entry, Shape, var, int, atom, comp, name_in}
-use Rattle.term_pool.specs.Terms.{term_of, terms_by, shape_term}
-use Rattle.term_pool.specs.Valid.{IsPool, IsWithin, IsStorable, AreStorable}
-use Rattle.term_pool.proofs.Lemmas.{term_of_shape, term_is_storable}
-use Rattle.constraint_expand.specs.declared.faults.ExpandFault.{ExpandFault}
-use Rattle.constraint_expand.specs.Views.{Expands}
-use Rattle.heap_cells.proofs.Lemmas.{head_of, tail_of}
+use Rattle.term_pool.specs.Valid.{IsStorable, AreStorable}
 use Rattle.branch_state.specs.Constraints.{AreFrom, AreWords}
 
 -- the equated variables of members are the next ones
-placed_from : (n : ℕ) (ms : List Member) → AreFrom n (equated_from n ms)
+pub placed_from : (n : ℕ) (ms : List Member) → AreFrom n (equated_from n ms)
 placed_from n [] = tt
 placed_from n (Open x ∷ ms) = placed_from n ms
 placed_from n (Known z ∷ ms) = (refl, placed_from (suc n) ms)
@@ -47,26 +38,26 @@ linear_end k [] c n = by_test (compares k (pos 0) c) where
 linear_end k (t ∷ ts) c n = omega arith
 
 -- The equated variables of a constraint's row are the next ones.
-pub equated_next : (kind : ConstraintKind) (ts : Terms) (n : ℕ) (x : Expansion) → expand kind ts n ≡ Ok x → AreFrom n x.equated
-equated_next (Compare r) (term s (term t no_terms)) n x h =
+pub basic_next : (kind : ConstraintKind) (ts : Terms) (n : ℕ) (x : Expansion) → basic kind ts n ≡ Ok x → AreFrom n x.equated
+basic_next (Compare r) (term s (term t no_terms)) n x h =
     let k = one_ok (λ l. Ok (linear_rows (comparison r) l.products l.constant n)) (of_one (normal_form r) (collect s t)) x h in
     let e : linear_rows (comparison r) k.0.products k.0.constant n ≡ x = cc (k.2) in
     subst (λ y. AreFrom n y.equated) e (subst (AreFrom n) (sym (linear_none (comparison r) k.0.products k.0.constant n)) tt)
-equated_next AllDifferent (term l no_terms) n x h =
+basic_next AllDifferent (term l no_terms) n x h =
     let k = one_ok (λ ms. Ok (different_rows ms n)) (walk as_member l) x h in
     let e : different_rows k.0 n ≡ x = cc (k.2) in
     subst (λ y. AreFrom n y.equated) e (placed_from n k.0)
-equated_next Element (term i (term l (term v no_terms))) n x h =
+basic_next Element (term i (term l (term v no_terms))) n x h =
     let k = element_ok i l v n x h in
     subst (λ y. AreFrom n y.equated) k.rows (placed_from n (k.index ∷ k.value ∷ []))
-equated_next Atmost (term m (term l (term v no_terms))) n x h =
+basic_next Atmost (term m (term l (term v no_terms))) n x h =
     let k = atmost_ok m l v n x h in
     subst (λ y. AreFrom n y.equated) k.rows (placed_from n k.members)
-equated_next _ _ n x h = absurd (cc)
+basic_next _ _ n x h = absurd (cc)
 
 -- ---- how many there can be
 
-after_end : (n : ℕ) (ms : List Member) → fresh_after n ms ≤ n + length ms
+pub after_end : (n : ℕ) (ms : List Member) → fresh_after n ms ≤ n + length ms
 after_end n [] = omega arith
 after_end n (Open x ∷ ms) = let l = after_end n ms in omega (arith, l)
 after_end n (Known z ∷ ms) = let l = after_end (suc n) ms in omega (arith, l)
@@ -81,14 +72,14 @@ AllShort m no_terms = Unit {0}
 AllShort m (term t ts) = (cells t ≤ m) × AllShort m ts
 
 -- A row's fresh variables are few where no argument has many cells.
-pub row_end : (m : ℕ) (kind : ConstraintKind) (ts : Terms) (n : ℕ) (x : Expansion) → AllShort m ts → expand kind ts n ≡ Ok x → x.fresh ≤ n + (m + m + 2)
-row_end m (Compare r) (term s (term t no_terms)) n x short h =
+pub basic_end : (m : ℕ) (kind : ConstraintKind) (ts : Terms) (n : ℕ) (x : Expansion) → AllShort m ts → basic kind ts n ≡ Ok x → x.fresh ≤ n + (m + m + 2)
+basic_end m (Compare r) (term s (term t no_terms)) n x short h =
     let k = one_ok (λ l. Ok (linear_rows (comparison r) l.products l.constant n)) (of_one (normal_form r) (collect s t)) x h in
     let e : linear_rows (comparison r) k.0.products k.0.constant n ≡ x = cc (k.2) in
     let l = linear_end (comparison r) k.0.products k.0.constant n in
     let f = ap (λ (y : Expansion). y.fresh) e in
     omega (arith, l, f)
-row_end m AllDifferent (term l no_terms) n x short h =
+basic_end m AllDifferent (term l no_terms) n x short h =
     let k = one_ok (λ ms. Ok (different_rows ms n)) (walk as_member l) x h in
     let e : different_rows k.0 n ≡ x = cc (k.2) in
     let c = members_count l k.0 k.1 in
@@ -96,12 +87,12 @@ row_end m AllDifferent (term l no_terms) n x short h =
     let s = short.0 in
     let f : fresh_after n k.0 ≡ x.fresh = ap (λ (y : Expansion). y.fresh) e in
     omega (arith, c, a, s, f)
-row_end m Element (term i (term l (term v no_terms))) n x short h =
+basic_end m Element (term i (term l (term v no_terms))) n x short h =
     let k = element_ok i l v n x h in
     let a = after_end n (k.index ∷ k.value ∷ []) in
     let f : fresh_after n (k.index ∷ k.value ∷ []) ≡ x.fresh = ap (λ (y : Expansion). y.fresh) k.rows in
     omega (arith, a, f)
-row_end m Atmost (term t (term l (term v no_terms))) n x short h =
+basic_end m Atmost (term t (term l (term v no_terms))) n x short h =
     let k = atmost_ok t l v n x h in
     let xs = placed n k.members in
     let b = fresh_after n k.members in
@@ -112,66 +103,19 @@ row_end m Atmost (term t (term l (term v no_terms))) n x short h =
     let e = linear_end IsAtMost (units xs b) k.limit (b + length xs) in
     let f : (linear_rows IsAtMost (units xs b) k.limit (b + length xs)).fresh ≡ x.fresh = ap (λ (y : Expansion). y.fresh) k.rows in
     omega (arith, a, c, d, s, e, f)
-row_end m _ _ n x short h = absurd (cc)
-
--- ---- terms of a pool
-
-module _ (c : Contents) (pool : IsPool c) where
-  abbrev LowTo : ℕ → Type 0
-  LowTo n = (t : TermId) → t.number < n → t.number < length c.entries → cells (term_of c t) ≤ t.number
-
-  low_shape : (n : ℕ) → LowTo n → n < length c.entries → (s : Shape) → IsWithin (length c.names) n s → cells (shape_term c s) ≤ n
-  low_shape n low own (var x) w = omega arith
-  low_shape n low own (int z) w = omega arith
-  low_shape n low own (atom a) w = omega arith
-  low_shape n low own (comp f ts) w = by_parts ts w.1 where
-    by_parts : (ts : List TermId) → All (λ t. t.number < n) ts → cells (Comp (name_in c.names f) (terms_by (term_of c) ts)) ≤ n
-    by_parts [] a = omega arith
-    by_parts (h ∷ []) a = omega arith
-    by_parts (h ∷ t ∷ []) a =
-        let l = head_of (λ t. t.number < n) t [] (tail_of (λ t. t.number < n) h (t ∷ []) a) in
-        let k = low t l (omega (arith, l, own)) in
-        omega (arith, l, k)
-    by_parts (h ∷ t ∷ u ∷ us) a = omega arith
-
-  low_to : (n : ℕ) → LowTo n
-  low_to zero t l own = absurd (omega (arith, l))
-  low_to (suc n) t l own = by_entry (λ s k o. low_to n s (omega (arith, k, l)) o) (slice_get c.entries t.number) refl where
-    by_entry : LowTo t.number → (o : Option Entry) → slice_get c.entries t.number ≡ o → cells (term_of c t) ≤ t.number
-    by_entry low (Some e) i =
-        subst (λ u. cells u ≤ t.number) (sym (term_of_shape c pool t e.shape (ap (option_map (λ e. e.shape)) i)))
-        (low_shape t.number low own e.shape (pool.within t.number e i))
-    by_entry low None i = absurd (none-some (get_or c.entries t.number (record { shape = var 0; place = 0 })) (sym i ∙ slice_get-get_or c.entries t.number (record { shape = var 0; place = 0 }) own))
-
-  -- a list of a pool has no more cells than there are terms before it
-  pub cells_low : (t : TermId) → t.number < length c.entries → cells (term_of c t) ≤ t.number
-  cells_low t own = low_to (suc t.number) t (omega arith) own
-
-  pub all_short : (m : ℕ) (ts : List TermId) → All (λ t. t.number < length c.entries) ts → All (λ t. t.number < m) ts → AllShort m (terms_by (term_of c) ts)
-  all_short m [] own low = tt
-  all_short m (t ∷ ts) own low = (
-    (let a = cells_low t (head_of (λ t. t.number < length c.entries) t ts own) in let b = head_of (λ t. t.number < m) t ts low in omega (arith, a, b)),
-    all_short m ts (tail_of (λ t. t.number < length c.entries) t ts own) (tail_of (λ t. t.number < m) t ts low),
-  )
-
-  -- A row's fresh variables have numbers of 64 bits where neither the fresh numbers nor the terms are many.
-  pub row_ends : (kind : ConstraintKind) (ts : List TermId) (n m : ℕ) → n < 2 ^ 60 → m < 2 ^ 60 → All (λ t. t.number < length c.entries) ts → All (λ t. t.number < m) ts → IfOk (expand kind (terms_by (term_of c) ts) n) (λ x. x.fresh < 2 ^ 64)
-  row_ends kind ts n m few small own low = by_row (expand kind (terms_by (term_of c) ts) n) refl where
-    by_row : (r : Result Expansion QueryFault) → expand kind (terms_by (term_of c) ts) n ≡ r → IfOk r (λ x. x.fresh < 2 ^ 64)
-    by_row (Ok x) e = let l = row_end m kind (terms_by (term_of c) ts) n x (all_short m ts own low) e in omega (arith, l, few, small)
-    by_row (Err f) e = tt
+basic_end m _ _ n x short h = absurd (cc)
 
 -- ---- the integers of the equated variables
 
-abbrev Fit : Member → Type 0
+abbrev pub Fit : Member → Type 0
 Fit (Open x) = Unit {0}
 Fit (Known z) = FitsSigned w64 z
 
-abbrev AllFit : List Member → Type 0
+abbrev pub AllFit : List Member → Type 0
 AllFit [] = Unit {0}
 AllFit (m ∷ ms) = Fit m × AllFit ms
 
-member_fits : (t : Term) (m : Member) → IsStorable t → as_member t ≡ Ok m → Fit m
+pub member_fits : (t : Term) (m : Member) → IsStorable t → as_member t ≡ Ok m → Fit m
 member_fits (Var x) m s e = let f : Open x ≡ m = cc in subst Fit f tt
 member_fits (Int z) m s e = let f : Known z ≡ m = cc in subst Fit f s
 member_fits (Atom a) m s e = absurd (cc)
@@ -191,33 +135,25 @@ members_fit _ ms s h = absurd (cc)
 words_none : AreWords []
 words_none = All-nil (λ d. FitsSigned w64 d.1)
 
-words_from : (n : ℕ) (ms : List Member) → AllFit ms → AreWords (equated_from n ms)
+pub words_from : (n : ℕ) (ms : List Member) → AllFit ms → AreWords (equated_from n ms)
 words_from n [] f = words_none
 words_from n (Open x ∷ ms) f = words_from n ms f.1
 words_from n (Known z ∷ ms) f = All-cons (λ d. FitsSigned w64 d.1) (n, z) (equated_from (suc n) ms) f.0 (words_from (suc n) ms f.1)
 
 -- The integers of a row of storable terms have 64 bits.
-pub equated_words : (kind : ConstraintKind) (ts : Terms) (n : ℕ) (x : Expansion) → AreStorable ts → expand kind ts n ≡ Ok x → AreWords x.equated
-equated_words (Compare r) (term s (term t no_terms)) n x st h =
+pub basic_words : (kind : ConstraintKind) (ts : Terms) (n : ℕ) (x : Expansion) → AreStorable ts → basic kind ts n ≡ Ok x → AreWords x.equated
+basic_words (Compare r) (term s (term t no_terms)) n x st h =
     let k = one_ok (λ l. Ok (linear_rows (comparison r) l.products l.constant n)) (of_one (normal_form r) (collect s t)) x h in
     let e : linear_rows (comparison r) k.0.products k.0.constant n ≡ x = cc (k.2) in
     subst (λ y. AreWords y.equated) e (subst AreWords (sym (linear_none (comparison r) k.0.products k.0.constant n)) words_none)
-equated_words AllDifferent (term l no_terms) n x st h =
+basic_words AllDifferent (term l no_terms) n x st h =
     let k = one_ok (λ ms. Ok (different_rows ms n)) (walk as_member l) x h in
     let e : different_rows k.0 n ≡ x = cc (k.2) in
     subst (λ y. AreWords y.equated) e (words_from n k.0 (members_fit l k.0 st.0 k.1))
-equated_words Element (term i (term l (term v no_terms))) n x st h =
+basic_words Element (term i (term l (term v no_terms))) n x st h =
     let k = element_ok i l v n x h in
     subst (λ y. AreWords y.equated) k.rows (words_from n (k.index ∷ k.value ∷ []) (member_fits i k.index st.0 k.from_index, (member_fits v k.value st.1.1.0 k.from_value, tt)))
-equated_words Atmost (term m (term l (term v no_terms))) n x st h =
+basic_words Atmost (term m (term l (term v no_terms))) n x st h =
     let k = atmost_ok m l v n x h in
     subst (λ y. AreWords y.equated) k.rows (words_from n k.members (members_fit l k.members st.1.0 k.from_list))
-equated_words _ _ n x st h = absurd (cc)
-
-pub all_storable : (c : Contents) → IsPool c → (ts : List TermId) → All (λ t. t.number < length c.entries) ts → AreStorable (terms_by (term_of c) ts)
-all_storable c pool [] own = tt
-all_storable c pool (t ∷ ts) own = (term_is_storable c pool t (head_of (λ t. t.number < length c.entries) t ts own), all_storable c pool ts (tail_of (λ t. t.number < length c.entries) t ts own))
-
-pub answer_words : (c : Contents) → IsPool c → (ts : List TermId) → All (λ t. t.number < length c.entries) ts → (kind : ConstraintKind) (n : ℕ) (r : Result Expansion ExpandFault) → Expands (expand kind (terms_by (term_of c) ts) n) r → IfOk r (λ x. AreWords x.equated)
-answer_words c pool ts own kind n (Ok x) e = equated_words kind (terms_by (term_of c) ts) n x (all_storable c pool ts own) e
-answer_words c pool ts own kind n (Err f) e = tt
+basic_words _ _ n x st h = absurd (cc)

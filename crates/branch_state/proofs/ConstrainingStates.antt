@@ -38,7 +38,7 @@ use Rattle.branch_state.specs.States.{State, IsPair, ArePairs, IsSound, IsSettle
 use Rattle.branch_state.specs.Steps.{AreTouchesBelow}
 use Rattle.branch_state.proofs.ConstrainingHeaps.{arguments_unbound}
 use Rattle.branch_state.proofs.ConstrainingPosts.{row_pair, row_linked, rows_fit, touches_fit}
-use Rattle.branch_state.proofs.ConstrainingRows.{equated_next}
+use Rattle.branch_state.proofs.SplitRows.{equated_next}
 use Rattle.branch_state.proofs.Showing.{term_read}
 
 pub own_links : (s : State) → IsSound s → OwnLinks (length s.levels.current.sets) s.heaps.now
@@ -103,20 +103,20 @@ pub row_of_heap : (names : List Name) (s : State) → IsSound s → (kind : Cons
 row_of_heap names s o kind c own y is =
     let h = s.heaps.now in
     let ts = arguments (seen_term (full names) h (family_of s.levels.current.sets) c) in
-    let scoped = scoped_rows kind ts (length h.slots) y is in
+    let scoped = scoped_rows INFINITY kind ts (length h.slots) y is in
     record {
       grows = scoped.grows;
       named = λ x e. elim (scoped.named x e) [ inl i ↦ inl (arguments_unbound (full names) h o.now.valid (family_of s.levels.current.sets) c own.0 x i) | inr i ↦ inr i ];
-      equated = equated_next kind ts (length h.slots) y is;
+      equated = equated_next INFINITY kind ts (length h.slots) y is;
       fresh = scoped.equated;
       plain = plain_rows y.ranges (expand_fitting INFINITY kind ts (length h.slots) y is);
     }
 
 -- what is expanded is that row
-pub row_read : (names : List Name) (s : State) → IsSound s → length names ≡ s.atoms → (kind : ConstraintKind) (c : Cell) → IsCell s c → (n : ℕ) → n ≡ length s.heaps.now.slots → expand kind (arguments (seen_term (name_in names) s.heaps.now (family_of s.levels.current.sets) c)) n ≡ row_of names s kind c
+pub row_read : (names : List Name) (s : State) → IsSound s → length names ≡ s.atoms → (kind : ConstraintKind) (c : Cell) → IsCell s c → (n : ℕ) → n ≡ length s.heaps.now.slots → expand INFINITY kind (arguments (seen_term (name_in names) s.heaps.now (family_of s.levels.current.sets) c)) n ≡ row_of names s kind c
 row_read names s o same kind c own n e =
-    ap (λ m. expand kind (arguments (seen_term (name_in names) s.heaps.now (family_of s.levels.current.sets) c)) m) e
-    ∙ ap (λ t. expand kind (arguments t) (length s.heaps.now.slots)) (term_read names s.heaps.now s.levels.current.sets o.now.valid (subst (λ m. HasAtomsBelow m s.heaps.now) (sym same) o.now.names) c own.0 (subst (λ m. IsAtomBelow m c) (sym same) own.1))
+    ap (λ m. expand INFINITY kind (arguments (seen_term (name_in names) s.heaps.now (family_of s.levels.current.sets) c)) m) e
+    ∙ ap (λ t. expand INFINITY kind (arguments t) (length s.heaps.now.slots)) (term_read names s.heaps.now s.levels.current.sets o.now.valid (subst (λ m. HasAtomsBelow m s.heaps.now) (sym same) o.now.names) c own.0 (subst (λ m. IsAtomBelow m c) (sym same) own.1))
 
 pub fault_read : (d : Result Expansion QueryFault) (f : ExpandFault) (q : QueryFault) → IsFaultOf d f → fault_of f ≡ Some q → d ≡ Err q
 fault_read d f q i e = by_option (fault_of f) i e where

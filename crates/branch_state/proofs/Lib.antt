@@ -4,6 +4,8 @@ mod Sound
 mod Compounds
 mod Constraining
 mod ConstrainingRows
+mod SplitRows
+mod PoolRows
 mod ConstrainingSteps
 mod ConstrainingHeaps
 mod ConstrainingLinks
@@ -22,3 +24,4 @@ mod TermNaming
 mod CellsReady
 mod CellPosts
 mod Showing
+mod OpenSets

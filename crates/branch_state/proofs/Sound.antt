@@ -1,8 +1,8 @@
 -- Branches in order.
-use Rattle.std.proofs.Common.{◌≡◌, ℕ, ◌<◌, true, false, List, [], length, Some, refl, ap, sym, ◌∙◌, subst, arith}
+use Rattle.std.proofs.Common.{◌≡◌, ℕ, zero, suc, ◌<◌, true, false, List, [], ◌∷◌, length, drop, Some, refl, ap, sym, ◌∙◌, subst, arith}
 use Rattle.std.specs.Prelude.{All, Result, Ok, Err, OnOk}
 use Rattle.std.proofs.lemmas.Bool.{true≢false}
-use Rattle.std.proofs.lemmas.List.{get_or_past}
+use Rattle.std.proofs.lemmas.List.{get_or_past, length-drop}
 use Rattle.std.proofs.lemmas.List.Elements.{All-append}
 use Rattle.std.proofs.lemmas.Option.{none-some}
 use Rattle.fd_language.specs.Family.{has}
@@ -23,7 +23,7 @@ use Rattle.unify_core.specs.Unifications.{AreUnified, IsEqualled, KeepsAtoms}
 use Rattle.propagate_queue.specs.Running.{AreDomains}
 use Rattle.machine_frames.specs.Frames.{link_in, link_of}
 use Rattle.machine_frames.proofs.Lemmas.{slot_behind, linked_at, link_at}
-use Rattle.branch_state.specs.States.{State, IsPair, ArePairs, IsSound, IsSettled, first_state, no_level, IsCell}
+use Rattle.branch_state.specs.States.{State, IsPair, ArePairs, IsSound, IsSettled, first_state, no_level, without_pairs, IsCell}
 use Rattle.branch_state.specs.Steps.{IsTouchBelow, AreTouchesBelow, posted_with}
 use Rattle.branch_state.proofs.LevelModels.{settled}
 use Rattle.branch_state.proofs.Touches.{posted_low}
@@ -52,6 +52,28 @@ first_pair n valid d = record {
 
 pub first_sound : (n : ℕ) → IsHeap no_cells → AreDomains [] [] → IsSound (first_state n)
 first_sound n valid d = record { unspent = refl; marked = omega arith; below = (first_pair n valid d, tt); now = first_pair n valid d }
+
+-- where pairs below are gone
+pub pairs_counted : (n : ℕ) (hs : List Cells) (ls : List Level) → ArePairs n hs ls → length hs ≡ length ls
+pairs_counted n [] [] p = refl
+pairs_counted n [] (l ∷ ls) p = absurd p
+pairs_counted n (h ∷ hs) [] p = absurd p
+pairs_counted n (h ∷ hs) (l ∷ ls) p = ap suc (pairs_counted n hs ls p.1)
+
+fewer_pairs : (n k : ℕ) (hs : List Cells) (ls : List Level) → ArePairs n hs ls → ArePairs n (drop k hs) (drop k ls)
+fewer_pairs n zero hs ls p = p
+fewer_pairs n (suc k) [] [] p = tt
+fewer_pairs n (suc k) [] (l ∷ ls) p = absurd p
+fewer_pairs n (suc k) (h ∷ hs) [] p = absurd p
+fewer_pairs n (suc k) (h ∷ hs) (l ∷ ls) p = fewer_pairs n k hs ls p.1
+
+pub dropped_sound : (s : State) (k : ℕ) → IsSound s → k < length s.heaps.below → IsSound (without_pairs s k)
+dropped_sound s k o l = record {
+  unspent = o.unspent;
+  marked = omega (arith, l, length-drop k s.heaps.below);
+  below = fewer_pairs s.atoms k s.heaps.below s.levels.below o.below;
+  now = o.now;
+}
 
 -- a heap with no more variables of the store
 pub pair_fewer : (n : ℕ) (h now : Cells) (l : Level) → IsPair n h l → IsHeap now → HasAtomsBelow n now → ((c k : ℕ) → link_in now c ≡ Some k → link_in h c ≡ Some k) → IsPair n now l

@@ -1,6 +1,7 @@
 -- What a constraint does to a branch.
 use Rattle.std.specs.Prelude.{◌≡◌, ℕ, zero, suc, ◌+◌, ◌<◌, ◌≤◌, true, false, ℤ, List, [], ◌∷◌, ◌++◌, length, map, All, FitsSigned, Option, Some, ◌⊎◌, Result, Ok, Err}
 use Rattle.std.specs.Int.{w64}
+use Rattle.fd_language.specs.declared.TheConstants.{INFINITY}
 use Rattle.fd_language.specs.Family.{has}
 use Rattle.fd_language.specs.Range.{Indexical, params}
 use Rattle.fd_language.specs.Term.{Name, Var, Substitution}
@@ -32,7 +33,7 @@ use Rattle.branch_state.specs.States.{State, HasNoModel, IsSound, IsSoundBelow}
 
 -- the row of the constraint, by the branch's heap and sets
 abbrev pub row_of : List Name → State → ConstraintKind → Cell → Result Expansion QueryFault
-row_of names s kind c = heap_row s.heaps.now (family_of s.levels.current.sets) kind
+row_of names s kind c = heap_row INFINITY s.heaps.now (family_of s.levels.current.sets) kind
     (term_of (full names) s.heaps.now c)
 
 -- The constraint's row is linked on the heap now. The store's ranges are to be qs then.

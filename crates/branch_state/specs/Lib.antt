@@ -11,3 +11,4 @@ pub mod Listing
 pub mod LinkedRows
 pub mod CellNaming
 pub mod CellPosts
+pub mod OpenSets

@@ -1,5 +1,5 @@
 -- A branch as callers see it: heaps of cells with levels of a store, in pairs.
-use Rattle.std.specs.Prelude.{◌≡◌, ℕ, ◌<◌, true, false, List, [], ◌∷◌, length, Option, Some}
+use Rattle.std.specs.Prelude.{◌≡◌, ℕ, ◌<◌, true, false, List, [], ◌∷◌, length, drop, Option, Some}
 use Rattle.fd_language.specs.declared.TheConstants.{INFINITY}
 use Rattle.fd_language.specs.Family.{Family, has, IsInside}
 use Rattle.fd_language.specs.Range.{Indexical}
@@ -22,11 +22,11 @@ pub record State : Type 0 where
 
 -- The sets are the greatest model of what is posted.
 pub record IsSettled (l : Level) : Type 0 where
-  pub model : IsModel INFINITY [] l.posted (family_of l.sets)
-  pub most : (R : Family) → IsModel INFINITY [] l.posted R → IsInside R (family_of l.sets)
+  pub model : IsModel INFINITY INFINITY [] l.posted (family_of l.sets)
+  pub most : (R : Family) → IsModel INFINITY INFINITY [] l.posted R → IsInside R (family_of l.sets)
 
 abbrev pub HasNoModel : List Indexical → Type 0
-HasNoModel ps = (T : Family) → IsModel INFINITY [] ps T → ⊥
+HasNoModel ps = (T : Family) → IsModel INFINITY INFINITY [] ps T → ⊥
 
 -- A heap and a level of the store belong together: each variable of the store that the heap has is the level's, and that of one heap's variable alone. What is posted names only the level's variables, and it holds.
 pub record IsPair (atoms : ℕ) (h : Cells) (l : Level) : Type 0 where
@@ -81,6 +81,13 @@ abbrev pub with_pair : State → State
 with_pair s = record s {
   heaps = with_mark s.heaps;
   levels = record s.levels { below = s.levels.current ∷ s.levels.below };
+}
+
+-- the n newest of the pairs below are gone
+abbrev pub without_pairs : State → ℕ → State
+without_pairs s n = record s {
+  heaps = record s.heaps { below = drop n s.heaps.below };
+  levels = record s.levels { below = drop n s.levels.below };
 }
 
 -- the pair below is the current one now

@@ -1,6 +1,7 @@
 //! Constraints on terms of the heap: their ranges on variables of the store.
 
 ghost use Rattle.std.specs.Prelude.{◌≡◌, ◌<◌, ◌≤◌, ◌-◌, Some, length, All, IfOk, OnOk};
+ghost use Rattle.fd_language.specs.declared.TheConstants.{INFINITY};
 ghost use Rattle.fd_model.specs.Constraining.{expand as expanded, arguments as arguments_of};
 ghost use Rattle.heap_cells.specs.Cells.{IsOf, with_now};
 ghost use Rattle.heap_cells.specs.Atoms.{IsAtomBelow, HasAtomsBelow};
@@ -95,8 +96,9 @@ pub(crate) fn expand_goal<A: Agenda + Drop>(
     requires atoms { HasAtomsBelow (length from.now.names) heap.now.now }
     requires atom { IsAtomBelow (length from.now.names) goal }
     requires linked { HasLinksBelow (length store.now.current.sets) heap.now.now }
-    ensures row { Expands (expanded kind (arguments_of (seen_term (name_in from.now.names)
-        heap.now.now (family_of store.now.current.sets) goal)) fresh) result }
+    ensures row { Expands (expanded INFINITY kind (arguments_of (seen_term
+        (name_in from.now.names) heap.now.now (family_of store.now.current.sets) goal)) fresh)
+        result }
     ensures words { IfOk result (λ x. AreWords x.equated) }
 {
     let mut terms = Pool::new(alloc)?;

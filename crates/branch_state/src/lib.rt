@@ -8,6 +8,7 @@ mod heap_facts;
 mod listing;
 mod look;
 mod naming;
+mod open_vars;
 mod posting;
 mod shown;
 mod state;

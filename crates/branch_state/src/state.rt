@@ -1,11 +1,14 @@
 //! A branch: the current heap and level of the store, and the pairs below.
 
-ghost use Rattle.std.specs.Prelude.{◌≡◌, ◌<◌, ◌≤◌, All, IfOk, OnOk, length};
+ghost use Rattle.std.specs.Prelude.{◌≡◌, ◌<◌, ◌≤◌, ◌+◌, All, IfOk, OnOk, MatchOption, Some, None, length};
+ghost use Rattle.fd_language.specs.declared.TheConstants.{INFINITY};
+ghost use Rattle.fd_model.specs.BestPosted.{IsCostOf, SoughtValues};
+ghost use Rattle.bound_search.specs.Members.{AreOwn, member_of, members_of};
 ghost use Rattle.heap_cells.specs.declared.Cell.TheVariants as cell;
 ghost use Rattle.heap_cells.specs.Cells.{free, slot_at, with_new_slot};
 ghost use Rattle.unify_core.specs.Outcome.{IfTrue, IfFalse};
 ghost use Rattle.unify_core.specs.Unifications.{CannotUnify, IsEqualled};
-ghost use Rattle.branch_state.specs.States.{first_heaps, first_levels, first_state, with_heap, with_pair, HasNoModel, IsSound, IsSoundBelow, IsSameBelow, IsUndone, IsCell};
+ghost use Rattle.branch_state.specs.States.{first_heaps, first_levels, first_state, with_heap, with_pair, without_pairs, HasNoModel, IsSound, IsSoundBelow, IsSameBelow, IsUndone, IsCell};
 ghost use Rattle.branch_state.specs.Steps.{AreTouchesBelow, AreTouchesOf, posted_with};
 ghost use Rattle.branch_state.specs.Compounds.{IsMade, IsCompoundOf, BindsCompound};
 ghost use Rattle.branch_state.specs.Constraints.{Constrains};
@@ -18,12 +21,15 @@ use crate::codes::{exact_code, know_code, same_code};
 use crate::constraints::{count_variables, expand_goal, fault_of, prepare_row};
 use crate::heap_facts::know;
 use crate::look::{find_cells_offence, look_cell};
+use crate::open_vars::add_open;
 use crate::posting::{post_all, post_prepared, post_rows};
 use crate::shown::show_cells;
 use crate::step::{Step, step_of};
+use bound_search::best;
 use fd_language::NoMemory;
-use fd_model::kinds::ConstraintKind;
+use fd_model::kinds::{ConstraintKind, Order};
 use heap_cells::{Cell, Heap};
+use label_search::Member;
 use machine_events::Shown;
 use propagate_queue::{Agenda, Store};
 use range_code::{Activations, RangeCode};
@@ -165,6 +171,18 @@ impl<A: Agenda + Drop> BranchState<A> {
     {
         self.heap.undo_to_mark();
         self.store.pop_mark();
+    }
+
+    /// Takes away the `n` pairs directly below the current one, of which there are more. No memory.
+    #[inline]
+    pub fn drop_marks(&mut self, n: usize)
+        requires sound { IsSound self.old }
+        requires some { n < length self.old.heaps.below }
+        ensures dropped { self.new ≡ without_pairs self.old n }
+        ensures sound { IsSound self.new }
+    {
+        self.heap.drop_marks(n);
+        self.store.drop_marks(n);
     }
 
     /// Makes two cells equal, and puts what the store is to be told behind `touches`. `false` comes exactly where they can't be equal;
@@ -350,6 +368,42 @@ impl<A: Agenda + Drop> BranchState<A> {
             listed,
         )?;
         Ok(step_of(kept))
+    }
+
+    /// What `bound_search::best` finds for these members, of which so many are variables behind the store's own, which may have any value:
+    /// the values of the list's variables in the first best leaf of its labelling, and `None` where there is no leaf. All is then as
+    /// before. After an error the branch isn't used any more.
+    pub fn best_leaf(
+        &mut self,
+        added: usize,
+        order: Order,
+        list: &[Member],
+        cost: Member,
+        least: bool,
+    ) -> Result<Option<Vec<u32>>, NoMemory>
+        requires sound { IsSound self.old }
+        requires list { AreOwn (length self.old.levels.current.sets + added) list.now }
+        requires cost { IsCostOf (members_of list.now) (member_of cost) }
+        ensures found { IfOk result (λ found. MatchOption found
+            (SoughtValues INFINITY order (members_of list.now) (member_of cost) least
+            self.old.levels.current.posted None)
+            (λ values. SoughtValues INFINITY order (members_of list.now) (member_of cost) least
+            self.old.levels.current.posted (Some values.items))) }
+        ensures same { OnOk result (self.new ≡ self.old) }
+    {
+        self.store.push_mark()?;
+        add_open(&mut self.store, added)?;
+        let found = best(
+            self.alloc,
+            &mut self.store,
+            order,
+            list,
+            cost,
+            least,
+            &mut self.activations,
+        )?;
+        self.store.pop_mark();
+        Ok(found)
     }
 
     /// What the branch shows of cells: their terms, where a variable of the store with one value is that integer, and the domains of the

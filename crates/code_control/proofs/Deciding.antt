@@ -165,10 +165,10 @@ module _ (area : Area) (s : branch.State) (at : ℕ) (c : Contents) (safe : IsSa
     term_query = named_query area s at c safe (SwitchOnTerm v k i t) f place place_in
 
     pub term_runs : KeepsRunning area s at c s place c
-    term_runs = tries area s at c (SwitchOnTerm v k i t) tt f place (λ task naming e b kids m.
-        subst (λ to. IsTrying INFINITY area task.query.shown task.name s.heaps.now s.levels.current.posted to e (registers_of c) (stack_of c) b kids)
+    term_runs = tries area s at c (SwitchOnTerm v k i t) tt f place (λ marks task naming e b kids m.
+        subst (λ to. IsTrying INFINITY INFINITY marks area task.query.shown task.name s.heaps.now s.levels.current.posted to e (registers_of c) (stack_of c) b kids)
         (ap (λ sh. by_shape sh v k i t) (shape_is task.name m.shape m.shows) ∙ by_seen task.name x v k i t)
-        (step_switch INFINITY area task.query.shown task.name s.heaps.now s.levels.current.posted at e (registers_of c) (stack_of c) b kids m v k i t f))
+        (step_switch INFINITY INFINITY marks area task.query.shown task.name s.heaps.now s.levels.current.posted at e (registers_of c) (stack_of c) b kids m v k i t f))
 
   -- a table decides
   module _ (i : Code) (n : ℕ) (f : Holds area at i) (is : plain_effect area.entries i safe.here.reached.state ≡ when (has safe.here.reached.state.regs 1) safe.here.reached.state) (leads : named area i ≡ arms (table_at area n)) (low : n < length area.tables) where
@@ -187,18 +187,18 @@ module _ (area : Area) (s : branch.State) (at : ℕ) (c : Contents) (safe : IsSa
     table_query (On to) r = named_query area s at c safe i f to (row_in to r)
     table_query Back r = tt
 
-    abbrev Trying : Task → ℕ → Entry → Branch → List Branch → Type 0
-    Trying task to e b kids = IsTrying INFINITY area task.query.shown task.name s.heaps.now s.levels.current.posted to e (registers_of c) (stack_of c) b kids
+    abbrev Trying : List ℕ → Task → ℕ → Entry → Branch → List Branch → Type 0
+    Trying marks task to e b kids = IsTrying INFINITY INFINITY marks area task.query.shown task.name s.heaps.now s.levels.current.posted to e (registers_of c) (stack_of c) b kids
 
     own : All (λ row. IsKey area row.0) (table_at area n)
     own = safe.verified.keys n [] low
 
-    module _ (choice : IsChoice i) (step : (task : Task) (e : Entry) (b : Branch) (kids : List Branch) (m : Trying task at e b kids) → ((to : ℕ) → HasRow area m.shape (table_at area n) to → Trying task to e b kids) × (HasNoRow area m.shape (table_at area n) → kids ≡ [])) where
+    module _ (choice : IsChoice i) (step : (marks : List ℕ) (task : Task) (e : Entry) (b : Branch) (kids : List Branch) (m : Trying marks task at e b kids) → ((to : ℕ) → HasRow area m.shape (table_at area n) to → Trying marks task to e b kids) × (HasNoRow area m.shape (table_at area n) → kids ≡ [])) where
       table_runs : (w : Went) → Finds x (table_at area n) w → RunsThen area s at c s c w
-      table_runs (On to) r = tries area s at c i choice f to (λ task naming e b kids m.
-          (step task e b kids m).0 to (subst (λ sh. HasRow area sh (table_at area n) to) (sym (shape_is task.name m.shape m.shows)) (row_there area task.name naming x (table_at area n) own to r)))
-      table_runs Back r = over area s at c i choice f (λ task naming e b kids m.
-          (step task e b kids m).1 (subst (λ sh. HasNoRow area sh (table_at area n)) (sym (shape_is task.name m.shape m.shows)) (none_there area task.name naming x (table_at area n) own r)))
+      table_runs (On to) r = tries area s at c i choice f to (λ marks task naming e b kids m.
+          (step marks task e b kids m).0 to (subst (λ sh. HasRow area sh (table_at area n) to) (sym (shape_is task.name m.shape m.shows)) (row_there area task.name naming x (table_at area n) own to r)))
+      table_runs Back r = over area s at c i choice f (λ marks task naming e b kids m.
+          (step marks task e b kids m).1 (subst (λ sh. HasNoRow area sh (table_at area n)) (sym (shape_is task.name m.shape m.shows)) (none_there area task.name naming x (table_at area n) own r)))
 
       pub table_all : (rows : Table) → rows ≡ table_at area n → (w : Went) → Finds x rows w → IsSafeThen area s c w × RunsThen area s at c s c w × (work_then area c w < work_at area at c) × KeepsQueryThen area at c c w
       table_all rows same w found = let r = subst (λ l. Finds x l w) same found in (table_safe w r, table_runs w r, table_falls w r, table_query w r)
@@ -207,13 +207,13 @@ module _ (area : Area) (s : branch.State) (at : ℕ) (c : Contents) (safe : IsSa
   Switched rows w = IsSafeThen area s c w × RunsThen area s at c s c w × (work_then area c w < work_at area at c) × KeepsQueryThen area at c c w
 
   pub constant_switched : (t : ℕ) → Holds area at (SwitchOnConstant t) → (w : Went) → Finds x (table_at area t) w → Switched (table_at area t) w
-  constant_switched t holds w found = table_all (SwitchOnConstant t) t holds refl refl (safe.verified.there at (SwitchOnConstant t) holds).0 tt (λ task e b kids m. step_constants INFINITY area task.query.shown task.name s.heaps.now s.levels.current.posted at e (registers_of c) (stack_of c) b kids m t holds) (table_at area t) refl w found
+  constant_switched t holds w found = table_all (SwitchOnConstant t) t holds refl refl (safe.verified.there at (SwitchOnConstant t) holds).0 tt (λ marks task e b kids m. step_constants INFINITY INFINITY marks area task.query.shown task.name s.heaps.now s.levels.current.posted at e (registers_of c) (stack_of c) b kids m t holds) (table_at area t) refl w found
 
   pub integer_switched : (t : ℕ) → Holds area at (SwitchOnInteger t) → (w : Went) → Finds x (table_at area t) w → Switched (table_at area t) w
-  integer_switched t holds w found = table_all (SwitchOnInteger t) t holds refl refl (safe.verified.there at (SwitchOnInteger t) holds).0 tt (λ task e b kids m. step_integers INFINITY area task.query.shown task.name s.heaps.now s.levels.current.posted at e (registers_of c) (stack_of c) b kids m t holds) (table_at area t) refl w found
+  integer_switched t holds w found = table_all (SwitchOnInteger t) t holds refl refl (safe.verified.there at (SwitchOnInteger t) holds).0 tt (λ marks task e b kids m. step_integers INFINITY INFINITY marks area task.query.shown task.name s.heaps.now s.levels.current.posted at e (registers_of c) (stack_of c) b kids m t holds) (table_at area t) refl w found
 
   pub structure_switched : (t : ℕ) → Holds area at (SwitchOnStructure t) → (w : Went) → Finds x (table_at area t) w → Switched (table_at area t) w
-  structure_switched t holds w found = table_all (SwitchOnStructure t) t holds refl refl (safe.verified.there at (SwitchOnStructure t) holds).0 tt (λ task e b kids m. step_structures INFINITY area task.query.shown task.name s.heaps.now s.levels.current.posted at e (registers_of c) (stack_of c) b kids m t holds) (table_at area t) refl w found
+  structure_switched t holds w found = table_all (SwitchOnStructure t) t holds refl refl (safe.verified.there at (SwitchOnStructure t) holds).0 tt (λ marks task e b kids m. step_structures INFINITY INFINITY marks area task.query.shown task.name s.heaps.now s.levels.current.posted at e (registers_of c) (stack_of c) b kids m t holds) (table_at area t) refl w found
 
 -- a switch finds something in the first register
 pub first_there : (area : Area) (s : branch.State) (at : ℕ) (c : Contents) (safe : IsSafe area s at 0 c) (i : Code) → Holds area at i → plain_effect area.entries i safe.here.reached.state ≡ when (has safe.here.reached.state.regs 1) safe.here.reached.state → IsSet c.registers 1

@@ -2,6 +2,7 @@ mod Threads
 mod Queries
 mod Working
 mod Stages
+mod Cutting
 mod Deciding
 mod Rising
 mod Needless

@@ -1,5 +1,5 @@
 -- What a choice leaves out, and where it leads.
-use Rattle.std.proofs.Common.{◌≡◌, ℕ, suc, ◌<◌, IsTrue, List, [], ◌∷◌, ◌++◌, Option, Some, None, refl, ap, sym, ◌∙◌, subst, inl, inr, append_assoc, append-nil}
+use Rattle.std.proofs.Common.{◌≡◌, ℕ, suc, ◌<◌, IsTrue, List, [], ◌∷◌, ◌++◌, length, Option, Some, None, refl, ap, sym, ◌∙◌, subst, inl, inr, append_assoc, append-nil}
 use Rattle.fd_language.specs.declared.TheConstants.{INFINITY}
 use Rattle.fd_language.specs.Family.{has}
 use Rattle.fd_language.specs.Range.{Indexical}
@@ -23,7 +23,7 @@ use Rattle.code_areas.specs.Areas.{Contents}
 use Rattle.code_steps.specs.Registers.{Registers, Saved}
 use Rattle.code_steps.specs.Trying.{TriesBoth}
 use Rattle.code_steps.specs.Trying.{IsChoice as IsStep}
-use Rattle.code_steps.proofs.Lemmas.{goes_before, step_try_me_else, step_retry_me_else, step_try, step_retry, step_trust_me, step_trust}
+use Rattle.code_steps.proofs.Lemmas.{goes_before, trying_pushed, step_try_me_else, step_retry_me_else, step_try, step_retry, step_trust_me, step_trust}
 use Rattle.code_states.specs.Choices.{point_of}
 use Rattle.code_states.specs.Machine.{registers_of, stack_of}
 use Rattle.code_states.specs.Queries.{StaysInside}
@@ -44,16 +44,22 @@ fit_within M [] [] ys f = f
 fit_within M [] (b ∷ gone) ys f = fit_within M [] gone ys f.1
 fit_within M (x ∷ xs) gone ys f = (f.0, fit_within M xs gone ys f.1)
 
-kept_within : (xs gone ys cs : List Branch) → AreGone gone → AreFit INFINITY (xs ++ (gone ++ ys)) → Kept INFINITY (xs ++ (gone ++ ys)) cs → Kept INFINITY (xs ++ ys) cs
+kept_within : (xs gone ys cs : List Branch) → AreGone gone → AreFit INFINITY (xs ++ (gone ++ ys)) → Kept INFINITY INFINITY (xs ++ (gone ++ ys)) cs → Kept INFINITY INFINITY (xs ++ ys) cs
 kept_within [] [] ys cs g f k = k
-kept_within [] (b ∷ gone) ys cs g f (inl k) = absurd (gone_by INFINITY b g.0 f.0 k.0)
+kept_within [] (b ∷ gone) ys cs g f (inl k) = absurd (gone_by INFINITY INFINITY b g.0 f.0 k.0)
 kept_within [] (b ∷ gone) ys cs g f (inr k) = kept_within [] gone ys cs g.1 f.1 k.1
 kept_within (x ∷ xs) gone ys cs g f (inl k) = inl (k.0, (k.1.0, k.1.1, kept_within xs gone ys k.1.0 g f.1 k.1.2))
 kept_within (x ∷ xs) gone ys cs g f (inr k) = inr (k.0, kept_within xs gone ys cs g f.1 k.1)
 
 -- What is ahead stays so without them.
-ahead_within : (prog : Program) (q : Query) (n : ℕ) (k : Option ℕ) (xs gone ys : List Branch) (es : List Event) (r : ℕ) → AreGone gone → Ahead INFINITY prog q n k (xs ++ (gone ++ ys)) es r → Ahead INFINITY prog q n k (xs ++ ys) es r
+ahead_within : (prog : Program) (q : Query) (n : ℕ) (k : Option ℕ) (xs gone ys : List Branch) (es : List Event) (r : ℕ) → AreGone gone → Ahead INFINITY INFINITY prog q n k (xs ++ (gone ++ ys)) es r → Ahead INFINITY INFINITY prog q n k (xs ++ ys) es r
 ahead_within prog q n k xs gone ys es r g a = record { fit = fit_within INFINITY xs gone ys a.fit; branches = a.branches; kept = kept_within xs gone ys a.branches g a.fit a.kept; run = a.run }
+
+-- the kept ones of a list's later part
+later_kept : (M N : ℕ) (xs ys cs : List Branch) → Kept M N (xs ++ ys) cs → (ds : List Branch) × Kept M N ys ds
+later_kept M N [] ys cs h = (cs, h)
+later_kept M N (x ∷ xs) ys cs (inl h) = later_kept M N xs ys h.1.0 h.1.2
+later_kept M N (x ∷ xs) ys cs (inr h) = later_kept M N xs ys cs h.1
 
 gone_both : (xs ys : List Branch) → AreGone xs → AreGone ys → AreGone (xs ++ ys)
 gone_both [] ys g h = h
@@ -111,19 +117,19 @@ module _ (area : Area) (s : branch.State) (at : ℕ) (c : Contents) where
 
   -- ---- clauses that a choice tries
 
-  abbrev pub Tries : List ℕ → Naming → Entry → Branch → List Branch → Tried → Type 0
-  Tries shown name e b kids (Both to other) = TriesBoth INFINITY area shown name h qs to other e regs stack b kids
-  Tries shown name e b kids (Last to) = TriesAt area shown name s to c e b kids
-  Tries shown name e b kids Other = Unit {0}
+  abbrev pub Tries : List ℕ → List ℕ → Naming → Entry → Branch → List Branch → Tried → Type 0
+  Tries marks shown name e b kids (Both to other) = TriesBoth INFINITY INFINITY marks area shown name h qs to other e regs stack b kids
+  Tries marks shown name e b kids (Last to) = TriesAt marks area shown name s to c e b kids
+  Tries marks shown name e b kids Other = Unit {0}
 
-  pub tries_of : (shown : List ℕ) (name : Naming) (e : Entry) (b : Branch) (kids : List Branch) → TriesAt area shown name s at c e b kids → (i : Code) → Holds area at i → Tries shown name e b kids (tried_by i at)
-  tries_of shown name e b kids m (TryMeElse o) f = step_try_me_else INFINITY area shown name h qs at e regs stack b kids m o f
-  tries_of shown name e b kids m (RetryMeElse o) f = step_retry_me_else INFINITY area shown name h qs at e regs stack b kids m o f
-  tries_of shown name e b kids m (Try to) f = step_try INFINITY area shown name h qs at e regs stack b kids m to f
-  tries_of shown name e b kids m (Retry to) f = step_retry INFINITY area shown name h qs at e regs stack b kids m to f
-  tries_of shown name e b kids m TrustMe f = step_trust_me INFINITY area shown name h qs at e regs stack b kids m f
-  tries_of shown name e b kids m (Trust to) f = step_trust INFINITY area shown name h qs at e regs stack b kids m to f
-  tries_of shown name e b kids m _ f = tt
+  pub tries_of : (marks : List ℕ) (shown : List ℕ) (name : Naming) (e : Entry) (b : Branch) (kids : List Branch) → TriesAt marks area shown name s at c e b kids → (i : Code) → Holds area at i → Tries marks shown name e b kids (tried_by i at)
+  tries_of marks shown name e b kids m (TryMeElse o) f = step_try_me_else INFINITY INFINITY marks area shown name h qs at e regs stack b kids m o f
+  tries_of marks shown name e b kids m (RetryMeElse o) f = step_retry_me_else INFINITY INFINITY marks area shown name h qs at e regs stack b kids m o f
+  tries_of marks shown name e b kids m (Try to) f = step_try INFINITY INFINITY marks area shown name h qs at e regs stack b kids m to f
+  tries_of marks shown name e b kids m (Retry to) f = step_retry INFINITY INFINITY marks area shown name h qs at e regs stack b kids m to f
+  tries_of marks shown name e b kids m TrustMe f = step_trust_me INFINITY INFINITY marks area shown name h qs at e regs stack b kids m f
+  tries_of marks shown name e b kids m (Trust to) f = step_trust INFINITY INFINITY marks area shown name h qs at e regs stack b kids m to f
+  tries_of marks shown name e b kids m _ f = tt
 
   -- ---- what is still to come
 
@@ -131,106 +137,112 @@ module _ (area : Area) (s : branch.State) (at : ℕ) (c : Contents) where
   module _ (i : Code) (choice : IsStep i) (f : Holds area at i) where
     pub skipped_runs : (to : ℕ) → LeavesOut area s at c (Some to) → KeepsRunning area s at c s to c
     skipped_runs to out t ls u naming m =
-        let now = goes_before INFINITY area t.query.shown t.name h qs at regs stack m.first m.here i choice f in
-        let k = out t.query.shown t.name now.0 now.1 m.first naming now.2 in
+        let now = goes_before INFINITY INFINITY m.marks area t.query.shown t.name h qs at regs stack m.first m.here i choice f in
+        let k = out m.marks t.query.shown t.name now.0 now.1 m.first naming now.2 in
         record {
           first = k.kept;
           others = m.others;
+          marks = m.marks;
           here = inr (now.0, now.1, k.tries);
           wait = m.wait;
           ahead = ahead_within t.program t.query u.budget u.answers [] k.gone (k.kept ++ m.others) u.events u.reductions k.none
-              (subst (λ l. Ahead INFINITY t.program t.query u.budget u.answers l u.events u.reductions) (ap (λ l. l ++ m.others) k.both ∙ append_assoc k.gone k.kept m.others) m.ahead);
+              (subst (λ l. Ahead INFINITY INFINITY t.program t.query u.budget u.answers l u.events u.reductions) (ap (λ l. l ++ m.others) k.both ∙ append_assoc k.gone k.kept m.others) m.ahead);
         }
 
     pub skipped_back : LeavesOut area s at c None → GoesBack area s at c s c
     skipped_back out t ls u naming m =
-        let now = goes_before INFINITY area t.query.shown t.name h qs at regs stack m.first m.here i choice f in
-        let k = out t.query.shown t.name now.0 now.1 m.first naming now.2 in
+        let now = goes_before INFINITY INFINITY m.marks area t.query.shown t.name h qs at regs stack m.first m.here i choice f in
+        let k = out m.marks t.query.shown t.name now.0 now.1 m.first naming now.2 in
         record {
           others = m.others;
+          marks = m.marks;
           wait = m.wait;
-          ahead = subst (λ l. Ahead INFINITY t.program t.query u.budget u.answers (l ++ m.others) u.events u.reductions) k.tries (ahead_within t.program t.query u.budget u.answers [] k.gone (k.kept ++ m.others) u.events u.reductions k.none
-              (subst (λ l. Ahead INFINITY t.program t.query u.budget u.answers l u.events u.reductions) (ap (λ l. l ++ m.others) k.both ∙ append_assoc k.gone k.kept m.others) m.ahead));
+          ahead = subst (λ l. Ahead INFINITY INFINITY t.program t.query u.budget u.answers (l ++ m.others) u.events u.reductions) k.tries (ahead_within t.program t.query u.budget u.answers [] k.gone (k.kept ++ m.others) u.events u.reductions k.none
+              (subst (λ l. Ahead INFINITY INFINITY t.program t.query u.budget u.answers l u.events u.reductions) (ap (λ l. l ++ m.others) k.both ∙ append_assoc k.gone k.kept m.others) m.ahead));
         }
 
     -- the clauses at two places, some of the other one left out
     module _ (to other : ℕ) (is : Both to other ≡ tried_by i at) where
-      split_at : (shown : List ℕ) (name : Naming) (e : Entry) (b : Branch) (kids : List Branch) → TriesAt area shown name s at c e b kids → TriesBoth INFINITY area shown name h qs to other e regs stack b kids
-      split_at shown name e b kids m = subst (Tries shown name e b kids) (sym is) (tries_of shown name e b kids m i f)
+      split_at : (marks : List ℕ) (shown : List ℕ) (name : Naming) (e : Entry) (b : Branch) (kids : List Branch) → TriesAt marks area shown name s at c e b kids → TriesBoth INFINITY INFINITY marks area shown name h qs to other e regs stack b kids
+      split_at marks shown name e b kids m = subst (Tries marks shown name e b kids) (sym is) (tries_of marks shown name e b kids m i f)
 
       four : (xs gone kept ys all behind : List Branch) → all ≡ xs ++ behind → behind ≡ gone ++ kept → all ++ ys ≡ xs ++ (gone ++ (kept ++ ys))
       four xs gone kept ys all behind e g = ap (λ l. l ++ ys) (e ∙ ap (λ l. xs ++ l) g) ∙ append_assoc xs (gone ++ kept) ys ∙ ap (λ l. xs ++ l) (append_assoc gone kept ys)
 
       pub left_runs : (later : ℕ) → LeavesOut area s other c (Some later) → LeavesChoice area s at c (with_pair s) to (record c { points = point_of c later ∷ c.points }) later
       left_runs later out t ls u naming m =
-          let now = goes_before INFINITY area t.query.shown t.name h qs at regs stack m.first m.here i choice f in
-          let two = split_at t.query.shown t.name now.0 now.1 m.first now.2 in
-          let k = out t.query.shown t.name now.0 now.1 two.behind naming two.later in
+          let now = goes_before INFINITY INFINITY m.marks area t.query.shown t.name h qs at regs stack m.first m.here i choice f in
+          let two = split_at m.marks t.query.shown t.name now.0 now.1 m.first now.2 in
+          let k = out m.marks t.query.shown t.name now.0 now.1 two.behind naming two.later in
+          let ahead = ahead_within t.program t.query u.budget u.answers two.before k.gone (k.kept ++ m.others) u.events u.reductions k.none
+          (subst (λ l. Ahead INFINITY INFINITY t.program t.query u.budget u.answers l u.events u.reductions) (four two.before k.gone k.kept m.others m.first two.behind two.both k.both) m.ahead) in
+          let behind = later_kept INFINITY INFINITY two.before (k.kept ++ m.others) ahead.branches ahead.kept in
           record {
             first = two.before;
             others = k.kept ++ m.others;
-            here = inr (now.0, now.1, two.now);
-            wait = (k.kept, m.others, inr (now.0, now.1, k.tries), m.wait, refl);
-            ahead = ahead_within t.program t.query u.budget u.answers two.before k.gone (k.kept ++ m.others) u.events u.reductions k.none
-                (subst (λ l. Ahead INFINITY t.program t.query u.budget u.answers l u.events u.reductions) (four two.before k.gone k.kept m.others m.first two.behind two.both k.both) m.ahead);
+            marks = length behind.0 ∷ m.marks;
+            here = inr (now.0, now.1, trying_pushed INFINITY INFINITY (length behind.0) m.marks area t.query.shown t.name h qs to now.0 regs stack now.1 two.before two.now);
+            wait = (k.kept, m.others, m.marks, behind.0, inr (now.0, now.1, k.tries), m.wait, refl, behind.1, refl);
+            ahead = ahead;
           }
 
       pub alone_runs : LeavesOut area s other c None → KeepsRunning area s at c s to c
       alone_runs out t ls u naming m =
-          let now = goes_before INFINITY area t.query.shown t.name h qs at regs stack m.first m.here i choice f in
-          let two = split_at t.query.shown t.name now.0 now.1 m.first now.2 in
-          let k = out t.query.shown t.name now.0 now.1 two.behind naming two.later in
+          let now = goes_before INFINITY INFINITY m.marks area t.query.shown t.name h qs at regs stack m.first m.here i choice f in
+          let two = split_at m.marks t.query.shown t.name now.0 now.1 m.first now.2 in
+          let k = out m.marks t.query.shown t.name now.0 now.1 two.behind naming two.later in
           record {
             first = two.before;
             others = m.others;
+            marks = m.marks;
             here = inr (now.0, now.1, two.now);
             wait = m.wait;
-            ahead = subst (λ l. Ahead INFINITY t.program t.query u.budget u.answers (two.before ++ (l ++ m.others)) u.events u.reductions) k.tries (ahead_within t.program t.query u.budget u.answers two.before k.gone (k.kept ++ m.others) u.events u.reductions k.none
-                (subst (λ l. Ahead INFINITY t.program t.query u.budget u.answers l u.events u.reductions) (four two.before k.gone k.kept m.others m.first two.behind two.both k.both) m.ahead));
+            ahead = subst (λ l. Ahead INFINITY INFINITY t.program t.query u.budget u.answers (two.before ++ (l ++ m.others)) u.events u.reductions) k.tries (ahead_within t.program t.query u.budget u.answers two.before k.gone (k.kept ++ m.others) u.events u.reductions k.none
+                (subst (λ l. Ahead INFINITY INFINITY t.program t.query u.budget u.answers l u.events u.reductions) (four two.before k.gone k.kept m.others m.first two.behind two.both k.both) m.ahead));
           }
 
     pub last_runs : (to : ℕ) → Last to ≡ tried_by i at → KeepsRunning area s at c s to c
     last_runs to is t ls u naming m =
-        let now = goes_before INFINITY area t.query.shown t.name h qs at regs stack m.first m.here i choice f in
-        record { first = m.first; others = m.others; here = inr (now.0, now.1, subst (Tries t.query.shown t.name now.0 now.1 m.first) (sym is) (tries_of t.query.shown t.name now.0 now.1 m.first now.2 i f)); wait = m.wait; ahead = m.ahead }
+        let now = goes_before INFINITY INFINITY m.marks area t.query.shown t.name h qs at regs stack m.first m.here i choice f in
+        record { first = m.first; others = m.others; marks = m.marks; here = inr (now.0, now.1, subst (Tries m.marks t.query.shown t.name now.0 now.1 m.first) (sym is) (tries_of m.marks t.query.shown t.name now.0 now.1 m.first now.2 i f)); wait = m.wait; ahead = m.ahead }
 
 -- ---- one choice after another
 
 module _ (area : Area) (s : branch.State) (from at : ℕ) (c : Contents) (sofar : LeavesOut area s from c (Some at)) (i : Code) (f : Holds area at i) (to : ℕ) (safe : IsSafe area s to 0 c) (out : IsRuledOut area s to c) where
   -- a clause that is ruled out, before others
   pub leaves_more : (other : ℕ) → Both to other ≡ tried_by i at → LeavesOut area s from c (Some other)
-  leaves_more other is = λ shown name e b kids naming m.
-      let k = sofar shown name e b kids naming m in
-      let two = subst (Tries area s at c shown name e b k.kept) (sym is) (tries_of area s at c shown name e b k.kept k.tries i f) in
+  leaves_more other is = λ marks shown name e b kids naming m.
+      let k = sofar marks shown name e b kids naming m in
+      let two = subst (Tries area s at c marks shown name e b k.kept) (sym is) (tries_of area s at c marks shown name e b k.kept k.tries i f) in
       record {
         gone = k.gone ++ two.before;
         kept = two.behind;
         both = k.both ∙ ap (λ l. k.gone ++ l) two.both ∙ sym (append_assoc k.gone two.before two.behind);
-        none = gone_both k.gone two.before k.none (ruled_out_gone area s to c safe out shown name naming e b two.before two.now);
+        none = gone_both k.gone two.before k.none (ruled_out_gone area s to c safe out marks shown name naming e b two.before two.now);
         tries = two.later;
       }
 
   -- and as the last one
   pub leaves_all : Last to ≡ tried_by i at → LeavesOut area s from c None
-  leaves_all is = λ shown name e b kids naming m.
-      let k = sofar shown name e b kids naming m in
-      let one = subst (Tries area s at c shown name e b k.kept) (sym is) (tries_of area s at c shown name e b k.kept k.tries i f) in
+  leaves_all is = λ marks shown name e b kids naming m.
+      let k = sofar marks shown name e b kids naming m in
+      let one = subst (Tries area s at c marks shown name e b k.kept) (sym is) (tries_of area s at c marks shown name e b k.kept k.tries i f) in
       record {
         gone = k.gone ++ k.kept;
         kept = [];
         both = k.both ∙ sym (append-nil (k.gone ++ k.kept));
-        none = gone_both k.gone k.kept k.none (ruled_out_gone area s to c safe out shown name naming e b k.kept one);
+        none = gone_both k.gone k.kept k.none (ruled_out_gone area s to c safe out marks shown name naming e b k.kept one);
         tries = refl;
       }
 
 -- and where no choice stands
 pub leaves_here : (area : Area) (s : branch.State) (from at : ℕ) (c : Contents) → LeavesOut area s from c (Some at) → IsSafe area s at 0 c → IsRuledOut area s at c → LeavesOut area s from c None
-leaves_here area s from at c sofar safe out = λ shown name e b kids naming m.
-    let k = sofar shown name e b kids naming m in
+leaves_here area s from at c sofar safe out = λ marks shown name e b kids naming m.
+    let k = sofar marks shown name e b kids naming m in
     record {
       gone = k.gone ++ k.kept;
       kept = [];
       both = k.both ∙ sym (append-nil (k.gone ++ k.kept));
-      none = gone_both k.gone k.kept k.none (ruled_out_gone area s at c safe out shown name naming e b k.kept k.tries);
+      none = gone_both k.gone k.kept k.none (ruled_out_gone area s at c safe out marks shown name naming e b k.kept k.tries);
       tries = refl;
     }

@@ -1,29 +1,31 @@
 -- What is still to come for a machine stays so at each of these instructions.
-use Rattle.std.proofs.Common.{◌≡◌, ℕ, suc, ◌+◌, List, [], ◌∷◌, map, take, Option, None, replicate, refl, ap, ◌∙◌, subst, arith}
+use Rattle.std.proofs.Common.{◌≡◌, ℕ, suc, ◌+◌, ◌-◌, List, [], ◌∷◌, map, length, take, drop, Some, replicate, refl, ap, sym, ◌∙◌, subst, arith}
 use Rattle.std.proofs.lemmas.List.{get_or-take}
 use Rattle.fd_language.specs.declared.TheConstants.{INFINITY}
 use Rattle.fd_language.specs.Range.{Indexical}
 use Rattle.fd_model.specs.Goal.{Branch}
 use Rattle.fd_model.specs.Levels.{Level}
-use Rattle.heap_cells.specs.declared.Cell.{Cell}
 use Rattle.heap_cells.specs.Cells.{Cells}
+use Rattle.machine_relation.specs.Ahead.{oldest, Spends}
 use Rattle.branch_state.specs.States as branch
-use Rattle.branch_state.specs.States.{IsSound, IsUndone, with_pair}
+use Rattle.branch_state.specs.States.{IsSound, IsUndone, with_pair, without_pairs}
 use Rattle.wam_code.specs.declared.instruction.Code.{Code}
-use Rattle.wam_code.specs.declared.instruction.Code.TheVariants.{Allocate, Deallocate, Call, Execute, Proceed, Jump, FailNow, Either}
+use Rattle.wam_code.specs.declared.instruction.Code.TheVariants as code
+use Rattle.wam_code.specs.declared.instruction.Code.TheVariants.{Allocate, Deallocate, Call, Execute, Proceed, Jump, FailNow, Either, TestOnly, EnterTest, CutTo}
 use Rattle.wam_code.specs.declared.parts.Entry.{Entry}
 use Rattle.wam_code.specs.Area.{Area, Holds, HasEntry}
-use Rattle.code_areas.specs.Areas.{cell_at, Return, Point, Contents}
+use Rattle.code_areas.specs.Areas.{Places, nothing_held, cell_of, cell_at, Return, Point, Contents}
 use Rattle.code_steps.specs.Registers.{Registers, Saved, AreSameTo}
 use Rattle.code_steps.specs.Standing.{Stands}
 use Rattle.code_steps.specs.Trying.{IsTrying, IsFirst, IsChoice}
-use Rattle.code_steps.specs.Running.{Left, resume, Choice, Returns}
-use Rattle.code_steps.proofs.Lemmas.{run_call, run_execute, run_either, runs_jump, runs_on, runs_tries, runs_over, back_resumes, step_allocate, step_deallocate, step_proceed, step_fail}
-use Rattle.code_states.specs.Machine.{slot_cell, registers_of, saved_of, stack_of}
+use Rattle.code_steps.specs.Running.{Left, resume, Choice, Runs, Returns}
+use Rattle.code_steps.proofs.Lemmas.{run_call, run_execute, run_either, run_test, run_enter, run_cut, step_level, runs_jump, runs_on, runs_tries, runs_over, back_resumes, step_allocate, step_deallocate, step_proceed, step_fail}
+use Rattle.code_states.specs.Machine.{IsSlot, slot_cell, slot_level, registers_of, saved_of, stack_of}
 use Rattle.code_states.specs.Standing.{IsNaming}
 use Rattle.code_states.specs.Choices.{point_of, choice_of, choices_of, choices_in}
-use Rattle.code_states.specs.Stages.{Task, KeepsRunning, GoesBack, Resumes, Calls, SplitsAt}
-use Rattle.code_states.proofs.Lemmas.{sound_model}
+use Rattle.code_states.specs.Safety.{IsSafe}
+use Rattle.code_states.specs.Stages.{Task, KeepsRunning, GoesBack, Resumes, Calls, SplitsAt, TestsAt, CutsAt}
+use Rattle.code_states.proofs.Lemmas.{sound_model, choices_many, choices_left, leveled, leveled_marks}
 
 module _ (area : Area) (s : branch.State) (at : ℕ) (c : Contents) where
   abbrev h : Cells
@@ -38,35 +40,82 @@ module _ (area : Area) (s : branch.State) (at : ℕ) (c : Contents) where
   abbrev stack : List Saved
   stack = stack_of c
 
+  -- the same registers with other slots
+  abbrev with_slots : Places → Registers
+  with_slots slots = record { x = regs.x; y = slot_cell slots; levels = slot_level slots; noted = regs.noted }
+
   -- an instruction of a clause, on whatever branch it is
-  inside : (i : Code) → IsFirst i → Holds area at i → (to : ℕ) (slots : List (Option Cell)) (returns : List Return)
-      → ((t : Task) (b : Branch) → Stands INFINITY area t.query.shown t.name h qs at regs stack b → Stands INFINITY area t.query.shown t.name h qs to (record { x = regs.x; y = slot_cell slots }) (map saved_of returns) b)
+  inside : (i : Code) → IsFirst i → Holds area at i → (to : ℕ) (slots : Places) (returns : List Return)
+      → ((marks : List ℕ) (t : Task) (b : Branch) → Stands INFINITY INFINITY marks area t.query.shown t.name h qs at regs stack b → Stands INFINITY INFINITY marks area t.query.shown t.name h qs to (with_slots slots) (map saved_of returns) b)
       → KeepsRunning area s at c s to (record c { slots = slots; returns = returns })
   inside i first f to slots returns step t ls u naming m =
-      runs_on INFINITY area t.program t.query t.name u.budget u.answers u.events u.reductions h qs at regs stack (choices_in s c ls) m i first f h qs to (record { x = regs.x; y = slot_cell slots }) (map saved_of returns) (step t)
+      runs_on INFINITY INFINITY area t.program t.query t.name u.budget u.answers u.events u.reductions h qs at regs stack (choices_in s c ls) m i first f h qs to (with_slots slots) (map saved_of returns) (λ marks. step marks t)
 
-  pub allocate_runs : (n : ℕ) → Holds area at (Allocate n) → KeepsRunning area s at c s (suc at) (record c { slots = replicate n None })
-  allocate_runs n f = inside (Allocate n) tt f (suc at) (replicate n None) c.returns (λ t b m. step_allocate INFINITY area t.query.shown t.name h qs at regs stack b m n f (record { x = regs.x; y = slot_cell (replicate n None) }) (λ k. refl))
+  pub allocate_runs : (n : ℕ) → Holds area at (Allocate n) → KeepsRunning area s at c s (suc at) (record c { slots = replicate n nothing_held })
+  allocate_runs n f = inside (Allocate n) tt f (suc at) (replicate n nothing_held) c.returns (λ marks t b m. step_allocate INFINITY INFINITY marks area t.query.shown t.name h qs at regs stack b m n f (with_slots (replicate n nothing_held)) (λ k. refl) refl)
 
   pub deallocate_runs : Holds area at Deallocate → KeepsRunning area s at c s (suc at) (record c { slots = [] })
-  deallocate_runs f = inside Deallocate tt f (suc at) [] c.returns (λ t b m. step_deallocate INFINITY area t.query.shown t.name h qs at regs stack b m f (record { x = regs.x; y = slot_cell [] }) (λ k. refl))
+  deallocate_runs f = inside Deallocate tt f (suc at) [] c.returns (λ marks t b m. step_deallocate INFINITY INFINITY marks area t.query.shown t.name h qs at regs stack b m f (with_slots []) (λ k. refl) refl)
 
   pub proceed_runs : Holds area at Proceed → (r : Return) (later : List Return) → c.returns ≡ r ∷ later → KeepsRunning area s at c s r.to (record c { slots = r.slots; returns = later })
-  proceed_runs f r later is = inside Proceed tt f r.to r.slots later (λ t b m. step_proceed INFINITY area t.query.shown t.name h qs at regs stack b m f (saved_of r) (map saved_of later) (ap (map saved_of) is) (record { x = regs.x; y = slot_cell r.slots }) (λ k. refl))
+  proceed_runs f r later is = inside Proceed tt f r.to r.slots later (λ marks t b m.
+      step_proceed INFINITY INFINITY marks area t.query.shown t.name h qs at regs stack b m f (saved_of r) (map saved_of later) (ap (map saved_of) is) (with_slots r.slots) (λ k. refl) (λ k. refl))
+
+  -- the slot takes the level that was noted
+  pub level_runs : (n : ℕ) → Holds area at (code.Level n) → (is : IsSlot n c.slots) → KeepsRunning area s at c s (suc at) (record c { slots = leveled c.slots n c.noted is })
+  level_runs n f is = inside (code.Level n) tt f (suc at) (leveled c.slots n c.noted is) c.returns (λ marks t b m.
+      step_level INFINITY INFINITY marks area t.query.shown t.name h qs at regs stack b m n f (with_slots (leveled c.slots n c.noted is)) (leveled_marks c.slots n c.noted is regs.x regs.noted))
 
   -- ---- calls
 
   -- the registers of the arguments hold the same cells
   kept_same : (e : Entry) → AreSameTo e.arity (cell_at c.registers) (cell_at (take (e.arity + 1) c.registers))
-  kept_same e n low high = get_or-take (e.arity + 1) c.registers n None (omega (arith, high))
+  kept_same e n low high = ap cell_of (get_or-take (e.arity + 1) c.registers n nothing_held (omega (arith, high)))
 
-  pub call_runs : IsSound s → (n : ℕ) → Holds area at (Call n) → (e : Entry) → HasEntry area n e → Calls area s at c s e.at (record c { registers = take (e.arity + 1) c.registers; slots = []; returns = record { to = suc at; slots = c.slots } ∷ c.returns })
-  call_runs sound n f e there t ls budget k es r ready m =
-      run_call INFINITY area t.program t.query t.name h qs at regs stack (choices_in s c ls) k es r ready.stands ready.scoped ready.runnable budget (sound_model s sound) m n f e there (record { x = cell_at (take (e.arity + 1) c.registers); y = slot_cell [] }) (kept_same e) (slot_cell c.slots) (λ i. refl)
+  module _ (safe : IsSafe area s at 0 c) where
+    -- as many choices as choice points
+    many : (ls : List Left) → length ls ≡ length c.points → length c.points ≡ length (choices_in s c ls)
+    many ls long = sym (choices_many area s at 0 c safe ls long)
 
-  pub execute_runs : IsSound s → (n : ℕ) → Holds area at (Execute n) → (e : Entry) → HasEntry area n e → Calls area s at c s e.at (record c { registers = take (e.arity + 1) c.registers })
-  execute_runs sound n f e there t ls budget k es r ready m =
-      run_execute INFINITY area t.program t.query t.name h qs at regs stack (choices_in s c ls) k es r ready.stands ready.scoped ready.runnable budget (sound_model s sound) m n f e there (record { x = cell_at (take (e.arity + 1) c.registers); y = regs.y }) (kept_same e)
+    pub call_runs : (n : ℕ) → Holds area at (Call n) → (e : Entry) → HasEntry area n e
+        → Calls area s at c s e.at (record c { registers = take (e.arity + 1) c.registers; slots = []; returns = record { to = suc at; slots = c.slots } ∷ c.returns; noted = length c.points })
+    call_runs n f e there t ls budget k es r ready long m =
+        run_call INFINITY INFINITY area t.program t.query t.name h qs at regs stack (choices_in s c ls) k es r ready.stands ready.scoped ready.runnable budget (sound_model s safe.sound) m n f e there
+        (record { x = cell_at (take (e.arity + 1) c.registers); y = slot_cell []; levels = slot_level []; noted = length c.points }) (kept_same e) (many ls long) (slot_cell c.slots) (λ i. refl) (slot_level c.slots) (λ i. refl)
+
+    pub execute_runs : (n : ℕ) → Holds area at (Execute n) → (e : Entry) → HasEntry area n e → Calls area s at c s e.at (record c { registers = take (e.arity + 1) c.registers; noted = length c.points })
+    execute_runs n f e there t ls budget k es r ready long m =
+        run_execute INFINITY INFINITY area t.program t.query t.name h qs at regs stack (choices_in s c ls) k es r ready.stands ready.scoped ready.runnable budget (sound_model s safe.sound) m n f e there
+        (record { x = cell_at (take (e.arity + 1) c.registers); y = regs.y; levels = regs.levels; noted = length c.points }) (kept_same e) (many ls long)
+
+    -- ---- tests and cuts
+
+    pub test_runs : (n : ℕ) → Holds area at (TestOnly n) → (is : IsSlot n c.slots) → TestsAt area s at c s (suc at) (record c { slots = leveled c.slots n (length c.points) is })
+    test_runs n f is t ls budget k es r ready long m =
+        run_test INFINITY INFINITY area t.program t.query t.name h qs at regs stack (choices_in s c ls) k es r ready.runnable budget (sound_model s safe.sound) m n f
+        (length c.points) (many ls long) (with_slots (leveled c.slots n (length c.points) is)) (leveled_marks c.slots n (length c.points) is regs.x regs.noted)
+
+    pub enter_runs : (n o to : ℕ) → Holds area at (EnterTest n o to) → (first : IsSlot n c.slots) (second : IsSlot o (leveled c.slots n (length c.points) first))
+        → (let slots = leveled (leveled c.slots n (length c.points) first) o (suc (length c.points)) second in
+        SplitsAt area s at c (with_pair s) (suc at) (record c { slots = slots; points = point_of (record c { slots = slots }) to ∷ c.points }) to)
+    enter_runs n o to f first second t ls budget k es r ready long m =
+        let one : Places = leveled c.slots n (length c.points) first in
+        run_enter INFINITY INFINITY area t.program t.query t.name h qs at regs stack (choices_in s c ls) k es r ready.runnable budget (sound_model s safe.sound) m n o to f
+        (length c.points) (many ls long) (with_slots one) (leveled_marks c.slots n (length c.points) first regs.x regs.noted)
+        (with_slots (leveled one o (suc (length c.points)) second)) (leveled_marks one o (suc (length c.points)) second regs.x regs.noted)
+
+    -- so many choice points are left
+    abbrev dropped : ℕ → ℕ
+    dropped kept = length c.points - kept
+
+    pub cut_runs : (n kept : ℕ) → Holds area at (CutTo n) → slot_level c.slots n ≡ Some kept → CutsAt area s at c (without_pairs s (dropped kept)) (suc at) (record c { points = drop (dropped kept) c.points })
+    cut_runs n kept f there t ls budget k es r ready long m = subst (λ cs. Spends (λ later j. Runs INFINITY INFINITY area t.program t.query t.name h qs (suc at) regs stack cs budget k later j) [] es r) left cut
+      where
+        cut : Spends (λ later j. Runs INFINITY INFINITY area t.program t.query t.name h qs (suc at) regs stack (oldest kept (choices_in s c ls)) budget k later j) [] es r
+        cut = run_cut INFINITY INFINITY area t.program t.query t.name h qs at regs stack (choices_in s c ls) k es r ready.runnable budget (sound_model s safe.sound) m n f kept there
+
+        left : oldest kept (choices_in s c ls) ≡ choices_in (without_pairs s (dropped kept)) (record c { points = drop (dropped kept) c.points }) (oldest (length (drop (dropped kept) c.points)) ls)
+        left = choices_left s c ls kept (choices_many area s at 0 c safe ls long) long
 
   -- ---- choices
 
@@ -74,28 +123,28 @@ module _ (area : Area) (s : branch.State) (at : ℕ) (c : Contents) where
   left other = record c { points = point_of c other ∷ c.points }
 
   pub either_runs : IsSound s → (to : ℕ) → Holds area at (Either to) → SplitsAt area s at c (with_pair s) (suc at) (left to) to
-  either_runs sound to f t ls budget k es r ready m =
-      run_either INFINITY area t.program t.query t.name h qs at regs stack (choices_in s c ls) k es r ready.runnable budget (sound_model s sound) m to f
+  either_runs sound to f t ls budget k es r ready long m =
+      run_either INFINITY INFINITY area t.program t.query t.name h qs at regs stack (choices_in s c ls) k es r ready.runnable budget (sound_model s sound) m to f
 
   module _ (i : Code) (choice : IsChoice i) (f : Holds area at i) where
-    abbrev Trying : Task → ℕ → Entry → Branch → List Branch → Type 0
-    Trying t to e b kids = IsTrying INFINITY area t.query.shown t.name h qs to e regs stack b kids
+    abbrev Trying : List ℕ → Task → ℕ → Entry → Branch → List Branch → Type 0
+    Trying marks t to e b kids = IsTrying INFINITY INFINITY marks area t.query.shown t.name h qs to e regs stack b kids
 
     -- clauses at one place
-    pub tries : (to : ℕ) → ((t : Task) → IsNaming area t.name → (e : Entry) (b : Branch) (kids : List Branch) → Trying t at e b kids → Trying t to e b kids) → KeepsRunning area s at c s to c
+    pub tries : (to : ℕ) → ((marks : List ℕ) (t : Task) → IsNaming area t.name → (e : Entry) (b : Branch) (kids : List Branch) → Trying marks t at e b kids → Trying marks t to e b kids) → KeepsRunning area s at c s to c
     tries to step t ls u naming m =
-        runs_tries INFINITY area t.program t.query t.name u.budget u.answers u.events u.reductions h qs at regs stack (choices_in s c ls) m i choice f to (λ e b k. step t naming e b m.first k)
+        runs_tries INFINITY INFINITY area t.program t.query t.name u.budget u.answers u.events u.reductions h qs at regs stack (choices_in s c ls) m i choice f to (λ marks e b k. step marks t naming e b m.first k)
 
     -- or at none
-    pub over : ((t : Task) → IsNaming area t.name → (e : Entry) (b : Branch) (kids : List Branch) → Trying t at e b kids → kids ≡ []) → GoesBack area s at c s c
+    pub over : ((marks : List ℕ) (t : Task) → IsNaming area t.name → (e : Entry) (b : Branch) (kids : List Branch) → Trying marks t at e b kids → kids ≡ []) → GoesBack area s at c s c
     over none t ls u naming m =
-        runs_over INFINITY area t.program t.query t.name u.budget u.answers u.events u.reductions h qs at regs stack (choices_in s c ls) m i choice f (λ e b k. none t naming e b m.first k)
+        runs_over INFINITY INFINITY area t.program t.query t.name u.budget u.answers u.events u.reductions h qs at regs stack (choices_in s c ls) m i choice f (λ marks e b k. none marks t naming e b m.first k)
 
   pub fail_runs : Holds area at FailNow → GoesBack area s at c s c
-  fail_runs f = over FailNow tt f (λ t naming e b kids m. step_fail INFINITY area t.query.shown t.name h qs at e regs stack b kids m f)
+  fail_runs f = over FailNow tt f (λ marks t naming e b kids m. step_fail INFINITY INFINITY marks area t.query.shown t.name h qs at e regs stack b kids m f)
 
   pub jump_runs : (to : ℕ) → Holds area at (Jump to) → KeepsRunning area s at c s to c
-  jump_runs to f t ls u naming m = runs_jump INFINITY area t.program t.query t.name u.budget u.answers u.events u.reductions h qs at regs stack (choices_in s c ls) m to f
+  jump_runs to f t ls u naming m = runs_jump INFINITY INFINITY area t.program t.query t.name u.budget u.answers u.events u.reductions h qs at regs stack (choices_in s c ls) m to f
 
 -- ---- back to the newest choice point
 
@@ -108,5 +157,5 @@ module _ (area : Area) (s s' : branch.State) (c c' : Contents) (to : ℕ) (some 
 
   pub resumed_runs : Resumes area s c s' to c'
   resumed_runs t ls u m =
-      back_resumes INFINITY area t.program t.query t.name u.budget u.answers u.events u.reductions to s'.heaps.now s'.levels.current.posted (registers_of c') (stack_of c') (choices_in s' c' ls)
-      (subst (λ cs. Returns INFINITY area t.program t.query t.name cs u.budget u.answers u.events u.reductions) (newest_is (resume to) ls) m)
+      back_resumes INFINITY INFINITY area t.program t.query t.name u.budget u.answers u.events u.reductions to s'.heaps.now s'.levels.current.posted (registers_of c') (stack_of c') (choices_in s' c' ls)
+      (subst (λ cs. Returns INFINITY INFINITY area t.program t.query t.name cs u.budget u.answers u.events u.reductions) (newest_is (resume to) ls) m)

@@ -2,54 +2,52 @@
 use Rattle.std.proofs.Common.{◌≡◌, ℕ, zero, suc, ◌+◌, ◌<◌, Bool, true, ◌&&◌, IsTrue, List, [], ◌∷◌, length, take, Option, Some, None, Result, Ok, Err, IfOk, slice_get, replicate, refl, ap, sym, ◌∙◌, subst, arith}
 use Rattle.std.proofs.lemmas.Bool.{true≢false, and_parts}
 use Rattle.std.proofs.lemmas.List.{length-replicate, get_or-take}
-use Rattle.std.proofs.lemmas.Option.{none-some}
+use Rattle.std.proofs.lemmas.Option.{none-some, same_Some}
 use Rattle.fd_language.specs.Family.{has}
 use Rattle.heap_cells.specs.declared.Cell.{Cell as HeapCell}
 use Rattle.heap_cells.specs.Cells.{Cells}
 use Rattle.branch_state.specs.States as branch
-use Rattle.branch_state.specs.States.{AreCells, IsSound, IsSoundBelow, IsUndone, with_heap, with_pair}
+use Rattle.branch_state.specs.States.{IsSound, IsSoundBelow, IsUndone, with_heap, with_pair}
 use Rattle.wam_code.specs.declared.instruction.Code.{Code}
 use Rattle.wam_code.specs.declared.instruction.Code.TheVariants.{Allocate, Deallocate, Call, Execute, Proceed}
 use Rattle.wam_code.specs.declared.parts.Entry.{Entry}
-use Rattle.wam_code.specs.Area.{Slot, Unset, Cell, State, Area, Holds, HasEntry}
+use Rattle.wam_code.specs.Area.{Slot, Unset, Cell, Level, State, Area, Holds, HasEntry}
 use Rattle.wam_code.specs.Effect.{are_given, are_set, has_frame, no_frame, when, plain_effect, effect_by}
 use Rattle.wam_code.specs.Reaching.{IsOutside}
 use Rattle.wam_code.specs.VerifiedCode.{named, goes_on, Names, HandedTo, Leads, IsVerifiedBy}
 use Rattle.wam_code.proofs.Lemmas.{names_outside, entry_outside, returns_outside, executes_outside, entry_covered}
-use Rattle.code_areas.specs.Areas.{Places, cell_at, IsSet, Return, Point, Contents}
-use Rattle.code_states.specs.Safety.{HasSlots, Fits, IsReached, AreReturns, AreBehind, IsThread, ArePoints, IsSafe, IsSafeBack}
+use Rattle.code_areas.specs.Areas.{nothing_held, Places, cell_of, cell_at, IsSet, Return, Contents}
+use Rattle.code_states.specs.Safety.{HasSlots, Fits, AreOwn, IsReached, AreReturns, AreBehind, IsThread, ArePoints, IsSafe, IsSafeBack}
 use Rattle.code_states.specs.Choices.{point_of}
-use Rattle.code_states.proofs.Lemmas.{when_parts, some_is, fits_less, thread_kept, same_atoms, points_kept, behind_on as behind_next}
-
--- ---- choice points
-
--- each point has a heap, and one heap more belongs to none
-pub points_marked : (area : Area) (ss : List State) (s : branch.State) (ps : List Point) (hs : List Cells) → ArePoints area ss s ps hs → length hs ≡ suc (length ps)
-points_marked area ss s [] hs own = ap length own.1
-points_marked area ss s (p ∷ ps) [] own = absurd own
-points_marked area ss s (p ∷ ps) (h ∷ hs) own = ap suc (points_marked area ss s ps hs own.1)
+use Rattle.code_states.proofs.Lemmas.{points_marked, when_parts, some_is, fits_less, thread_kept, same_atoms, points_kept, behind_on as behind_next}
 
 pub sound_below : (s : branch.State) → IsSound s → IsSoundBelow s
 sound_below s o = record { unspent = o.unspent; marked = o.marked; below = o.below }
 
 -- ---- places
 
-behind_named : (area : Area) (ss : List State) → IsVerifiedBy area ss → (at to : ℕ) → Names area at to → (rs : List Return) → AreBehind area at rs → AreBehind area to rs
+pub behind_named : (area : Area) (ss : List State) → IsVerifiedBy area ss → (at to : ℕ) → Names area at to → (rs : List Return) → AreBehind area at rs → AreBehind area to rs
 behind_named area ss v at to n [] b = (b.0, b.1, b.2, (v.queries b.0 b.1 b.2).stays at to b.3 n)
 behind_named area ss v at to n (r ∷ rs) b = (names_outside area ss v at to b.0 n, b.1)
 
-reached_by : (ss : List State) (handed : State) (to : ℕ) (registers slots : Places) → HandedTo ss handed to → handed.owed ≡ 0 → Fits handed registers slots → IsReached ss to 0 registers slots
+pub reached_by : (ss : List State) (handed : State) (to : ℕ) (registers slots : Places) → HandedTo ss handed to → handed.owed ≡ 0 → Fits handed registers slots → IsReached ss to 0 registers slots
 reached_by ss handed to registers slots h owes f = record { state = h.0; has = h.1; owes = sym h.2.owed ∙ owes; fits = fits_less handed h.0 registers slots h.2 f }
 
-unset : (n k : ℕ) → cell_at (replicate n None) k ≡ None
+unset : (n k : ℕ) → cell_at (replicate n nothing_held) k ≡ None
 unset zero k = refl
 unset (suc n) zero = refl
 unset (suc n) (suc k) = unset n k
 
-no_slot : (n k : ℕ) → slice_get (replicate n Unset) k ≡ Some Cell → ⊥
-no_slot zero k e = none-some Cell e
-no_slot (suc n) zero e = cc
-no_slot (suc n) (suc k) e = no_slot n k e
+all_unset : (n k : ℕ) (s : Slot) → slice_get (replicate n Unset) k ≡ Some s → s ≡ Unset
+all_unset zero k s e = absurd (none-some s e)
+all_unset (suc n) zero s e = sym (same_Some Unset s e)
+all_unset (suc n) (suc k) s e = all_unset n k s e
+
+no_cell : (n k : ℕ) → slice_get (replicate n Unset) k ≡ Some Cell → ⊥
+no_cell n k e = let w = all_unset n k Cell e in cc
+
+no_level : (n k : ℕ) → slice_get (replicate n Unset) k ≡ Some Level → ⊥
+no_level n k e = let w = all_unset n k Level e in cc
 
 -- what is set among the first cells
 taken : (k : ℕ) (cells : Places) (n : ℕ) (d : HeapCell) → cell_at (take k cells) n ≡ Some d → cell_at cells n ≡ Some d
@@ -68,10 +66,10 @@ without_registers : (t : State) (registers slots : Places) → Fits t [] slots �
 without_registers t registers slots f = record { set = λ n e. (let k = f.set n e in absurd (none-some k.0 k.1)); frame = f.frame }
 
 module _ (area : Area) (s : branch.State) (at : ℕ) (c : Contents) (safe : IsSafe area s at 0 c) where
-  abbrev state : State
+  abbrev pub state : State
   state = safe.here.reached.state
 
-  fits : Fits state c.registers c.slots
+  pub fits : Fits state c.registers c.slots
   fits = safe.here.reached.fits
 
   abbrev pub Goes : ℕ → Places → Places → List Return → Type 0
@@ -85,41 +83,49 @@ module _ (area : Area) (s : branch.State) (at : ℕ) (c : Contents) (safe : IsSa
   pub back_safe : IsSafeBack area s c
   back_safe = record { states = safe.states; verified = safe.verified; atoms = safe.atoms; sound = sound_below s safe.sound; points = safe.points }
 
-  -- a new choice point
-  pub left_safe : (to other : ℕ) → Goes to c.registers c.slots c.returns → Goes other c.registers c.slots c.returns → IsSound (with_pair s) → IsSafe area (with_pair s) to 0 (record c { points = point_of c other ∷ c.points })
-  left_safe to other t o sound = record {
+  -- a new choice point, with other slots
+  pub left_with : (to other : ℕ) (slots : Places) → Goes to c.registers slots c.returns → Goes other c.registers slots c.returns → IsSound (with_pair s)
+      → IsSafe area (with_pair s) to 0 (record c { slots = slots; points = point_of (record c { slots = slots }) other ∷ c.points })
+  left_with to other slots t o sound = record {
     states = safe.states;
     verified = safe.verified;
     atoms = safe.atoms;
     sound = sound;
-    here = thread_kept area safe.states s (with_pair s) to 0 c.registers c.slots c.returns (λ d own. own) t;
-    points = (thread_kept area safe.states s (with_heap (with_pair s) s.heaps.now) other 0 c.registers c.slots c.returns (λ d own. own) o, points_kept area safe.states s (with_pair s) refl c.points s.heaps.below safe.points);
+    here = thread_kept area safe.states s (with_pair s) to 0 c.registers slots c.returns (λ d own. own) t;
+    points = (thread_kept area safe.states s (with_heap (with_pair s) s.heaps.now) other 0 c.registers slots c.returns (λ d own. own) o, points_kept area safe.states s (with_pair s) refl c.points s.heaps.below safe.points);
   }
+
+  -- and with the same ones
+  pub left_safe : (to other : ℕ) → Goes to c.registers c.slots c.returns → Goes other c.registers c.slots c.returns → IsSound (with_pair s) → IsSafe area (with_pair s) to 0 (record c { points = point_of c other ∷ c.points })
+  left_safe to other t o sound = left_with to other c.slots t o sound
 
   -- other registers, slots and continuations
   other_safe : (to : ℕ) (c' : Contents) → c'.points ≡ c.points → Goes to c'.registers c'.slots c'.returns → IsSafe area s to 0 c'
   other_safe to c' same t = record { states = safe.states; verified = safe.verified; atoms = safe.atoms; sound = safe.sound; here = t; points = subst (λ ps. ArePoints area safe.states s ps s.heaps.below) (sym same) safe.points }
 
-  no_cells : AreCells s []
+  no_cells : AreOwn s []
   no_cells n d e = absurd (none-some d e)
 
   module _ (i : Code) (holds : Holds area at i) where
-    leads : Leads area safe.states at i state
+    pub leads : Leads area safe.states at i state
     leads = safe.verified.leads at i state holds safe.here.reached.has
 
     plain : plain_effect area.entries i state ≡ Some leads.0
     plain = subst (λ k. effect_by k area.entries i state ≡ Some leads.0) safe.here.reached.owes leads.1
 
-    behind_on : IsTrue (goes_on i) → AreBehind area (suc at) c.returns
+    pub behind_on : IsTrue (goes_on i) → AreBehind area (suc at) c.returns
     behind_on on = behind_next area safe.states safe.verified at (suc at) (i, holds, on, refl) c.returns safe.here.behind
 
     -- The instruction needs something of its state, and hands a state on.
     module _ (need : Bool) (given : State) (is : plain_effect area.entries i state ≡ when need given) where
-      needed : (need ≡ true) × (leads.0 ≡ given)
+      pub needed : (need ≡ true) × (leads.0 ≡ given)
       needed = when_parts need given leads.0 (sym is ∙ plain)
 
-      handed_on : IsTrue (goes_on i) → HandedTo safe.states given (suc at)
+      pub handed_on : IsTrue (goes_on i) → HandedTo safe.states given (suc at)
       handed_on on = subst (λ t. HandedTo safe.states t (suc at)) needed.1 (leads.3 on)
+
+      pub handed_named : (to : ℕ) → IsTrue (has (named area i) to) → HandedTo safe.states given to
+      handed_named to n = subst (λ t. HandedTo safe.states t to) needed.1 (leads.2 to n)
 
     -- choices and switches leave all as it is
     module _ (quiet : plain_effect area.entries i state ≡ Some state) where
@@ -151,7 +157,7 @@ module _ (area : Area) (s : branch.State) (at : ℕ) (c : Contents) (safe : IsSa
 
   -- ---- frames
 
-  slots_safe : (i : Code) (holds : Holds area at i) (handed : State) → HandedTo safe.states handed (suc at) → handed.owed ≡ 0 → IsTrue (goes_on i) → (slots : Places) → Fits handed c.registers slots → AreCells s slots → IsSafe area s (suc at) 0 (record c { slots = slots })
+  pub slots_safe : (i : Code) (holds : Holds area at i) (handed : State) → HandedTo safe.states handed (suc at) → handed.owed ≡ 0 → IsTrue (goes_on i) → (slots : Places) → Fits handed c.registers slots → AreOwn s slots → IsSafe area s (suc at) 0 (record c { slots = slots })
   slots_safe i holds given h owes on slots f own = other_safe (suc at) (record c { slots = slots }) refl (record {
     reached = reached_by safe.states given (suc at) c.registers slots h owes f;
     registers_own = safe.here.registers_own;
@@ -167,10 +173,10 @@ module _ (area : Area) (s : branch.State) (at : ℕ) (c : Contents) (safe : IsSa
     pub no_slots : c.slots ≡ []
     no_slots = no_slots_are state.frame c.slots (needed (Allocate n) holds (no_frame state.frame) framed refl).0 fits.frame
 
-    pub allocate_safe : IsSafe area s (suc at) 0 (record c { slots = replicate n None })
+    pub allocate_safe : IsSafe area s (suc at) 0 (record c { slots = replicate n nothing_held })
     allocate_safe =
-        slots_safe (Allocate n) holds framed (handed_on (Allocate n) holds (no_frame state.frame) framed refl refl) safe.here.reached.owes refl (replicate n None)
-        (record { set = fits.set; frame = (length-replicate n None ∙ sym (length-replicate n Unset), λ k e. absurd (no_slot n k e)) })
+        slots_safe (Allocate n) holds framed (handed_on (Allocate n) holds (no_frame state.frame) framed refl refl) safe.here.reached.owes refl (replicate n nothing_held)
+        (record { set = fits.set; frame = (length-replicate n nothing_held ∙ sym (length-replicate n Unset), (λ k e. absurd (no_cell n k e)), (λ k e. absurd (no_level n k e))) })
         (λ k d e. absurd (none-some d (sym (unset n k) ∙ e)))
 
   pub deallocate_safe : Holds area at Deallocate → IsSafe area s (suc at) 0 (record c { slots = [] })
@@ -187,7 +193,7 @@ module _ (area : Area) (s : branch.State) (at : ℕ) (c : Contents) (safe : IsSa
   abbrev pub kept : Entry → Places
   kept e = take (e.arity + 1) c.registers
 
-  kept_own : (e : Entry) → AreCells s (kept e)
+  kept_own : (e : Entry) → AreOwn s (kept e)
   kept_own e n d i = safe.here.registers_own n d (taken (e.arity + 1) c.registers n d i)
 
   -- A predicate begins with them, and without slots.
@@ -204,18 +210,18 @@ module _ (area : Area) (s : branch.State) (at : ℕ) (c : Contents) (safe : IsSa
           set = λ k i. (
               let w = (b.2.regs k).0 (subst (λ (t : State). has t.regs k ≡ true) same i) in
               let one = fits.set k (h.2.regs k i) in
-              (one.0, get_or-take (e.arity + 1) c.registers k None (omega (arith, w.1)) ∙ one.1)
+              (one.0, ap cell_of (get_or-take (e.arity + 1) c.registers k nothing_held (omega (arith, w.1))) ∙ one.1)
               );
           frame = subst (λ o. HasSlots o []) h.2.frame refl;
         };
       }
 
-  pub call_safe : (n : ℕ) → Holds area at (Call n) → (e : Entry) → HasEntry area n e → IsSafe area s e.at 0 (record c { registers = kept e; slots = []; returns = record { to = suc at; slots = c.slots } ∷ c.returns })
+  pub call_safe : (n : ℕ) → Holds area at (Call n) → (e : Entry) → HasEntry area n e → IsSafe area s e.at 0 (record c { registers = kept e; slots = []; returns = record { to = suc at; slots = c.slots } ∷ c.returns; noted = length c.points })
   call_safe n holds e there =
       let bare : State = record state { regs = [] } in
       let need : Bool = has_frame state.frame && are_given state (slice_get area.entries n) in
       let parts = and_parts (has_frame state.frame) (are_given state (slice_get area.entries n)) (needed (Call n) holds need bare refl).0 in
-      other_safe e.at (record c { registers = kept e; slots = []; returns = record { to = suc at; slots = c.slots } ∷ c.returns }) refl (record {
+      other_safe e.at (record c { registers = kept e; slots = []; returns = record { to = suc at; slots = c.slots } ∷ c.returns; noted = length c.points }) refl (record {
         reached = begins n e there parts.1;
         registers_own = kept_own e;
         slots_own = no_cells;
@@ -232,13 +238,13 @@ module _ (area : Area) (s : branch.State) (at : ℕ) (c : Contents) (safe : IsSa
   continued [] b o = absurd (o b.0 b.1 b.2 b.3)
   continued (r ∷ rs) b o = (r, rs, refl, b.1)
 
-  pub execute_safe : (n : ℕ) → Holds area at (Execute n) → (e : Entry) → HasEntry area n e → IsSafe area s e.at 0 (record c { registers = kept e })
+  pub execute_safe : (n : ℕ) → Holds area at (Execute n) → (e : Entry) → HasEntry area n e → IsSafe area s e.at 0 (record c { registers = kept e; noted = length c.points })
   execute_safe n holds e there =
       let given : Bool = are_given state (slice_get area.entries n) in
       let parts = and_parts (no_frame state.frame) given (needed (Execute n) holds (no_frame state.frame && given) state refl).0 in
       let none : c.slots ≡ [] = no_slots_are state.frame c.slots parts.0 fits.frame in
       let k = continued c.returns safe.here.behind (executes_outside area safe.states safe.verified at n holds) in
-      other_safe e.at (record c { registers = kept e }) refl (record {
+      other_safe e.at (record c { registers = kept e; noted = length c.points }) refl (record {
         reached = subst (λ l. IsReached safe.states e.at 0 (kept e) l) (sym none) (begins n e there parts.1);
         registers_own = kept_own e;
         slots_own = safe.here.slots_own;

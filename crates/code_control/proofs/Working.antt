@@ -1,5 +1,6 @@
 -- The work that is left falls.
-use Rattle.std.proofs.Common.{◌≡◌, ℕ, suc, ◌+◌, ◌*◌, ◌<◌, ◌≤◌, IsTrue, List, [], ◌∷◌, length, map, refl, sym, subst, arith}
+use Rattle.std.proofs.Common.{◌≡◌, ℕ, suc, ◌+◌, ◌*◌, ◌<◌, ◌≤◌, IsTrue, List, [], ◌∷◌, length, map, drop, refl, sym, subst, arith}
+use Rattle.std.proofs.lemmas.List.{drop-map}
 use Rattle.std.proofs.lemmas.Nat.{mul-le}
 use Rattle.fd_language.specs.Family.{has}
 use Rattle.wam_code.specs.declared.instruction.Code.{Code}
@@ -7,8 +8,8 @@ use Rattle.wam_code.specs.Area.{State, Area, Holds}
 use Rattle.wam_code.specs.Ending.{weight, return_work, Thread, work}
 use Rattle.wam_code.specs.Reaching.{distance}
 use Rattle.wam_code.specs.VerifiedCode.{named, goes_on, IsVerifiedBy}
-use Rattle.wam_code.proofs.Lemmas.{fork_falls, step_falls, proceed_falls, back_falls, names_nearer, falls_nearer, weight_up, weight_some}
-use Rattle.code_areas.specs.Areas.{Places, Return, Contents}
+use Rattle.wam_code.proofs.Lemmas.{cut_less, fork_falls, step_falls, proceed_falls, back_falls, names_nearer, falls_nearer, weight_up, weight_some}
+use Rattle.code_areas.specs.Areas.{Places, Return, Point, Contents}
 use Rattle.code_states.specs.Choices.{point_of}
 use Rattle.code_states.specs.Work.{thread_of, point_threads, work_at, work_back, most_work}
 
@@ -43,6 +44,13 @@ module _ (area : Area) (ss : List State) (v : IsVerifiedBy area ss) (at : ℕ) (
 
   pub left_falls : (to other : ℕ) → distance area to < distance area at → distance area other < distance area at → work_at area to (record c { points = point_of c other ∷ c.points }) < work_at area at c
   left_falls to other near near_too = fork_falls (distance area at) (distance area to) (distance area other) (after c.returns) others near near_too
+
+  -- fewer choice points bring no more work
+  pub cut_falls : (to k : ℕ) → distance area to < distance area at → work_at area to (record c { points = drop k c.points }) < work_at area at c
+  cut_falls to k near =
+      let less = subst (λ ts. work (thread_of area to c.returns ∷ ts) ≤ work (thread_of area to c.returns ∷ others)) (drop-map (λ (p : Point). thread_of area p.place p.returns) k c.points) (cut_less (thread_of area to c.returns) others k) in
+      let falls = moved_falls to near in
+      omega (arith, less, falls)
 
   pub returned_falls : (r : Return) (later : List Return) → c.returns ≡ r ∷ later → work_at area r.to (record c { slots = r.slots; returns = later }) < work_at area at c
   returned_falls r later is = subst (λ l. work (thread_of area r.to later ∷ others) < work (thread_of area at l ∷ others)) (sym is) (proceed_falls (distance area at) (distance area r.to) (after later) others)

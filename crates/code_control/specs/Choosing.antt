@@ -110,25 +110,25 @@ abbrev pub AreGone : List Branch → Type 0
 AreGone [] = Unit {0}
 AreGone (b ∷ bs) = HasNoModel b × AreGone bs
 
--- at the place of a choice the branch b tries clauses, whose branches are kids
-abbrev pub TriesAt : Area → List ℕ → Naming → branch.State → ℕ → Contents → Entry → Branch → List Branch → Type 0
-TriesAt area shown name s at c e b kids = IsTrying INFINITY area shown name s.heaps.now s.levels.current.posted at e (registers_of c) (stack_of c) b kids
+-- at the place of a choice the branch b tries clauses, whose branches are kids, where the choice points have such marks
+abbrev pub TriesAt : List ℕ → Area → List ℕ → Naming → branch.State → ℕ → Contents → Entry → Branch → List Branch → Type 0
+TriesAt marks area shown name s at c e b kids = IsTrying INFINITY INFINITY marks area shown name s.heaps.now s.levels.current.posted at e (registers_of c) (stack_of c) b kids
 
 -- they are those of another place, or none
-abbrev pub TriesThen : Area → List ℕ → Naming → branch.State → Option ℕ → Contents → Entry → Branch → List Branch → Type 0
-TriesThen area shown name s (Some at) c e b kids = TriesAt area shown name s at c e b kids
-TriesThen area shown name s None c e b kids = kids ≡ []
+abbrev pub TriesThen : List ℕ → Area → List ℕ → Naming → branch.State → Option ℕ → Contents → Entry → Branch → List Branch → Type 0
+TriesThen marks area shown name s (Some at) c e b kids = TriesAt marks area shown name s at c e b kids
+TriesThen marks area shown name s None c e b kids = kids ≡ []
 
-pub record LeavesSome (area : Area) (shown : List ℕ) (name : Naming) (s : branch.State) (to : Option ℕ) (c : Contents) (e : Entry) (b : Branch) (kids : List Branch) : Type 0 where
+pub record LeavesSome (marks : List ℕ) (area : Area) (shown : List ℕ) (name : Naming) (s : branch.State) (to : Option ℕ) (c : Contents) (e : Entry) (b : Branch) (kids : List Branch) : Type 0 where
   pub gone : List Branch
   pub kept : List Branch
   pub both : kids ≡ gone ++ kept
   pub none : AreGone gone
-  pub tries : TriesThen area shown name s to c e b kept
+  pub tries : TriesThen marks area shown name s to c e b kept
 
 -- What is tried at a place is tried at another one, or nowhere, but for branches without a model in front.
 abbrev pub LeavesOut : Area → branch.State → ℕ → Contents → Option ℕ → Type 0
-LeavesOut area s at c to = (shown : List ℕ) (name : Naming) (e : Entry) (b : Branch) (kids : List Branch) → IsNaming area name → TriesAt area shown name s at c e b kids → LeavesSome area shown name s to c e b kids
+LeavesOut area s at c to = (marks : List ℕ) (shown : List ℕ) (name : Naming) (e : Entry) (b : Branch) (kids : List Branch) → IsNaming area name → TriesAt marks area shown name s at c e b kids → LeavesSome marks area shown name s to c e b kids
 
 -- The place at can be gone on at instead of the place from, with all as it is, and is at or behind it.
 pub record IsLater (area : Area) (s : branch.State) (from at : ℕ) (c : Contents) : Type 0 where

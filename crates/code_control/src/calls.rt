@@ -18,8 +18,9 @@ use fd_language::NoMemory;
 use propagate_queue::Agenda;
 use wam_code::CodeArea;
 
-/// Calls the predicate with the number `e`: the place behind becomes the newest continuation, with the slots of the frame, and the
-/// registers of the arguments are kept alone. The result is where the predicate begins; the error is want of memory.
+/// Calls the predicate with the number `e`: the place behind becomes the newest continuation, with the slots of the frame, the number of
+/// choice points is noted, and the registers of the arguments are kept alone. The result is where the predicate begins; the error is
+/// want of memory.
 #[inline]
 pub fn call<A: Agenda + Drop>(
     code: &CodeArea,
@@ -40,13 +41,14 @@ pub fn call<A: Agenda + Drop>(
     ensures place { IfOk result (BeginsAt code.now e) }
 {
     areas.call(behind(code, at))?;
+    areas.note();
     let entry = entry_of(code, e);
     areas.keep_registers(entry.arity as usize + 1);
     Ok(entry.at)
 }
 
-/// Calls the predicate with the number `e` as the clause's last goal, and keeps the registers of the arguments alone. The result is where
-/// it begins. No memory.
+/// Calls the predicate with the number `e` as the clause's last goal: the number of choice points is noted, and the registers of the
+/// arguments are kept alone. The result is where it begins. No memory.
 #[inline]
 pub fn execute<A: Agenda + Drop>(
     code: &CodeArea,
@@ -65,6 +67,7 @@ pub fn execute<A: Agenda + Drop>(
     ensures same { IsSameBehind areas.old areas.new }
     ensures place { BeginsAt code.now e result }
 {
+    areas.note();
     let entry = entry_of(code, e);
     areas.keep_registers(entry.arity as usize + 1);
     entry.at

@@ -4,6 +4,7 @@
 mod calls;
 mod choices;
 mod choosing;
+mod cuts;
 mod frames;
 mod places;
 mod rows;
@@ -12,6 +13,7 @@ mod switches;
 pub use crate::calls::{call, execute, proceed};
 pub use crate::choices::{either, fail_now, go_back, jump};
 pub use crate::choosing::choose;
+pub use crate::cuts::{cut_to, enter_test, level, test_only};
 pub use crate::frames::{allocate, deallocate};
 pub use crate::switches::{
     switch_on_constant, switch_on_integer, switch_on_structure, switch_on_term,

@@ -40,7 +40,7 @@ use Rattle.code_areas.specs.Areas.{cell_at, IsSet, Contents}
 use Rattle.code_steps.specs.Registers.{Registers, Saved}
 use Rattle.code_steps.specs.Trying.{IsFirst}
 use Rattle.code_steps.specs.Running.{Left, Choice, Runs, Returns}
-use Rattle.code_steps.proofs.Lemmas.{spends_more, run_true, run_fail, run_false, run_unify, run_refuted, run_found_fault, run_found_true, run_found_false, run_found_refuted, run_found_equated, run_newline, run_write}
+use Rattle.code_steps.proofs.Lemmas.{spends_more, run_true, run_fail, run_false, run_unify, run_refuted, run_found_fault, run_found_true, run_found_false, run_found_refuted, run_found_equated, run_newline, run_write, run_fails}
 use Rattle.code_states.specs.Choices.{choices_in}
 use Rattle.code_states.specs.Machine.{registers_of, stack_of}
 use Rattle.code_states.specs.Safety.{IsSafe}
@@ -52,7 +52,7 @@ use Rattle.code_goals.specs.Builtins.{IsFound, IsSecond, ComesTo}
 use Rattle.code_goals.specs.Tasks.{names_of, task_of}
 use Rattle.code_goals.specs.GoalTexts.{text_at}
 use Rattle.code_goals.specs.Taking.{next_by, IsSafeNext, LeadsNext, RunsNext, Takes}
-use Rattle.code_goals.proofs.Moving.{runs_grown, runs_none}
+use Rattle.code_goals.proofs.Moving.{runs_grown}
 use Rattle.code_goals.proofs.Safe.{choices_same, sound_below, grown_cells, arguments_there, moved_safe, on_safe, on_same, goes_back}
 
 -- no two atoms have one name
@@ -64,10 +64,10 @@ one_name area pool = full_one area.pool.names pool.distinct
 -- What is to come where they are, and where they can't be.
 module _ (area : Area) (pool : IsPool area.pool) (s : branch.State) (at : ℕ) (c : Contents) (x y : Cell) (prog : Program) (q : Query) (ls : List Left) (n : ℕ) (k : Option ℕ) (es : List Event) (r : ℕ) where
   abbrev With : List Choice → Cells → List Indexical → List Event → ℕ → Type 0
-  With cs now ps later j = Runs INFINITY area prog q (names_of area) now ps (suc at) (registers_of c) (stack_of c) cs n k later j
+  With cs now ps later j = Runs INFINITY INFINITY area prog q (names_of area) now ps (suc at) (registers_of c) (stack_of c) cs n k later j
 
   abbrev Without : List Choice → List Event → ℕ → Type 0
-  Without cs later j = Returns INFINITY area prog q (names_of area) cs n k later j
+  Without cs later j = Returns INFINITY INFINITY area prog q (names_of area) cs n k later j
 
   abbrev cs : List Choice
   cs = choices_in s c ls
@@ -81,7 +81,7 @@ module _ (area : Area) (pool : IsPool area.pool) (s : branch.State) (at : ℕ) (
         | inl un ↦ else (un (names_of area) (one_name area pool))
         | inr gone ↦
             let ps = s.levels.current.posted ++ posts (store_touches gone.touches) in
-            spends_more (With cs gone.now ps) (Without cs) (λ later j. runs_none INFINITY area prog q (names_of area) gone.now ps (suc at) (registers_of c) (stack_of c) cs n k later j gone.none) [] es r (so gone.now gone.touches (gone.unified (names_of area)) gone.size)
+            spends_more (With cs gone.now ps) (Without cs) (λ later j w. run_fails INFINITY INFINITY area prog q (names_of area) gone.now ps (suc at) (registers_of c) (stack_of c) cs n k later j w gone.none) [] es r (so gone.now gone.touches (gone.unified (names_of area)) gone.size)
       ] in
       subst (λ xs. Spends (Without xs) [] es r) (choices_same s s' c ls below) gone_back
 
@@ -106,27 +106,27 @@ module _ (area : Area) (s : branch.State) (at : ℕ) (c : Contents) (safe : IsSa
   abbrev name : Naming
   name = names_of area
 
-  known : IsModel INFINITY [] qs G
+  known : IsModel INFINITY INFINITY [] qs G
   known = safe.sound.now.settled.model
 
-  most : (R : Family) → IsModel INFINITY [] qs R → IsInside R G
+  most : (R : Family) → IsModel INFINITY INFINITY [] qs R → IsInside R G
   most = safe.sound.now.settled.most
 
   -- true
   pub true_taken : Holds area at (step.Builtin kind.True) → Takes area s at c s (On (suc at))
-  true_taken f prog q ls n k es r runnable m = run_true INFINITY area prog q name h qs at regs stack (choices_in s c ls) k es r runnable n (G, known) m f
+  true_taken f prog q ls n k es r runnable m = run_true INFINITY INFINITY area prog q name h qs at regs stack (choices_in s c ls) k es r runnable n (G, known) m f
 
   -- fail
   pub fail_taken : Holds area at (step.Builtin kind.Fail) → Takes area s at c s Back
-  fail_taken f prog q ls n k es r runnable m = run_fail INFINITY area prog q name h qs at regs stack (choices_in s c ls) k es r runnable n (G, known) m f
+  fail_taken f prog q ls n k es r runnable m = run_fail INFINITY INFINITY area prog q name h qs at regs stack (choices_in s c ls) k es r runnable n (G, known) m f
 
   -- false
   pub false_taken : Holds area at (step.Builtin kind.False) → Takes area s at c s Back
-  false_taken f prog q ls n k es r runnable m = run_false INFINITY area prog q name h qs at regs stack (choices_in s c ls) k es r runnable n (G, known) m f
+  false_taken f prog q ls n k es r runnable m = run_false INFINITY INFINITY area prog q name h qs at regs stack (choices_in s c ls) k es r runnable n (G, known) m f
 
   -- nl
   pub newline_taken : Holds area at (step.Builtin kind.Nl) → Takes area s at c s (Newline (suc at))
-  newline_taken f prog q ls n k es r runnable m = run_newline INFINITY area prog q name h safe.sound.now.valid qs at regs stack (choices_in s c ls) k es r runnable n (G, known) m f
+  newline_taken f prog q ls n k es r runnable m = run_newline INFINITY INFINITY area prog q name h safe.sound.now.valid qs at regs stack (choices_in s c ls) k es r runnable n (G, known) m f
 
   -- its argument is in the first register
   first_set : Holds area at (step.Builtin kind.Write) → IsSet c.registers 1
@@ -137,8 +137,8 @@ module _ (area : Area) (s : branch.State) (at : ℕ) (c : Contents) (safe : IsSa
   write_taken f prog q ls n k es r runnable m =
       let d = (first_set f).0 in
       let at_d = (first_set f).1 in
-      subst (λ (o : Option Cell). Spends (λ later j. Runs INFINITY area prog q name h qs (suc at) regs stack (choices_in s c ls) n k later j) (model.Wrote (text_at area s o) ∷ []) es r) (sym at_d)
-      (run_write INFINITY area prog q name h safe.sound.now.valid qs at regs stack (choices_in s c ls) k es r runnable n G known most d at_d m f)
+      subst (λ (o : Option Cell). Spends (λ later j. Runs INFINITY INFINITY area prog q name h qs (suc at) regs stack (choices_in s c ls) n k later j) (model.Wrote (text_at area s o) ∷ []) es r) (sym at_d)
+      (run_write INFINITY INFINITY area prog q name h safe.sound.now.valid qs at regs stack (choices_in s c ls) k es r runnable n G known most d at_d m f)
 
   -- and it is safe to go on
   pub write_safe : Holds area at (step.Builtin kind.Write) → IsSafeNext area s c (Write (suc at))
@@ -147,7 +147,7 @@ module _ (area : Area) (s : branch.State) (at : ℕ) (c : Contents) (safe : IsSa
   -- two cells were made equal, or can't be
   pub unify_taken : IsPool area.pool → Holds area at (step.Builtin kind.Unify) → (d e : Cell) → cell_at c.registers 1 ≡ Some d → cell_at c.registers 2 ≡ Some e → (s' : branch.State) → IsSameBelow s s' → (equal : Bool) → Equates s d e s' equal → Takes area s at c s' (next_by at equal)
   unify_taken pool f d e at_d at_e s' below equal w prog q ls n k es r runnable m =
-      equated_next area pool s at c d e prog q ls n k es r (run_unify INFINITY area prog q name h qs at regs stack (choices_in s c ls) k es r runnable n (G, known) m f d e at_d at_e) (run_refuted INFINITY area prog q name h qs at regs stack (choices_in s c ls) k es r runnable n (G, known) m f d e at_d at_e) s' below equal w
+      equated_next area pool s at c d e prog q ls n k es r (run_unify INFINITY INFINITY area prog q name h qs at regs stack (choices_in s c ls) k es r runnable n (G, known) m f d e at_d at_e) (run_refuted INFINITY INFINITY area prog q name h qs at regs stack (choices_in s c ls) k es r runnable n (G, known) m f d e at_d at_e) s' below equal w
 
   -- safe where two cells were to be equal, or a goal holds or doesn't
   pub equal_safe : (b : BuiltinKind) → Holds area at (step.Builtin b) → (x y : Cell) (s' : branch.State) → IsSameBelow s s' → (equal : Bool) → Equates s x y s' equal → IsSafeNext area s' c (next_by at equal)
@@ -196,18 +196,18 @@ module _ (area : Area) (pool : IsPool area.pool) (s : branch.State) (at : ℕ) (
   pub found_fault : (e : QueryFault) → x ≡ finding.Fault e → (s' : branch.State) → Takes area s at c s' (Fault e)
   found_fault e i s' prog q ls n k es r runnable m =
       let pair = safe.sound.now in
-      run_found_fault INFINITY area prog q (names_of area) s.heaps.now pair.valid s.levels.current.posted at (registers_of c) (stack_of c) (choices_in s c ls) k es r runnable n (family_of s.levels.current.sets) pair.settled.model pair.settled.most m b (found_quiet b plain) (found_named b plain)
+      run_found_fault INFINITY INFINITY area prog q (names_of area) s.heaps.now pair.valid s.levels.current.posted at (registers_of c) (stack_of c) (choices_in s c ls) k es r runnable n (family_of s.levels.current.sets) pair.settled.model pair.settled.most m b (found_quiet b plain) (found_named b plain)
       comes.first comes.second comes.at_first comes.at_second f e (subst (Finds (names_of area) s b comes.first comes.second) i is)
 
   -- it holds or doesn't
   pub found_decided : (holds : Bool) → x ≡ finding.Decided holds → Takes area s at c s (next_by at holds)
   found_decided true i prog q ls n k es r runnable m =
       let pair = safe.sound.now in
-      run_found_true INFINITY area prog q (names_of area) s.heaps.now pair.valid s.levels.current.posted at (registers_of c) (stack_of c) (choices_in s c ls) k es r runnable n (family_of s.levels.current.sets) pair.settled.model pair.settled.most m b (found_quiet b plain) (found_named b plain)
+      run_found_true INFINITY INFINITY area prog q (names_of area) s.heaps.now pair.valid s.levels.current.posted at (registers_of c) (stack_of c) (choices_in s c ls) k es r runnable n (family_of s.levels.current.sets) pair.settled.model pair.settled.most m b (found_quiet b plain) (found_named b plain)
       comes.first comes.second comes.at_first comes.at_second f (subst (Finds (names_of area) s b comes.first comes.second) i is)
   found_decided false i prog q ls n k es r runnable m =
       let pair = safe.sound.now in
-      run_found_false INFINITY area prog q (names_of area) s.heaps.now pair.valid s.levels.current.posted at (registers_of c) (stack_of c) (choices_in s c ls) k es r runnable n (family_of s.levels.current.sets) pair.settled.model pair.settled.most m b (found_quiet b plain) (found_named b plain)
+      run_found_false INFINITY INFINITY area prog q (names_of area) s.heaps.now pair.valid s.levels.current.posted at (registers_of c) (stack_of c) (choices_in s c ls) k es r runnable n (family_of s.levels.current.sets) pair.settled.model pair.settled.most m b (found_quiet b plain) (found_named b plain)
       comes.first comes.second comes.at_first comes.at_second f (subst (Finds (names_of area) s b comes.first comes.second) i is)
 
   module _ (l w : Cell) (i : x ≡ finding.Equal l w) where
@@ -223,9 +223,9 @@ module _ (area : Area) (pool : IsPool area.pool) (s : branch.State) (at : ℕ) (
     found_equal s' below equal e prog q ls n k es r runnable m =
         let pair = safe.sound.now in
         equated_next area pool s at c l w prog q ls n k es r
-        (run_found_equated INFINITY area prog q (names_of area) s.heaps.now pair.valid s.levels.current.posted at (registers_of c) (stack_of c) (choices_in s c ls) k es r runnable n (family_of s.levels.current.sets) pair.settled.model pair.settled.most m b (found_quiet b plain) (found_named b plain)
+        (run_found_equated INFINITY INFINITY area prog q (names_of area) s.heaps.now pair.valid s.levels.current.posted at (registers_of c) (stack_of c) (choices_in s c ls) k es r runnable n (family_of s.levels.current.sets) pair.settled.model pair.settled.most m b (found_quiet b plain) (found_named b plain)
         comes.first comes.second comes.at_first comes.at_second f l w told.2)
-        (run_found_refuted INFINITY area prog q (names_of area) s.heaps.now pair.valid s.levels.current.posted at (registers_of c) (stack_of c) (choices_in s c ls) k es r runnable n (family_of s.levels.current.sets) pair.settled.model pair.settled.most m b (found_quiet b plain) (found_named b plain)
+        (run_found_refuted INFINITY INFINITY area prog q (names_of area) s.heaps.now pair.valid s.levels.current.posted at (registers_of c) (stack_of c) (choices_in s c ls) k es r runnable n (family_of s.levels.current.sets) pair.settled.model pair.settled.most m b (found_quiet b plain) (found_named b plain)
         comes.first comes.second comes.at_first comes.at_second f l w told.2)
         s' below equal e
 
@@ -235,9 +235,9 @@ module _ (area : Area) (pool : IsPool area.pool) (s : branch.State) (at : ℕ) (
 pub grown_taken : (area : Area) (s s1 : branch.State) (at : ℕ) (c : Contents) (i : Code) → IsFirst i → Holds area at i → IsGrown s.heaps.now s1.heaps.now → s1 ≡ with_heap s s1.heaps.now → (s' : branch.State) (x : Next) → Takes area s1 at c s' x → Takes area s at c s' x
 grown_taken area s s1 at c i first f g e s' x t prog q ls n k es r runnable m =
     t prog q ls n k es r runnable
-    (subst (λ cs. Runs INFINITY area prog q (names_of area) s1.heaps.now s1.levels.current.posted at (registers_of c) (stack_of c) cs (suc n) k es r) (choices_same s s1 c ls (below_heap s s1 e))
-    (subst (λ (l : Levels). Runs INFINITY area prog q (names_of area) s1.heaps.now l.current.posted at (registers_of c) (stack_of c) (choices_in s c ls) (suc n) k es r) (sym (ap (λ (y : branch.State). y.levels) e))
-    (runs_grown INFINITY area prog q (names_of area) (suc n) k es r s.heaps.now s1.heaps.now g s.levels.current.posted at (registers_of c) (stack_of c) (choices_in s c ls) i first f m)))
+    (subst (λ cs. Runs INFINITY INFINITY area prog q (names_of area) s1.heaps.now s1.levels.current.posted at (registers_of c) (stack_of c) cs (suc n) k es r) (choices_same s s1 c ls (below_heap s s1 e))
+    (subst (λ (l : Levels). Runs INFINITY INFINITY area prog q (names_of area) s1.heaps.now l.current.posted at (registers_of c) (stack_of c) (choices_in s c ls) (suc n) k es r) (sym (ap (λ (y : branch.State). y.levels) e))
+    (runs_grown INFINITY INFINITY area prog q (names_of area) (suc n) k es r s.heaps.now s1.heaps.now g s.levels.current.posted at (registers_of c) (stack_of c) (choices_in s c ls) i first f m)))
 
 -- where a goal holds, the next place is next
 pub next_leads : (at : ℕ) (holds : Bool) → LeadsNext at (next_by at holds)

@@ -65,8 +65,8 @@ gathered_own s c own i (d ∷ ds) g (suc k) e l = gathered_own s c own (suc i) d
 
 -- the row of the goal's cell is that of the arguments' cells
 row_is : (area : Area) (s : branch.State) (k : ConstraintKind) (f : AtomId) (cells : List Cell) (d : Cell) → term_of (names_of area) s.heaps.now d ≡ Comp (names_of area f) (terms_by (term_of (names_of area) s.heaps.now) cells)
-    → expand k (apply_all (λ e. value_at (link_in s.heaps.now e) (family_of s.levels.current.sets) e) (terms_by (term_of (names_of area) s.heaps.now) cells)) (length s.heaps.now.slots) ≡ row_of area.pool.names s k d
-row_is area s k f cells d e = sym (ap (λ t. expand k (arguments (apply (λ i. value_at (link_in s.heaps.now i) (family_of s.levels.current.sets) i) t)) (length s.heaps.now.slots)) e)
+    → expand INFINITY k (apply_all (λ e. value_at (link_in s.heaps.now e) (family_of s.levels.current.sets) e) (terms_by (term_of (names_of area) s.heaps.now) cells)) (length s.heaps.now.slots) ≡ row_of area.pool.names s k d
+row_is area s k f cells d e = sym (ap (λ t. expand INFINITY k (arguments (apply (λ i. value_at (link_in s.heaps.now i) (family_of s.levels.current.sets) i) t)) (length s.heaps.now.slots)) e)
 
 module _ (area : Area) (s : branch.State) (at : ℕ) (c : Contents) (safe : IsSafe area s at 0 c) (kd : ConstraintKind) (f : Holds area at (step.Constrain kd)) (d : Cell) (goal : IsGoal area s c (constraint_arity kd) d) where
   abbrev h : Cells
@@ -79,14 +79,14 @@ module _ (area : Area) (s : branch.State) (at : ℕ) (c : Contents) (safe : IsSa
   G = family_of s.levels.current.sets
 
   row : (x : Result Expansion QueryFault) → row_of area.pool.names s kd d ≡ x
-      → expand kd (apply_all (λ e. value_at (link_in h e) G e) (terms_by (term_of (names_of area) h) goal.cells)) (length h.slots) ≡ x
+      → expand INFINITY kd (apply_all (λ e. value_at (link_in h e) G e) (terms_by (term_of (names_of area) h) goal.cells)) (length h.slots) ≡ x
   row x e = row_is area s kd goal.name goal.cells d goal.term ∙ e
 
   -- a fault ends the query
   pub constraint_fault : (e : QueryFault) (s' s'' : branch.State) → Constrains area.pool.names s kd d s' (outcome.Fault e) → Takes area s at c s'' (Fault e)
   constraint_fault e s' s'' told prog q ls n k es r runnable m =
       let pair = safe.sound.now in
-      run_constraint_fault INFINITY area prog q (names_of area) h pair.valid qs at (registers_of c) (stack_of c) (choices_in s c ls) k es r runnable n G pair.settled.model pair.settled.most m kd goal.cells goal.gathered.1 goal.gathered.0 f e (row (Err e) told.0)
+      run_constraint_fault INFINITY INFINITY area prog q (names_of area) h pair.valid qs at (registers_of c) (stack_of c) (choices_in s c ls) k es r runnable n G pair.settled.model pair.settled.most m kd goal.cells goal.gathered.1 goal.gathered.0 f e (row (Err e) told.0)
 
   module _ (s' : branch.State) (below : IsSameBelow s s') where
     -- the row is posted, and the machine goes on
@@ -94,9 +94,9 @@ module _ (area : Area) (s : branch.State) (at : ℕ) (c : Contents) (safe : IsSa
     constraint_kept told prog q ls n k es r runnable m =
         let pair = safe.sound.now in
         let x = told.0 in
-        subst (λ cs. Spends (λ later j. Runs INFINITY area prog q (names_of area) s'.heaps.now s'.levels.current.posted (suc at) (registers_of c) (stack_of c) cs n k later j) [] es r) (choices_same s s' c ls below)
-        (subst (λ ps. Spends (λ later j. Runs INFINITY area prog q (names_of area) s'.heaps.now ps (suc at) (registers_of c) (stack_of c) (choices_in s c ls) n k later j) [] es r) (sym x.after)
-        (run_constraint INFINITY area prog q (names_of area) h pair.valid qs at (registers_of c) (stack_of c) (choices_in s c ls) k es r runnable n G pair.settled.model pair.settled.most m kd goal.cells goal.gathered.1 goal.gathered.0 f
+        subst (λ cs. Spends (λ later j. Runs INFINITY INFINITY area prog q (names_of area) s'.heaps.now s'.levels.current.posted (suc at) (registers_of c) (stack_of c) cs n k later j) [] es r) (choices_same s s' c ls below)
+        (subst (λ ps. Spends (λ later j. Runs INFINITY INFINITY area prog q (names_of area) s'.heaps.now ps (suc at) (registers_of c) (stack_of c) (choices_in s c ls) n k later j) [] es r) (sym x.after)
+        (run_constraint INFINITY INFINITY area prog q (names_of area) h pair.valid qs at (registers_of c) (stack_of c) (choices_in s c ls) k es r runnable n G pair.settled.model pair.settled.most m kd goal.cells goal.gathered.1 goal.gathered.0 f
         x.row (row (Ok x.row) x.is) s'.heaps.now x.link x.ranges x.new x.touches x.linked))
 
     -- or it has no model, and the machine goes back
@@ -104,8 +104,8 @@ module _ (area : Area) (s : branch.State) (at : ℕ) (c : Contents) (safe : IsSa
     constraint_failed told prog q ls n k es r runnable m =
         let pair = safe.sound.now in
         let x = told.0.1 in
-        subst (λ cs. Spends (λ later j. Returns INFINITY area prog q (names_of area) cs n k later j) [] es r) (choices_same s s' c ls below)
-        (run_constraint_failed INFINITY area prog q (names_of area) h pair.valid qs at (registers_of c) (stack_of c) (choices_in s c ls) k es r runnable n G pair.settled.model pair.settled.most m kd goal.cells goal.gathered.1 goal.gathered.0 f
+        subst (λ cs. Spends (λ later j. Returns INFINITY INFINITY area prog q (names_of area) cs n k later j) [] es r) (choices_same s s' c ls below)
+        (run_constraint_failed INFINITY INFINITY area prog q (names_of area) h pair.valid qs at (registers_of c) (stack_of c) (choices_in s c ls) k es r runnable n G pair.settled.model pair.settled.most m kd goal.cells goal.gathered.1 goal.gathered.0 f
         x.row (row (Ok x.row) x.is) s'.heaps.now x.link x.ranges x.new x.touches x.linked (subst HasNoModel x.after told.0.2))
 
     -- safe after the row

@@ -1,16 +1,21 @@
 -- Labellings, taken.
 use Rattle.std.proofs.Common.{◌≡◌, ℕ, suc, ◌+◌, ◌*◌, ◌<◌, ◌≤◌, ◌⊎◌, Bool, true, false, pos, nat_le, List, [], ◌∷◌, ◌++◌, length, map, filter, Option, Some, None, refl, sym, ◌∙◌, subst, inl, inr, arith}
 use Rattle.std.proofs.lemmas.Nat.{mul-le}
-use Rattle.unify_core.specs.Unifications.{CannotUnify}
+use Rattle.unify_core.specs.declared.Touch.{Touch}
+use Rattle.unify_core.specs.Reduces.{IsSameSize}
+use Rattle.unify_core.specs.Unifications.{CannotUnify, IsUnified}
 use Rattle.fd_language.specs.declared.TheConstants.{INFINITY}
 use Rattle.fd_language.specs.Family.{IsRising}
 use Rattle.fd_language.specs.Range.{Indexical}
+use Rattle.fd_language.specs.Term.{Var}
 use Rattle.fd_model.specs.Goal.{Program, Query, Event}
 use Rattle.fd_model.specs.declared.kinds.Order.{Order}
 use Rattle.fd_model.specs.declared.kinds.QueryFault.{QueryFault}
 use Rattle.heap_cells.specs.declared.Cell.{Cell}
 use Rattle.heap_cells.specs.declared.Cell.TheVariants as cell
 use Rattle.heap_cells.specs.Cells.{Cells}
+use Rattle.heap_cells.specs.Terms.{term_of}
+use Rattle.heap_cells.specs.Valid.{IsHeap}
 use Rattle.machine_relation.specs.Labelling.{labels, done, faults}
 use Rattle.machine_relation.specs.Store.{posts}
 use Rattle.term_pool.specs.declared.TheConstants.{NIL, CONS}
@@ -29,7 +34,7 @@ use Rattle.wam_code.specs.Ending.{thread_work, work}
 use Rattle.wam_code.proofs.Lemmas.{back_falls}
 use Rattle.code_areas.specs.Areas.{cell_at, Contents}
 use Rattle.code_steps.specs.Running.{Left, values, Choice, Runs, Returns}
-use Rattle.code_steps.proofs.Lemmas.{spends_more, run_label_fault, run_label_done, run_label, back_no_values, back_value}
+use Rattle.code_steps.proofs.Lemmas.{spends_more, run_label_fault, run_label_done, run_label, back_last_value, back_no_values, back_value, run_fails}
 use Rattle.code_states.specs.Choices.{choices_of, choices_in, point_of}
 use Rattle.code_states.specs.Equating.{Equates, AreEquated, HasNoModelFor}
 use Rattle.code_states.specs.Machine.{registers_of, stack_of}
@@ -46,7 +51,6 @@ use Rattle.code_goals.specs.declared.labels.Labelled.TheVariants.{Took, Tries}
 use Rattle.code_goals.specs.declared.next.Next.TheVariants.{On, Fault}
 use Rattle.code_goals.specs.Tasks.{names_of, task_of}
 use Rattle.code_goals.specs.Values.{numbers_left, HasValues, IsOpen, left_of, lefts_of, pointed, with_point, with_mark, IsKept, KeepsValues, RunsWent, StaysAt, work_left, IsTried, Labels, BringsMost}
-use Rattle.code_goals.proofs.Moving.{runs_none, runs_over}
 use Rattle.code_goals.proofs.Numbers.{filter_from_low, rising_length, can_be}
 use Rattle.code_goals.proofs.Safe.{choices_same, sound_below, moved_safe, marked_safe, goes_back}
 
@@ -88,10 +92,10 @@ module _ (area : Area) (prog : Program) (q : Query) (s : branch.State) (at : ℕ
   points ns = choices_in (with_pair s) (pointed c at) (values ns v.variable at ∷ ls)
 
   abbrev Back : List Choice → Type 0
-  Back cs = Returns INFINITY area prog q (names_of area) cs f.budget f.answers f.events f.reductions
+  Back cs = Returns INFINITY INFINITY area prog q (names_of area) cs f.budget f.answers f.events f.reductions
 
   abbrev Going : Cells → List Indexical → List Choice → Type 0
-  Going h qs cs = Runs INFINITY area prog q (names_of area) h qs at (registers_of c) (stack_of c) cs f.budget f.answers f.events f.reductions
+  Going h qs cs = Runs INFINITY INFINITY area prog q (names_of area) h qs at (registers_of c) (stack_of c) cs f.budget f.answers f.events f.reductions
 
   abbrev points_now : Option ValuesLeft → List Choice
   points_now o = choices_in (with_mark s o) (with_point c at o) (lefts_of at o ++ ls)
@@ -99,16 +103,19 @@ module _ (area : Area) (prog : Program) (q : Query) (s : branch.State) (at : ℕ
   -- a machine on its way back to what is left, which may be nothing
   back_settled : (o : Option ValuesLeft) → IsKept v o → IsSound s → Back (points (numbers_left v)) → Back (points_now o)
   back_settled None e sound m =
-      back_no_values INFINITY area prog q (names_of area) s.heaps.now sound.now.valid s.levels.current.posted at (registers_of c) (stack_of c) (choices_in s c ls) f.budget f.answers f.events f.reductions v.variable
+      back_no_values INFINITY INFINITY area prog q (names_of area) s.heaps.now sound.now.valid s.levels.current.posted at (registers_of c) (stack_of c) (choices_in s c ls) f.budget f.answers f.events f.reductions v.variable
       (subst (λ ns. Back (points ns)) e m)
   back_settled (Some w) e sound m = subst (λ (x : ValuesLeft). Back (choices_in (with_pair s) (pointed c at) (left_of at x ∷ ls))) (sym e.0) m
 
-  -- and one at work
-  runs_settled : (o : Option ValuesLeft) → IsKept v o → (h : Cells) (qs : List Indexical) → Going h qs (points (numbers_left v)) → Going h qs (points_now o)
-  runs_settled None e h qs m =
-      runs_over INFINITY area prog q (names_of area) h qs at (registers_of c) (stack_of c) (choices_in s c ls) f.budget f.answers f.events f.reductions s.heaps.now s.levels.current.posted v.variable at (registers_of c) (stack_of c)
-      (subst (λ ns. Going h qs (points ns)) e m)
-  runs_settled (Some w) e h qs m = subst (λ (x : ValuesLeft). Going h qs (choices_in (with_pair s) (pointed c at) (left_of at x ∷ ls))) (sym e.0) m
+  -- and one at work on the next value, before those
+  value_settled : IsHeap s.heaps.now → term_of (names_of area) s.heaps.now (cell.Ref v.variable) ≡ Var v.variable → (o : Option ValuesLeft) → IsKept v o → (m : ℕ) (now : Cells) (ts : List Touch) → IsUnified (names_of area) s.heaps.now (cell.Ref v.variable) (cell.Int (pos m)) now ts
+      → IsSameSize s.heaps.now now → Back (points (m ∷ numbers_left v)) → Going now (s.levels.current.posted ++ posts (store_touches ts)) (points_now o)
+  value_settled valid open_now None e m now ts u size g =
+      back_last_value INFINITY INFINITY area prog q (names_of area) s.heaps.now valid s.levels.current.posted at (registers_of c) (stack_of c) (choices_in s c ls) f.budget f.answers f.events f.reductions v.variable m open_now now ts u size
+      (subst (λ ns. Back (points (m ∷ ns))) e g)
+  value_settled valid open_now (Some w) e m now ts u size g =
+      subst (λ (x : ValuesLeft). Going now (s.levels.current.posted ++ posts (store_touches ts)) (choices_in (with_pair s) (pointed c at) (left_of at x ∷ ls))) (sym e.0)
+      (back_value INFINITY INFINITY area prog q (names_of area) s.heaps.now valid s.levels.current.posted at (registers_of c) (stack_of c) (choices_in s c ls) f.budget f.answers f.events f.reductions v.variable m (numbers_left v) open_now now ts u size g)
 
 -- ---- a value is tried
 
@@ -169,15 +176,15 @@ module _ (area : Area) (pool : IsPool area.pool) (s : branch.State) (at : ℕ) (
       tried_on : AreEquated s x z s' → Going area prog q s at c ls f v s'.heaps.now s'.levels.current.posted now_points
       tried_on e =
           subst (λ ps. Going area prog q s at c ls f v s'.heaps.now ps now_points) (sym e.posted)
-          (runs_settled area prog q s at c ls f (later v m) o kept s'.heaps.now (qs ++ posts (store_touches e.touches))
-          (back_value INFINITY area prog q (names_of area) h safe.sound.now.valid qs at (registers_of c) (stack_of c) (choices_in s c ls) f.budget f.answers f.events f.reductions v.variable m ns open_now.term s'.heaps.now e.touches (e.unified (names_of area)) e.size back))
+          (value_settled area prog q s at c ls f (later v m) safe.sound.now.valid open_now.term o kept m s'.heaps.now e.touches (e.unified (names_of area)) e.size back)
 
       tried_back : CannotUnify h x z ⊎ HasNoModelFor s x z → Back area prog q s at c ls f v now_points
       tried_back (inl un) = absurd (can_be (names_of area) (full_one area.pool.names pool.distinct) h safe.sound.now.valid v.variable (pos m) open_now.term un)
       tried_back (inr gone) =
           back_settled area prog q s at c ls f (later v m) o kept safe.sound
-          (runs_none INFINITY area prog q (names_of area) gone.now (qs ++ posts (store_touches gone.touches)) at (registers_of c) (stack_of c) (points area prog q s at c ls f v ns) f.budget f.answers f.events f.reductions gone.none
-          (back_value INFINITY area prog q (names_of area) h safe.sound.now.valid qs at (registers_of c) (stack_of c) (choices_in s c ls) f.budget f.answers f.events f.reductions v.variable m ns open_now.term gone.now gone.touches (gone.unified (names_of area)) gone.size back))
+          (run_fails INFINITY INFINITY area prog q (names_of area) gone.now (qs ++ posts (store_touches gone.touches)) at (registers_of c) (stack_of c) (points area prog q s at c ls f v ns) f.budget f.answers f.events f.reductions
+          (back_value INFINITY INFINITY area prog q (names_of area) h safe.sound.now.valid qs at (registers_of c) (stack_of c) (choices_in s c ls) f.budget f.answers f.events f.reductions v.variable m ns open_now.term gone.now gone.touches (gone.unified (names_of area)) gone.size back)
+          gone.none)
 
     module _ (sound : IsSound (with_mark s o)) (below : IsSameBelow (with_mark s o) s') where
       safe_now : IsSafe area (with_mark s o) at 0 (with_point c at o)
@@ -218,8 +225,8 @@ module _ (area : Area) (pool : IsPool area.pool) (s : branch.State) (at : ℕ) (
           → RunsWent area (task_of area prog q) s' (with_point c at o) (lefts_of at o ++ ls) (went_to at equal) f
       tried_runs true e prog q ls f g =
           let same = choices_same (with_mark s o) s' (with_point c at o) (lefts_of at o ++ ls) below in
-          subst (λ regs. Runs INFINITY area prog q (names_of area) s'.heaps.now s'.levels.current.posted at regs (stack_of (with_point c at o)) (choices_in s' (with_point c at o) (lefts_of at o ++ ls)) f.budget f.answers f.events f.reductions) (registers_same c at o)
-          (subst (λ st. Runs INFINITY area prog q (names_of area) s'.heaps.now s'.levels.current.posted at (registers_of c) st (choices_in s' (with_point c at o) (lefts_of at o ++ ls)) f.budget f.answers f.events f.reductions) (stack_same c at o)
+          subst (λ regs. Runs INFINITY INFINITY area prog q (names_of area) s'.heaps.now s'.levels.current.posted at regs (stack_of (with_point c at o)) (choices_in s' (with_point c at o) (lefts_of at o ++ ls)) f.budget f.answers f.events f.reductions) (registers_same c at o)
+          (subst (λ st. Runs INFINITY INFINITY area prog q (names_of area) s'.heaps.now s'.levels.current.posted at (registers_of c) st (choices_in s' (with_point c at o) (lefts_of at o ++ ls)) f.budget f.answers f.events f.reductions) (stack_same c at o)
           (subst (λ cs. Going area prog q s at c ls f v s'.heaps.now s'.levels.current.posted cs) same (tried_on prog q ls f g e)))
       tried_runs false e prog q ls f g = (let same = choices_same (with_mark s o) s' (with_point c at o) (lefts_of at o ++ ls) below in subst (λ cs. Back area prog q s at c ls f v cs) same (tried_back prog q ls f g e.0))
 
@@ -241,7 +248,7 @@ module _ (area : Area) (pool : IsPool area.pool) (s : branch.State) (at : ℕ) (
 module _ (area : Area) (s : branch.State) (at : ℕ) (c : Contents) (safe : IsSafe area s at 0 c) (o : Order) (holds : Holds area at (step.Label o)) (d : Cell) (at_d : cell_at c.registers 1 ≡ Some d) where
   -- back to the labelling, with these values of a variable
   abbrev Waiting : Program → Query → List Left → ℕ → Option ℕ → List Event → ℕ → List ℕ → ℕ → Type 0
-  Waiting prog q ls n k es r ks w = Returns INFINITY area prog q (names_of area) (choices_in (with_pair s) (pointed c at) (values ks w at ∷ ls)) n k es r
+  Waiting prog q ls n k es r ks w = Returns INFINITY INFINITY area prog q (names_of area) (choices_in (with_pair s) (pointed c at) (values ks w at ∷ ls)) n k es r
 
   -- a fault ends the query
   pub label_faults : (e : QueryFault) → labelled_in (names_of area) s o d ≡ faults e → Labels area s at c s c (Took (Fault e))
@@ -250,7 +257,7 @@ module _ (area : Area) (s : branch.State) (at : ℕ) (c : Contents) (safe : IsSa
     refl,
     λ prog q ls n k es r runnable m. (
         let pair = safe.sound.now in
-        run_label_fault INFINITY area prog q (names_of area) s.heaps.now pair.valid s.levels.current.posted at (registers_of c) (stack_of c) (choices_in s c ls) k es r runnable n (family_of s.levels.current.sets) pair.settled.model pair.settled.most m o d at_d holds e i),
+        run_label_fault INFINITY INFINITY area prog q (names_of area) s.heaps.now pair.valid s.levels.current.posted at (registers_of c) (stack_of c) (choices_in s c ls) k es r runnable n (family_of s.levels.current.sets) pair.settled.model pair.settled.most m o d at_d holds e i),
   )
 
   -- no member is open
@@ -260,7 +267,7 @@ module _ (area : Area) (s : branch.State) (at : ℕ) (c : Contents) (safe : IsSa
     refl,
     λ prog q ls n k es r runnable m. (
         let pair = safe.sound.now in
-        run_label_done INFINITY area prog q (names_of area) s.heaps.now pair.valid s.levels.current.posted at (registers_of c) (stack_of c) (choices_in s c ls) k es r runnable n (family_of s.levels.current.sets) pair.settled.model pair.settled.most m o d at_d holds i),
+        run_label_done INFINITY INFINITY area prog q (names_of area) s.heaps.now pair.valid s.levels.current.posted at (registers_of c) (stack_of c) (choices_in s c ls) k es r runnable n (family_of s.levels.current.sets) pair.settled.model pair.settled.most m o d at_d holds i),
   )
 
   -- the values of a variable are tried
@@ -274,7 +281,7 @@ module _ (area : Area) (s : branch.State) (at : ℕ) (c : Contents) (safe : IsSa
     λ prog q ls n k es r runnable m. (
         let pair = safe.sound.now in
         let all : numbers_left v ≡ values_of s i = left ∙ filter_from_low 0 0 INFINITY vs rising (omega arith) ∙ e in
-        let g = run_label INFINITY area prog q (names_of area) s.heaps.now pair.valid s.levels.current.posted at (registers_of c) (stack_of c) (choices_in s c ls) k es r runnable n (family_of s.levels.current.sets) pair.settled.model pair.settled.most m o d at_d holds i (values_of s i) told in
+        let g = run_label INFINITY INFINITY area prog q (names_of area) s.heaps.now pair.valid s.levels.current.posted at (registers_of c) (stack_of c) (choices_in s c ls) k es r runnable n (family_of s.levels.current.sets) pair.settled.model pair.settled.most m o d at_d holds i (values_of s i) told in
         spends_more (λ x j. Waiting prog q ls n k x j (values_of s i) i) (λ x j. RunsWent area (task_of area prog q) s' c' (lefts_of at t.left ++ ls) t.went (record { budget = n; answers = k; events = x; reductions = j }))
         (λ x j back. tried.runs prog q ls (record { budget = n; answers = k; events = x; reductions = j })
         (subst (λ w. Waiting prog q ls n k x j (numbers_left v) w) (sym same) (subst (λ ks. Waiting prog q ls n k x j ks i) (sym all) back)))
@@ -319,6 +326,6 @@ open_kept area s at c v w (Some u) s1 c1 keeps opened = subst (λ (x : branch.St
 -- A machine that took its newest choice point away was on its way back to a point with its registers, slots and continuations now.
 pub back_at : (area : Area) (t : Task) (s s' : branch.State) (at : ℕ) (c c' : Contents) → IsUndone s s' → c.points ≡ point_of c' at ∷ c'.points → (l : Left) (ls : List Left) (f : Future) → ReturnsTo area t s c (l ∷ ls) f → ReturnsTo area t (with_pair s') (pointed c' at) (l ∷ ls) f
 back_at area t s s' at c c' undone some l ls f m =
-    subst (λ hs. Returns INFINITY area t.program t.query t.name (choices_of (point_of c' at ∷ c'.points) hs (s'.levels.current ∷ s'.levels.below) (l ∷ ls)) f.budget f.answers f.events f.reductions) undone.heaps
-    (subst (λ vs. Returns INFINITY area t.program t.query t.name (choices_of (point_of c' at ∷ c'.points) s.heaps.below vs (l ∷ ls)) f.budget f.answers f.events f.reductions) undone.levels
-    (subst (λ ps. Returns INFINITY area t.program t.query t.name (choices_of ps s.heaps.below s.levels.below (l ∷ ls)) f.budget f.answers f.events f.reductions) some m))
+    subst (λ hs. Returns INFINITY INFINITY area t.program t.query t.name (choices_of (point_of c' at ∷ c'.points) hs (s'.levels.current ∷ s'.levels.below) (l ∷ ls)) f.budget f.answers f.events f.reductions) undone.heaps
+    (subst (λ vs. Returns INFINITY INFINITY area t.program t.query t.name (choices_of (point_of c' at ∷ c'.points) s.heaps.below vs (l ∷ ls)) f.budget f.answers f.events f.reductions) undone.levels
+    (subst (λ ps. Returns INFINITY INFINITY area t.program t.query t.name (choices_of ps s.heaps.below s.levels.below (l ∷ ls)) f.budget f.answers f.events f.reductions) some m))

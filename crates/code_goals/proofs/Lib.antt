@@ -7,5 +7,6 @@ mod BuiltinGoals
 mod Constraining
 mod Posting
 mod Labelling
+mod Leaf
 mod Answering
 pub mod Lemmas

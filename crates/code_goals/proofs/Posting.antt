@@ -19,7 +19,7 @@ use Rattle.wam_code.specs.Area.{Area, Holds, range_at}
 use Rattle.code_areas.specs.Areas.{cell_at, Contents}
 use Rattle.code_steps.specs.Registers.{AreIn}
 use Rattle.code_steps.specs.Running.{Runs, Returns}
-use Rattle.code_steps.proofs.Lemmas.{spends_more, run_range_fault, run_range}
+use Rattle.code_steps.proofs.Lemmas.{spends_more, run_fails, run_range_fault, run_range}
 use Rattle.code_states.specs.Choices.{choices_in}
 use Rattle.code_states.specs.Machine.{registers_of, stack_of}
 use Rattle.code_states.specs.Safety.{IsSafe}
@@ -29,7 +29,6 @@ use Rattle.code_goals.specs.Posting.{PostsAt}
 use Rattle.code_goals.specs.Tasks.{names_of}
 use Rattle.code_goals.specs.Taking.{IsSafeNext, Takes}
 use Rattle.code_goals.proofs.Constraining.{gathered_own}
-use Rattle.code_goals.proofs.Moving.{runs_none}
 use Rattle.code_goals.proofs.Safe.{choices_same, on_safe, goes_back}
 
 -- one register for the target, and one for each variable of the range
@@ -56,7 +55,7 @@ module _ (area : Area) (s : branch.State) (at : ℕ) (c : Contents) (safe : IsSa
   pub post_fault : (e : QueryFault) (s' s'' : branch.State) → PostsCells s d ds R s' (outcome.Fault e) → Takes area s at c s'' (Fault e)
   post_fault e s' s'' told prog q ls n k es r runnable m =
       let pair = safe.sound.now in
-      run_range_fault INFINITY area prog q (names_of area) s.heaps.now pair.valid qs at (registers_of c) (stack_of c) (choices_in s c ls) k es r runnable n G pair.settled.model pair.settled.most m number args d at_d ds cells counted holds e (told (names_of area)).0
+      run_range_fault INFINITY INFINITY area prog q (names_of area) s.heaps.now pair.valid qs at (registers_of c) (stack_of c) (choices_in s c ls) k es r runnable n G pair.settled.model pair.settled.most m number args d at_d ds cells counted holds e (told (names_of area)).0
 
   module _ (s' : branch.State) (below : IsSameBelow s s') where
     -- the range is posted, and the machine goes on
@@ -64,9 +63,9 @@ module _ (area : Area) (s : branch.State) (at : ℕ) (c : Contents) (safe : IsSa
     post_kept told prog q ls n k es r runnable m =
         let pair = safe.sound.now in
         let x = (told (names_of area)).0 in
-        subst (λ cs. Spends (λ later j. Runs INFINITY area prog q (names_of area) s'.heaps.now s'.levels.current.posted (suc at) (registers_of c) (stack_of c) cs n k later j) [] es r) (choices_same s s' c ls below)
-        (subst (λ ps. Spends (λ later j. Runs INFINITY area prog q (names_of area) s'.heaps.now ps (suc at) (registers_of c) (stack_of c) (choices_in s c ls) n k later j) [] es r) (sym x.after)
-        (run_range INFINITY area prog q (names_of area) s.heaps.now pair.valid qs at (registers_of c) (stack_of c) (choices_in s c ls) k es r runnable n G pair.settled.model pair.settled.most m number args d at_d ds cells counted holds
+        subst (λ cs. Spends (λ later j. Runs INFINITY INFINITY area prog q (names_of area) s'.heaps.now s'.levels.current.posted (suc at) (registers_of c) (stack_of c) cs n k later j) [] es r) (choices_same s s' c ls below)
+        (subst (λ ps. Spends (λ later j. Runs INFINITY INFINITY area prog q (names_of area) s'.heaps.now ps (suc at) (registers_of c) (stack_of c) (choices_in s c ls) n k later j) [] es r) (sym x.after)
+        (run_range INFINITY INFINITY area prog q (names_of area) s.heaps.now pair.valid qs at (registers_of c) (stack_of c) (choices_in s c ls) k es r runnable n G pair.settled.model pair.settled.most m number args d at_d ds cells counted holds
         x.fine x.slot s'.heaps.now x.touches x.linked))
 
     -- or the store has no model then, and the machine goes back
@@ -76,11 +75,11 @@ module _ (area : Area) (s : branch.State) (at : ℕ) (c : Contents) (safe : IsSa
         let failed = (told (names_of area)).0 in
         let ps = failed.0 in
         let x = failed.1 in
-        subst (λ cs. Spends (λ later j. Returns INFINITY area prog q (names_of area) cs n k later j) [] es r) (choices_same s s' c ls below)
-        (spends_more (λ later j. Runs INFINITY area prog q (names_of area) s'.heaps.now ps (suc at) (registers_of c) (stack_of c) (choices_in s c ls) n k later j) (λ later j. Returns INFINITY area prog q (names_of area) (choices_in s c ls) n k later j)
-        (λ later j w. runs_none INFINITY area prog q (names_of area) s'.heaps.now ps (suc at) (registers_of c) (stack_of c) (choices_in s c ls) n k later j failed.2 w) [] es r
-        (subst (λ ts. Spends (λ later j. Runs INFINITY area prog q (names_of area) s'.heaps.now ts (suc at) (registers_of c) (stack_of c) (choices_in s c ls) n k later j) [] es r) (sym x.after)
-        (run_range INFINITY area prog q (names_of area) s.heaps.now pair.valid qs at (registers_of c) (stack_of c) (choices_in s c ls) k es r runnable n G pair.settled.model pair.settled.most m number args d at_d ds cells counted holds
+        subst (λ cs. Spends (λ later j. Returns INFINITY INFINITY area prog q (names_of area) cs n k later j) [] es r) (choices_same s s' c ls below)
+        (spends_more (λ later j. Runs INFINITY INFINITY area prog q (names_of area) s'.heaps.now ps (suc at) (registers_of c) (stack_of c) (choices_in s c ls) n k later j) (λ later j. Returns INFINITY INFINITY area prog q (names_of area) (choices_in s c ls) n k later j)
+        (λ later j w. run_fails INFINITY INFINITY area prog q (names_of area) s'.heaps.now ps (suc at) (registers_of c) (stack_of c) (choices_in s c ls) n k later j w failed.2) [] es r
+        (subst (λ ts. Spends (λ later j. Runs INFINITY INFINITY area prog q (names_of area) s'.heaps.now ts (suc at) (registers_of c) (stack_of c) (choices_in s c ls) n k later j) [] es r) (sym x.after)
+        (run_range INFINITY INFINITY area prog q (names_of area) s.heaps.now pair.valid qs at (registers_of c) (stack_of c) (choices_in s c ls) k es r runnable n G pair.settled.model pair.settled.most m number args d at_d ds cells counted holds
         x.fine x.slot s'.heaps.now x.touches x.linked)))
 
     -- safe where the range is posted

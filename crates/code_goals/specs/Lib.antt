@@ -1,5 +1,6 @@
 pub mod Tasks
 pub mod Arguments
+pub mod Best
 pub mod Builtins
 pub mod GoalTexts
 pub mod Taking

@@ -26,9 +26,12 @@ fn arity(kind: ConstraintKind) -> usize
     ensures { result ≡ constraint_arity kind }
 {
     match kind {
-        ConstraintKind::Compare(_) => 2,
         ConstraintKind::AllDifferent => 1,
-        ConstraintKind::Element | ConstraintKind::Atmost => 3,
+        ConstraintKind::Compare(_) | ConstraintKind::Not | ConstraintKind::Reified => 2,
+        ConstraintKind::Element
+        | ConstraintKind::Atmost
+        | ConstraintKind::And
+        | ConstraintKind::Or => 3,
     }
 }
 

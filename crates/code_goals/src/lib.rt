@@ -2,6 +2,7 @@
 #![tactic(auto)]
 
 mod answers;
+mod best;
 mod builtins;
 mod constraints;
 mod labels;
@@ -9,6 +10,7 @@ mod next;
 mod ranges;
 
 pub use crate::answers::{show_answer, show_written};
+pub use crate::best::take_best;
 pub use crate::builtins::take_builtin;
 pub use crate::constraints::take_constraint;
 pub use crate::labels::{Labelled, Tried, ValuesLeft, take_label, try_value};

@@ -56,6 +56,14 @@ use Rattle.std.proofs.Math.Nat.{min-eq_left}
 abbrev pub seen : Area → ℕ → branch.State → Contents → List Label → Stage → ℕ → Option ℕ → ℕ → State
 seen area query s c ls st n k spent = record { area = area; query = query; branch = s; areas = c; labels = ls; stage = st; budget = n; limit = k; spent = spent; lost = false; limits = no_limits; answers = 0 }
 
+-- ---- a run that goes on has not ended
+
+going_on : (at : ℕ) (x : Ending) → Going at ≡ Ended x → ⊥
+going_on at x e = cc
+
+going_back : (x : Ending) → Returning ≡ Ended x → ⊥
+going_back x e = cc
+
 -- ---- the last event
 
 same_event : (names : List (List ℕ)) (e : Ending) → event_of names (last_event e) ≡ event_of [] (last_event e)
@@ -95,9 +103,9 @@ comes_of_end s ending.Limit ended = ended
 comes_of_end s (ending.Fault f) ended = ended
 
 -- A machine that comes to its end says that, and has nothing else to say.
-pub ends_says : (old : State) (e : Ending) (s' : branch.State) (c' : Contents) (ls' : List Label) (n' : ℕ) (k' : Option ℕ) (spent' : ℕ) → spent' + n' ≡ old.spent + old.budget → k' ≡ old.limit → IsEndedBy old.area n' k' e
+pub ends_says : (old : State) (e : Ending) (s' : branch.State) (c' : Contents) (ls' : List Label) (n' : ℕ) (k' : Option ℕ) (spent' : ℕ) → spent' + n' ≡ old.spent + old.budget → k' ≡ old.limit → IsEndedBy old.area n' k' e → ((x : Ending) → old.stage ≡ Ended x → ⊥)
     → ((es : List Event) (total : ℕ) → StandsFor old es total → (es ≡ event_of [] (last_event e) ∷ []) × (total ≡ spent')) → Says old (last_event e) (seen old.area old.query s' c' ls' (Ended e) n' k' spent')
-ends_says old e s' c' ls' n' k' spent' paced limit ended stops =
+ends_says old e s' c' ls' n' k' spent' paced limit ended open_ stops =
     let new : State = seen old.area old.query s' c' ls' (Ended e) n' k' spent' in
     record {
       next = λ es total w.
@@ -112,6 +120,8 @@ ends_says old e s' c' ls' n' k' spent' paced limit ended stops =
       paced = paced;
       limit = allows_end e old.limit k' limit;
       comes = comes_of_end new e ended;
+      ended = λ f. (e, refl, refl);
+      again = λ x i. absurd (open_ x i);
     }
 
 -- and tells it
@@ -197,7 +207,7 @@ module _ (area : Area) (query : ℕ) (s s' : branch.State) (c c' : Contents) (ls
         omega (arith, f)
 
     pub moved_quiet : IsQuiet was now
-    moved_quiet = record { stands = moved_stands; falls = falls_by w moves.falls; paced = refl; limit = refl }
+    moved_quiet = record { stands = moved_stands; falls = falls_by w moves.falls; paced = refl; limit = refl; unended = λ x e. going_on at x e }
 
   -- ---- the way back
 
@@ -240,6 +250,7 @@ module _ (area : Area) (query : ℕ) (s s' : branch.State) (c c' : Contents) (ls
       falls = falls_back w back.work;
       paced = refl;
       limit = refl;
+      unended = λ x e. going_back x e;
     }
 
 -- ---- a goal
@@ -305,6 +316,7 @@ module _ (area : Area) (query : ℕ) (s s' : branch.State) (at : ℕ) (c c' : Co
     falls = less_at to l;
     paced = one_spent;
     limit = refl;
+    unended = λ x e. going_on at x e;
   }
 
   gone_by : whole_back area c' ls' ≤ most area * suc (whole_at area at c ls) → Told next.Back → IsQuiet before (after Returning)
@@ -322,6 +334,7 @@ module _ (area : Area) (query : ℕ) (s s' : branch.State) (at : ℕ) (c c' : Co
     falls = less_back l;
     paced = one_spent;
     limit = refl;
+    unended = λ x e. going_on at x e;
   }
 
   -- what a goal says first
@@ -351,12 +364,14 @@ module _ (area : Area) (query : ℕ) (s s' : branch.State) (at : ℕ) (c c' : Co
     paced = one_spent;
     limit = allows k;
     comes = comes;
+    ended = λ f. absurd (true≢false (sym f ∙ ap is_final (is []) ∙ open_));
+    again = λ x i. absurd (going_on at x i);
   }
 
   next_step : (y : Next) → IsSafeNext area s' c' y → NeedsGoal area y → next_work area c' ls' y ≤ most area * suc (whole_at area at c ls) → Told y → IsStep before (saying_next y) (after (stage_next y))
   next_step (next.On to) safe g l told = quiet_by to l told
   next_step next.Back safe g l told = gone_by l told
-  next_step (next.Fault f) safe g l told = told_end before (after (Ended (ending.Fault f))) (ending.Fault f) (ends_says before (ending.Fault f) s' c' ls' n k (spent + 1) one_spent refl g (λ es total h. (let w = told h.program h.query h.task es h.later h.stands in (w.0, (let a = h.all in let j = w.1 in omega (arith, a, j))))))
+  next_step (next.Fault f) safe g l told = told_end before (after (Ended (ending.Fault f))) (ending.Fault f) (ends_says before (ending.Fault f) s' c' ls' n k (spent + 1) one_spent refl g (going_on at) (λ es total h. (let w = told h.program h.query h.task es h.later h.stands in (w.0, (let a = h.all in let j = w.1 in omega (arith, a, j))))))
   next_step (next.Write to) safe g l told = record {
     shows = safe;
     says = λ e is.
@@ -376,13 +391,13 @@ module _ (area : Area) (query : ℕ) (s s' : branch.State) (at : ℕ) (c c' : Co
 module _ (area : Area) (query : ℕ) (s : branch.State) (c : Contents) (ls : List Label) (k : Option ℕ) (spent : ℕ) where
   pub budget_says : (at : ℕ) (i : Code) → TakesGoal i → Holds area at i → IsMachine (seen area query s c ls (Going at) 0 k spent) → Says (seen area query s c ls (Going at) 0 k spent) event.Budget (seen area query s c ls (Ended ending.Budget) 0 k spent)
   budget_says at i takes holds m =
-      ends_says (seen area query s c ls (Going at) 0 k spent) ending.Budget s c ls 0 k spent refl refl refl
+      ends_says (seen area query s c ls (Going at) 0 k spent) ending.Budget s c ls 0 k spent refl refl refl (going_on at)
       (λ es total h. (let z = budget_ends area (task_of area h.program h.query) s m.ready.0.sound at i takes holds c (lefts_by c.points ls) k es h.later h.stands in (z.0, (let a = h.all in let j = z.1 in omega (arith, a, j)))))
 
   -- no choice point is left
   pub none_says : (n : ℕ) → c.points ≡ [] → Says (seen area query s c ls Returning n k spent) event.End (seen area query s c ls (Ended ending.End) n k spent)
   none_says n none =
-      ends_says (seen area query s c ls Returning n k spent) ending.End s c ls n k spent refl refl tt
+      ends_says (seen area query s c ls Returning n k spent) ending.End s c ls n k spent refl refl tt going_back
       (λ es total h. (let z = returned_ends area (task_of area h.program h.query) s c (lefts_by c.points ls) (record { budget = n; answers = k; events = es; reductions = h.later }) none h.stands in (z.0, (let a = h.all in let j = z.1 in omega (arith, a, j)))))
 
 -- ---- an answer
@@ -494,6 +509,8 @@ module _ (area : Area) (query : ℕ) (s : branch.State) (at : ℕ) (c : Contents
         paced = refl;
         limit = allowed k m.ready.2;
         comes = tt;
+        ended = λ f. absurd (true≢false (sym f));
+        again = λ y i. absurd (going_on at y i);
       }
 
 -- ---- runs of steps
@@ -511,6 +528,7 @@ run_on_from old s new k h = record {
   less = (let a = h.less in let b = k.less in omega (arith, a, b));
   paced = h.paced ∙ k.paced;
   limit = h.limit ∙ k.limit;
+  still = λ x e. (let a = k.still x e in let b = h.still x a.0 in (b.0, b.1 ∙ a.1));
 }
 
 -- what is said after quiet steps is said of their start
@@ -527,6 +545,8 @@ says_from old s new e k h =
       paced = h.paced ∙ k.paced;
       limit = subst (λ j. Allows e j new.limit) k.limit h.limit;
       comes = h.comes;
+      ended = h.ended;
+      again = λ x i. (let a = k.still x i in let b = h.again x a.0 in (b.0, b.1, b.2 ∙ a.1));
     }
 
 -- so is the event that is made then
@@ -577,6 +597,8 @@ module _ (a b : Area) (same : a ≡ b) (s : branch.State) (r : Run) (lost : Bool
         paced = told.paced;
         limit = told.limit;
         comes = told.comes;
+        ended = told.ended;
+        again = told.again;
       })
 
 -- ---- limits

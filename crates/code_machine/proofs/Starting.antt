@@ -31,7 +31,7 @@ module _ (area : Area) (verified : IsVerified area) (pool : IsPool area.pool) (q
     steps = omega (arith, steps);
   }
 
-  pub first_stands : (prog : Program) (q : Query) → MayRun area query prog q → (es : List Event) (r : ℕ) → Run INFINITY prog q n k (start_of q ∷ []) es r → StandsFor first es r
+  pub first_stands : (prog : Program) (q : Query) → MayRun area query prog q → (es : List Event) (r : ℕ) → Run INFINITY INFINITY prog q n k (start_of q ∷ []) es r → StandsFor first es r
   first_stands prog q may es r run =
       let one : may.span ≡ span = same_Some may.span span (sym may.has ∙ has) in
       record {
@@ -55,5 +55,5 @@ module _ (area : Area) (verified : IsVerified area) (pool : IsPool area.pool) (q
     pub new_machine : query < length area.queries → IsSound s → IsLimit k → n < 2 ^ 64 → IsMachine (seen area query s a (reverse items) (Going at) n k 0)
     new_machine low sound limit steps = same (λ t b l j. IsMachine (seen area query t b l (Going j) n k 0)) (first_machine low (subst IsSound s_is sound) limit steps)
 
-    pub new_stands : (prog : Program) (q : Query) → MayRun area query prog q → (es : List Event) (r : ℕ) → Run INFINITY prog q n k (start_of q ∷ []) es r → StandsFor (seen area query s a (reverse items) (Going at) n k 0) es r
+    pub new_stands : (prog : Program) (q : Query) → MayRun area query prog q → (es : List Event) (r : ℕ) → Run INFINITY INFINITY prog q n k (start_of q ∷ []) es r → StandsFor (seen area query s a (reverse items) (Going at) n k 0) es r
     new_stands prog q may es r run = same (λ t b l j. StandsFor (seen area query t b l (Going j) n k 0) es r) (first_stands prog q may es r run)

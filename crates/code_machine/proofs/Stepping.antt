@@ -32,6 +32,7 @@ pub goal_takes : (i : Code) → IsGoal i → TakesGoal i
 goal_takes (step.Builtin k) g = tt
 goal_takes (step.Constrain k) g = tt
 goal_takes (step.Label o) g = tt
+goal_takes (step.Best o least) g = tt
 goal_takes (step.PostRange r n) g = tt
 goal_takes _ g = absurd g
 
@@ -40,6 +41,9 @@ pub call_takes : (i : Code) → IsCall i → TakesGoal i
 call_takes (step.Call e) g = tt
 call_takes (step.Execute e) g = tt
 call_takes (step.Either to) g = tt
+call_takes (step.TestOnly n) g = tt
+call_takes (step.EnterTest n m to) g = tt
+call_takes (step.CutTo n) g = tt
 call_takes _ g = absurd g
 
 module _ (area : Area) (query : ℕ) (s : branch.State) (c : Contents) (ls : List Label) (st : Stage) (n : ℕ) (k : Option ℕ) (spent : ℕ) (m : IsMachine (seen area query s c ls st n k spent)) where

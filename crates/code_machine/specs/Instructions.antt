@@ -6,7 +6,7 @@ use Rattle.wam_code.specs.declared.instruction.Instr.{Instr}
 use Rattle.wam_code.specs.declared.instruction.Instr.TheVariants as instr
 use Rattle.wam_code.specs.Area.{Area, Holds}
 
--- none of a clause's terms or of its frame, no jump, and no switch by kinds
+-- none of a clause's terms or of its frame, no level, no jump, and no switch by kinds
 abbrev pub IsOther : Code → Type 0
 IsOther (step.GetVariable r a) = ⊥
 IsOther (step.GetValue r a) = ⊥
@@ -21,23 +21,28 @@ IsOther (step.PutStructure f n a) = ⊥
 IsOther (step.Allocate n) = ⊥
 IsOther step.Deallocate = ⊥
 IsOther step.Proceed = ⊥
+IsOther (step.Level n) = ⊥
 IsOther (step.Jump to) = ⊥
 IsOther (step.SwitchOnTerm v k i s) = ⊥
 IsOther _ = Unit {0}
 
--- a goal that is no call and no disjunction
+-- a goal that is no call, no disjunction, no test and no cut
 abbrev pub IsGoal : Code → Type 0
 IsGoal (step.Builtin k) = Unit {0}
 IsGoal (step.Constrain k) = Unit {0}
 IsGoal (step.Label o) = Unit {0}
+IsGoal (step.Best o least) = Unit {0}
 IsGoal (step.PostRange r n) = Unit {0}
 IsGoal _ = ⊥
 
--- a call, or a disjunction
+-- a call, a disjunction, a test or a cut
 abbrev pub IsCall : Code → Type 0
 IsCall (step.Call e) = Unit {0}
 IsCall (step.Execute e) = Unit {0}
 IsCall (step.Either to) = Unit {0}
+IsCall (step.TestOnly n) = Unit {0}
+IsCall (step.EnterTest n m to) = Unit {0}
+IsCall (step.CutTo n) = Unit {0}
 IsCall _ = ⊥
 
 -- a choice, or a switch by keys
@@ -59,6 +64,6 @@ abbrev pub IsPost : Instr → Type 0
 IsPost (instr.PostRange r n) = Unit {0}
 IsPost _ = ⊥
 
--- the code has a goal that is no call and no disjunction
+-- the code has a goal that is no call, no disjunction, no test and no cut
 abbrev pub HasGoal : Area → Type 0
 HasGoal area = (at : ℕ) × (i : Code) × Holds area at i × IsGoal i

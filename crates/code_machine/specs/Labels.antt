@@ -1,5 +1,5 @@
 -- What is left at each choice point: the values of a labelling, or the place to come back to.
-use Rattle.std.specs.Prelude.{◌≡◌, ◌⊎◌, ℕ, ◌<◌, ◌+◌, ◌==◌, if◌then◌else◌, List, [], ◌∷◌, length}
+use Rattle.std.specs.Prelude.{◌≡◌, ◌⊎◌, ℕ, ◌<◌, ◌+◌, ◌==◌, ltb, if◌then◌else◌, List, [], ◌∷◌, length}
 use Rattle.heap_cells.specs.Cells.{Cells}
 use Rattle.wam_code.specs.Area.{Area}
 use Rattle.code_areas.specs.Areas.{Point, Contents}
@@ -22,6 +22,11 @@ AreLabels area [] hs (l ∷ ls) = ⊥
 AreLabels area (p ∷ ps) [] (l ∷ ls) = ⊥
 AreLabels area (p ∷ ps) (h ∷ hs) (l ∷ ls) =
     ((l.point ≡ length ps) × IsOpen area h l.values × AreLabels area ps hs ls) ⊎ ((l.point < length ps) × AreLabels area ps hs (l ∷ ls))
+
+-- those of the points that are left, where so many of the oldest are
+abbrev pub labels_below : ℕ → List Label → List Label
+labels_below n [] = []
+labels_below n (l ∷ ls) = if ltb l.point n then l ∷ ls else labels_below n ls
 
 -- ---- the work that takes no reduction
 

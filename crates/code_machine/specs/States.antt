@@ -205,12 +205,21 @@ ComesOf s (event.Fault f) = HasGoal s.area
 ComesOf s event.End = Unit {0}
 ComesOf s (event.Answer x) = Unit {0}
 
+-- the run has ended, and the event says how
+abbrev pub IsEndOf : MachineEvent → Stage → Type 0
+IsEndOf e st = (x : Ending) × (st ≡ Ended x) × (e ≡ last_event x)
+
+-- Where a run has ended, it stays so, and spends nothing more.
+abbrev pub StaysEnded : State → State → Type 0
+StaysEnded old new = (x : Ending) → old.stage ≡ Ended x → (new.stage ≡ Ended x) × (new.spent ≡ old.spent)
+
 -- nothing is said, and the same is still to come
 pub record IsQuiet (old new : State) : Type 0 where
   pub stands : (es : List Event) (total : ℕ) → StandsFor old es total → StandsFor new es total
   pub falls : left new < left old
   pub paced : IsPaced old new
   pub limit : new.limit ≡ old.limit
+  pub unended : (x : Ending) → old.stage ≡ Ended x → ⊥
 
 -- the event is the first of those still to come, and the others are left
 pub record Says (old : State) (e : MachineEvent) (new : State) : Type 0 where
@@ -222,6 +231,9 @@ pub record Says (old : State) (e : MachineEvent) (new : State) : Type 0 where
   pub paced : IsPaced old new
   pub limit : Allows e old.limit new.limit
   pub comes : ComesOf new e
+  pub ended : is_final (event_of [] e) ≡ true → IsEndOf e new.stage
+  -- a run that had ended says so again
+  pub again : (x : Ending) → old.stage ≡ Ended x → (e ≡ last_event x) × (new.stage ≡ Ended x) × (new.spent ≡ old.spent)
 
 -- the event of what is said, with the terms that the machine shows there
 abbrev pub IsEvent : State → Saying → MachineEvent → Type 0
@@ -246,16 +258,20 @@ pub record Tells (old : State) (w : Saying) (new : State) : Type 0 where
 abbrev pub IsStep : State → Option Saying → State → Type 0
 IsStep old o new = MatchOption o (IsQuiet old new) (λ w. Tells old w new)
 
--- With this budget, an instruction that may say something: the answer, a goal that is no call, or any goal where no reduction is left.
+-- With this budget, an instruction that may say something: the answer, a goal that is no call, no disjunction, no test and no cut, or any goal where no reduction is left.
 abbrev pub MaySay : ℕ → Code → Type 0
 MaySay n step.AnswerNow = Unit {0}
 MaySay n (step.Builtin k) = Unit {0}
 MaySay n (step.Constrain k) = Unit {0}
 MaySay n (step.Label o) = Unit {0}
+MaySay n (step.Best o least) = Unit {0}
 MaySay n (step.PostRange r m) = Unit {0}
 MaySay n (step.Call e) = n ≡ 0
 MaySay n (step.Execute e) = n ≡ 0
 MaySay n (step.Either to) = n ≡ 0
+MaySay n (step.TestOnly m) = n ≡ 0
+MaySay n (step.EnterTest m j to) = n ≡ 0
+MaySay n (step.CutTo m) = n ≡ 0
 MaySay n _ = ⊥
 
 -- at the place of such an instruction, on the way back with no choice point left, or at the end
@@ -280,6 +296,7 @@ pub record StillRuns (old new : State) : Type 0 where
   pub less : left new ≤ left old
   pub paced : IsPaced old new
   pub limit : new.limit ≡ old.limit
+  pub still : StaysEnded old new
 
 -- Steps that say nothing, with less left to be done; or something may have to be said behind them.
 abbrev pub WalksOn : State → State → Bool → Type 0

@@ -111,10 +111,6 @@ pub record Spends (area : Area) (s : branch.State) (at : ℕ) (c : Contents) (ls
   pub inside : (number : ℕ) → IsInside area number c (Going at) → IsInside area number c' (stage_next x)
   pub work : next_work area c' ls' x ≤ most area * suc (whole_at area at c ls)
 
--- A reduction is spent on a call or a disjunction, whatever the labels are, which stay.
-abbrev pub CallsTo : Area → branch.State → ℕ → Contents → branch.State → Contents → ℕ → Type 0
-CallsTo area s at c s' c' to = (ls : List Label) → AreLabels area c.points s.heaps.below ls → Spends area s at c ls s' c' ls (next.On to)
-
 -- where a goal leads that was a labelling
 abbrev pub next_of : Went → Next
 next_of (On to) = next.On to

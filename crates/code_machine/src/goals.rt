@@ -9,14 +9,15 @@ ghost use Rattle.code_states.specs.Safety.{IsSafe};
 ghost use Rattle.code_goals.specs.Taking.{IsSafeNext, LeadsNext, Takes};
 ghost use Rattle.code_machine.specs.Labels.{AreLabels};
 ghost use Rattle.code_machine.specs.Instructions.{IsCall, IsGoal, IsPost};
-ghost use Rattle.code_machine.specs.Steps.{next_of, CallsTo, Spends};
+ghost use Rattle.code_goals.specs.declared.next.Next.TheVariants as next;
+ghost use Rattle.code_machine.specs.Steps.{next_of, Spends};
 
-use crate::labels::keep_values;
+use crate::labels::{drop_labels, keep_values};
 use crate::run::Label;
 use branch_state::BranchState;
 use code_areas::Areas;
-use code_control::{call, either, execute};
-use code_goals::{Labelled, Next, take_builtin, take_constraint, take_label, take_post};
+use code_control::{call, cut_to, either, enter_test, execute, test_only};
+use code_goals::{Labelled, Next, take_best, take_builtin, take_constraint, take_label, take_post};
 use code_states::Went;
 use fd_language::NoMemory;
 use fd_model::kinds::Order;
@@ -86,7 +87,30 @@ fn post<A: Agenda + Drop>(
     }
 }
 
-/// Takes the call or the disjunction at a place, and gives the place where it leads. The error is want of memory.
+/// Takes the cut at a place, to the level in the slot `n`, and gives the next place. What is left for the choice points that it drops is
+/// dropped too. No memory.
+#[inline]
+fn take_cut<A: Agenda + Drop>(
+    code: &CodeArea,
+    at: usize,
+    n: usize,
+    branch: &mut BranchState<A>,
+    areas: &mut Areas,
+    labels: &mut Vec<Label>,
+) -> usize
+    requires safe { IsSafe code.now branch.old at 0 areas.old }
+    requires labels { AreLabels code.now areas.old.points branch.old.heaps.below
+        (reverse labels.old.items) }
+    requires holds { Holds code.now at (step.CutTo n) }
+    ensures { Spends code.now branch.old at areas.old (reverse labels.old.items) branch.new areas.new
+        (reverse labels.new.items) (next.On result) }
+{
+    let to = cut_to(code, at, n, branch, areas);
+    drop_labels(labels, areas.points());
+    to
+}
+
+/// Takes the call, the disjunction, the test or the cut at a place, and gives the place where it leads. The error is want of memory.
 #[inline(always)]
 pub(crate) fn take_call<A: Agenda + Drop>(
     code: &CodeArea,
@@ -94,16 +118,23 @@ pub(crate) fn take_call<A: Agenda + Drop>(
     instruction: Code,
     branch: &mut BranchState<A>,
     areas: &mut Areas,
+    labels: &mut Vec<Label>,
 ) -> Result<usize, NoMemory>
     requires safe { IsSafe code.now branch.old at 0 areas.old }
+    requires labels { AreLabels code.now areas.old.points branch.old.heaps.below
+        (reverse labels.old.items) }
     requires holds { Holds code.now at instruction }
     requires call { IsCall instruction }
-    ensures { IfOk result (CallsTo code.now branch.old at areas.old branch.new areas.new) }
+    ensures { IfOk result (λ to. Spends code.now branch.old at areas.old (reverse labels.old.items)
+        branch.new areas.new (reverse labels.new.items) (next.On to)) }
 {
     match instruction {
         Code::Call(e) => call(code, at, e, branch, areas),
         Code::Execute(e) => Ok(execute(code, at, e, branch, areas)),
         Code::Either(to) => either(code, at, to, branch, areas),
+        Code::TestOnly(n) => Ok(test_only(code, at, n, branch, areas)),
+        Code::EnterTest(n, m, to) => enter_test(code, at, n, m, to, branch, areas),
+        Code::CutTo(n) => Ok(take_cut(code, at, n, branch, areas, labels)),
         _ => unreachable!(),
     }
 }
@@ -133,6 +164,9 @@ pub(crate) fn take_goal<A: Agenda + Drop>(
             take_constraint(code, at, kind, branch, areas, &mut scratch.cells)
         }
         Code::Label(order) => take_labelling(code, at, order, branch, areas, labels, scratch),
+        Code::Best(order, least) => {
+            take_best(code, at, order, least, branch, areas, &mut scratch.touches)
+        }
         Code::PostRange(_, _) => post(code, at, code.instr(at), branch, areas, scratch),
         _ => unreachable!(),
     }

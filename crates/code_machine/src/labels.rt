@@ -1,6 +1,7 @@
 //! The values that labellings are still to try, by their choice points.
 
 ghost use Rattle.std.specs.Prelude.{◌≡◌, reverse, OnOk};
+ghost use Rattle.code_machine.specs.Labels.{labels_below};
 ghost use Rattle.code_machine.specs.Steps.{labelled, TakesValues};
 
 use crate::run::Label;
@@ -33,5 +34,18 @@ pub(crate) fn take_values(labels: &mut Vec<Label>, point: usize) -> Option<Value
     match labels.pop() {
         Some(label) => Some(label.values),
         None => None,
+    }
+}
+
+/// Keeps the values of the oldest `points` choice points alone: the others are gone. No memory.
+pub(crate) fn drop_labels(labels: &mut Vec<Label>, points: usize)
+    ensures { reverse labels.new.items ≡ labels_below points (reverse labels.old.items) }
+{
+    'dropping: loop {
+        match labels.last() {
+            Some(label) if label.point >= points => {}
+            _ => return,
+        }
+        labels.pop();
     }
 }

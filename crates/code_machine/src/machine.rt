@@ -8,7 +8,9 @@ ghost use Rattle.machine_relation.specs.Next.{is_final, IsNext};
 ghost use Rattle.machine_events.specs.Events.{event_of, HasTerms};
 ghost use Rattle.machine_events.specs.declared.MachineEvent.TheVariants as event;
 ghost use Rattle.code_machine.specs.Instructions.{HasGoal};
-ghost use Rattle.code_machine.specs.States.{State, counted, names_of, left, IsOfGoal, MayRun, StandsFor, IsSame};
+ghost use Rattle.code_machine.specs.declared.run.Ending.{Ending};
+ghost use Rattle.code_machine.specs.declared.run.Stage.TheVariants as stage;
+ghost use Rattle.code_machine.specs.States.{State, counted, last_event, names_of, left, IsEndOf, IsOfGoal, MayRun, StandsFor, IsSame};
 
 use crate::run::Run;
 use crate::start::start;
@@ -91,7 +93,7 @@ impl<A: Agenda + Drop> Machine<A> {
         ensures whole { IfOk result (λ m. m.lost ≡ false) }
         ensures stands { IfOk result (λ m. (prog : Program) (q : Query) → MayRun m.area query prog q
             → (es : List Event) (r : ℕ)
-            → Runs TOP prog q limits.steps limits.answers (start_of q ∷ []) es r
+            → Runs TOP TOP prog q limits.steps limits.answers (start_of q ∷ []) es r
             → StandsFor m es r) }
     {
         let (branch, run) = start(alloc, &code, query, limits, agenda)?;
@@ -117,6 +119,11 @@ impl<A: Agenda + Drop> Machine<A> {
         ensures falls { IfOk result (λ e. is_final (event_of [] e) ≡ false
             → left self.new < left self.old) }
         ensures ended { IfOk result (λ e. is_final (event_of [] e) ≡ true → left self.new ≡ 0) }
+        ensures stage { IfOk result (λ e. is_final (event_of [] e) ≡ true
+            → IsEndOf e self.new.stage) }
+        ensures again { IfOk result (λ e. (x : Ending) → self.old.stage ≡ stage.Ended x
+            → (e ≡ last_event x) × (self.new.stage ≡ self.old.stage)
+            × (self.new.spent ≡ self.old.spent)) }
         ensures shown { IfOk result (HasTerms (length (names_of self.old))) }
         ensures counted { IfOk result (λ e. self.new.answers ≡ counted e self.old.answers) }
         ensures budget { IfOk result (λ e. e ≡ event.Budget

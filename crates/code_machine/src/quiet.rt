@@ -9,8 +9,8 @@ ghost use Rattle.code_machine.specs.Steps.{Moves, TakesTerm};
 use branch_state::BranchState;
 use code_areas::Areas;
 use code_control::{
-    allocate, choose, deallocate, fail_now, jump, proceed, switch_on_constant, switch_on_integer,
-    switch_on_structure, switch_on_term,
+    allocate, choose, deallocate, fail_now, jump, level, proceed, switch_on_constant,
+    switch_on_integer, switch_on_structure, switch_on_term,
 };
 use code_states::Went;
 use fd_language::NoMemory;
@@ -21,8 +21,8 @@ use term_instructions::{
 };
 use wam_code::{Code, CodeArea};
 
-/// Takes an instruction of a clause's terms or of its frame, a jump, or a switch by kinds, and gives where it leads, or nothing where it
-/// is another one; `scratch` is lent. The error is want of memory.
+/// Takes an instruction of a clause's terms or of its frame, a level, a jump, or a switch by kinds, and gives where it leads, or nothing
+/// where it is another one; `scratch` is lent. The error is want of memory.
 #[inline(always)]
 pub(crate) fn take_term<A: Agenda + Drop>(
     code: &CodeArea,
@@ -61,6 +61,7 @@ pub(crate) fn take_term<A: Agenda + Drop>(
         Code::Allocate(n) => Ok(Some(Went::On(allocate(code, at, n, branch, areas)?))),
         Code::Deallocate => Ok(Some(Went::On(deallocate(code, at, branch, areas)))),
         Code::Proceed => Ok(Some(Went::On(proceed(code, at, branch, areas)?))),
+        Code::Level(n) => Ok(Some(Went::On(level(code, at, n, branch, areas)))),
         Code::Jump(to) => Ok(Some(Went::On(jump(code, at, to, branch, areas)))),
         Code::SwitchOnTerm(v, c, i, s) => {
             let to = switch_on_term(code, at, v, c, i, s, branch, areas);

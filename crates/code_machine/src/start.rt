@@ -52,7 +52,7 @@ pub(crate) fn start<A: Agenda + Drop>(
     ensures within { IfOk result (λ w. IsWithin (state_within code.now w.0 w.1 false limits 0)) }
     ensures stands { IfOk result (λ w. (prog : Program) (q : Query) → MayRun code.now query prog q
         → (es : List Event) (r : ℕ)
-        → Runs TOP prog q limits.steps limits.answers (start_of q ∷ []) es r
+        → Runs TOP TOP prog q limits.steps limits.answers (start_of q ∷ []) es r
         → StandsFor (state_of code.now w.0 w.1 false) es r) }
 {
     let at = place_of(code, query);

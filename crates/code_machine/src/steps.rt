@@ -126,7 +126,7 @@ fn reduce<A: Agenda + Drop>(
     Ok(saying)
 }
 
-/// The end of a run that comes to a call with no reduction left.
+/// The end of a run that comes to a call, a disjunction, a test or a cut with no reduction left.
 fn stop<A: Agenda + Drop>(
     code: &CodeArea,
     at: usize,
@@ -167,12 +167,17 @@ fn speak<A: Agenda + Drop>(
 {
     match instruction {
         Code::AnswerNow => Ok(Some(answer(code, at, branch, run))),
-        Code::Call(_) | Code::Execute(_) | Code::Either(_) => {
-            Ok(Some(stop(code, at, instruction, branch, run)))
-        }
-        Code::Builtin(_) | Code::Constrain(_) | Code::Label(_) | Code::PostRange(_, _) => {
-            reduce(code, at, instruction, branch, run)
-        }
+        Code::Call(_)
+        | Code::Execute(_)
+        | Code::Either(_)
+        | Code::TestOnly(_)
+        | Code::EnterTest(_, _, _)
+        | Code::CutTo(_) => Ok(Some(stop(code, at, instruction, branch, run))),
+        Code::Builtin(_)
+        | Code::Constrain(_)
+        | Code::Label(_)
+        | Code::Best(_, _)
+        | Code::PostRange(_, _) => reduce(code, at, instruction, branch, run),
         _ => unreachable!(),
     }
 }

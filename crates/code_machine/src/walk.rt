@@ -41,7 +41,7 @@ fn stage_of(went: Went) -> Stage
     }
 }
 
-/// Takes a call or a disjunction, if a reduction is left for it, and gives where it leads. The error is want of memory.
+/// Takes a call, a disjunction, a test or a cut, if a reduction is left for it, and gives where it leads. The error is want of memory.
 #[inline(always)]
 fn call_on<A: Agenda + Drop>(
     code: &CodeArea,
@@ -60,7 +60,14 @@ fn call_on<A: Agenda + Drop>(
     }
     run.budget -= 1;
     run.spent += 1;
-    let to = take_call(code, at, instruction, branch, &mut run.areas)?;
+    let to = take_call(
+        code,
+        at,
+        instruction,
+        branch,
+        &mut run.areas,
+        &mut run.labels,
+    )?;
     Ok(Some(Went::On(to)))
 }
 
@@ -80,13 +87,17 @@ fn other_on<A: Agenda + Drop>(
     ensures { IfOk result (IsTaken code.now at branch.old run.old branch.new run.new) }
 {
     match instruction {
-        Code::Call(_) | Code::Execute(_) | Code::Either(_) => {
-            call_on(code, at, instruction, branch, run)
-        }
+        Code::Call(_)
+        | Code::Execute(_)
+        | Code::Either(_)
+        | Code::TestOnly(_)
+        | Code::EnterTest(_, _, _)
+        | Code::CutTo(_) => call_on(code, at, instruction, branch, run),
         Code::AnswerNow
         | Code::Builtin(_)
         | Code::Constrain(_)
         | Code::Label(_)
+        | Code::Best(_, _)
         | Code::PostRange(_, _) => Ok(None),
         _ => {
             let went = take_choice(code, at, instruction, branch, &mut run.areas)?;

@@ -9,6 +9,10 @@ pub use Rattle.code_states.proofs.Queries.{ends_on, named_inside, next_inside, q
 pub use Rattle.code_states.proofs.Same.{same_behind, behind_both, same_below, below_heap, below_both}
 -- What is safe stays so.
 pub use Rattle.code_states.proofs.Safety.{Finds, back_safe, behind_on, cells_kept, fits_less, found, free_holds, next_safe, place_within, points_kept, points_then, returns_kept, same_atoms, set_holds, some_is, thread_kept, when_parts, within_code, written_fits, written_own}
+-- There are as many choices as choice points, and where the newest points are dropped the oldest choices are left.
+pub use Rattle.code_states.proofs.Counting.{choices_many, choices_left, points_marked}
+-- What a slot that takes a level, or has one, is in the areas.
+pub use Rattle.code_states.proofs.Marking.{level_read, level_slot, level_there, leveled, leveled_fits, leveled_long, leveled_marks, leveled_own}
 -- What is still to come for a machine, and the work that is left, where an instruction keeps what the machine stands for.
 pub use Rattle.code_states.proofs.Stages.{choices_kept, kept_falls, kept_runs, sound_model, budget_ends, returned_ends}
 -- What a machine stands for is kept by the get and put groups.

@@ -1,6 +1,8 @@
 mod Equal
 mod Same
 mod Safety
+mod Marking
+mod Counting
 mod Standing
 mod Stages
 mod Starting

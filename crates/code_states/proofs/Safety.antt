@@ -2,13 +2,13 @@
 use Rattle.std.proofs.Common.{◌≡◌, ℕ, zero, suc, ◌<◌, Bool, true, false, ◌||◌, IsTrue, List, [], ◌∷◌, length, Option, Some, None, option_map, slice_get, slice_set, refl, ap, sym, ◌∙◌, subst, inl, inr, arith, ne_eqb}
 use Rattle.std.proofs.lemmas.List.{length-set, nil_from_length}
 use Rattle.std.proofs.lemmas.Bool.{cases_eq, true≢false}
-use Rattle.std.proofs.lemmas.Option.{slice_get_within, same_Some}
+use Rattle.std.proofs.lemmas.Option.{slice_get_within, same_Some, none-some}
 use Rattle.fd_language.specs.Family.{has}
 use Rattle.heap_cells.specs.declared.Cell.{Cell as HeapCell}
 use Rattle.heap_cells.specs.Cells.{Cells}
 use Rattle.heap_cells.specs.Atoms.{IsAtomBelow}
 use Rattle.branch_state.specs.States as branch
-use Rattle.branch_state.specs.States.{IsCell, AreCells, IsSound, IsSoundBelow, IsSameBelow, with_heap}
+use Rattle.branch_state.specs.States.{IsCell, IsSound, IsSoundBelow, IsSameBelow, with_heap}
 use Rattle.wam_code.specs.declared.instruction.Register.{Register}
 use Rattle.wam_code.specs.declared.instruction.Register.TheVariants.{X, Y}
 use Rattle.wam_code.specs.declared.instruction.Code.{Code}
@@ -16,10 +16,10 @@ use Rattle.wam_code.specs.Area.{Slot, Unset, Cell, Level, State, Area, Holds}
 use Rattle.wam_code.specs.Effect.{slot_at, is_unset, is_cell, with_cell, is_set, is_free, with_set, when, effect_by}
 use Rattle.wam_code.specs.VerifiedCode.{goes_on, Falls, Covers, HandedTo, IsVerifiedBy}
 use Rattle.wam_code.proofs.Lemmas.{falls_inside, falls_outside}
-use Rattle.code_areas.specs.Areas.{Places, cell_at, Return, Point, Contents}
-use Rattle.code_steps.specs.Registers.{IsPut, IsWritten}
-use Rattle.code_states.specs.Machine.{slot_cell, registers_of, HasCell, CanHold, IsSameBehind}
-use Rattle.code_states.specs.Safety.{HasSlots, Fits, AreReturns, AreBehind, IsThread, ArePoints, IsSafe, IsSafeBack}
+use Rattle.code_areas.specs.Areas.{Places, cell_at, level_at, Return, Point, Contents}
+use Rattle.code_steps.specs.Registers.{IsPut, AreSameElse, IsWritten}
+use Rattle.code_states.specs.Machine.{slot_cell, slot_level, registers_of, HasCell, CanHold, IsSameBehind}
+use Rattle.code_states.specs.Safety.{HasSlots, Fits, AreOwn, AreReturns, AreBehind, IsThread, ArePoints, IsSafe, IsSafeBack}
 
 -- ---- what an instruction finds
 
@@ -94,28 +94,45 @@ set_holds t c (Y n) f e = go t.frame n f.frame e
 
 -- ---- a register is written
 
-set_now : (n k : ℕ) (slots : List Slot) → slice_get (slice_set slots n Cell) k ≡ Some Cell → (k ≡ n → ⊥) → slice_get slots k ≡ Some Cell
-set_now n k [] e d = e
-set_now zero zero (s ∷ ss) e d = absurd (d refl)
-set_now zero (suc k) (s ∷ ss) e d = e
-set_now (suc n) zero (s ∷ ss) e d = e
-set_now (suc n) (suc k) (s ∷ ss) e d = set_now n k ss e (λ i. d (ap suc i))
+-- a slot is put: there, and elsewhere
+pub put_here : (v w : Slot) (n : ℕ) (slots : List Slot) → slice_get (slice_set slots n v) n ≡ Some w → v ≡ w
+put_here v w n [] e = absurd (none-some w e)
+put_here v w zero (s ∷ ss) e = same_Some v w e
+put_here v w (suc n) (s ∷ ss) e = put_here v w n ss e
+
+pub put_else : (v w : Slot) (n k : ℕ) (slots : List Slot) → slice_get (slice_set slots n v) k ≡ Some w → (k ≡ n → ⊥) → slice_get slots k ≡ Some w
+put_else v w n k [] e d = e
+put_else v w zero zero (s ∷ ss) e d = absurd (d refl)
+put_else v w zero (suc k) (s ∷ ss) e d = e
+put_else v w (suc n) zero (s ∷ ss) e d = e
+put_else v w (suc n) (suc k) (s ∷ ss) e d = put_else v w n k ss e (λ i. d (ap suc i))
 
 -- the same slots but for one that is a cell now
-slots_fit : (frame : Option (List Slot)) (n : ℕ) (d : HeapCell) (old new : Places) → length new ≡ length old → IsPut (slot_cell old) n d (slot_cell new) → HasSlots frame old → HasSlots (option_map (with_cell n) frame) new
-slots_fit None n d old new size put h = nil_from_length new (size ∙ ap length h)
-slots_fit (Some ss) zero d old new size put h = (size ∙ h.0, λ k e. (let one = h.1 k e in (one.0, put.else (suc k) (λ i. absurd (omega (arith, i))) ∙ one.1)))
-slots_fit (Some ss) (suc n) d old new size put h = (
+slots_fit : (frame : Option (List Slot)) (n : ℕ) (d : HeapCell) (old new : Places) → length new ≡ length old → IsPut (slot_cell old) n d (slot_cell new) → AreSameElse n (slot_level old) (slot_level new) → HasSlots frame old → HasSlots (option_map (with_cell n) frame) new
+slots_fit None n d old new size put other h = nil_from_length new (size ∙ ap length h)
+slots_fit (Some ss) zero d old new size put other h = (
+  size ∙ h.0,
+  (λ k e. let one = h.1 k e in (one.0, put.else (suc k) (λ i. absurd (omega (arith, i))) ∙ one.1)),
+  (λ k e. let one = h.2 k e in (one.0, other (suc k) (λ i. absurd (omega (arith, i))) ∙ one.1)),
+)
+slots_fit (Some ss) (suc n) d old new size put other h = (
   size ∙ h.0 ∙ sym (length-set ss n Cell),
   (λ k e. elim (cases_eq k n) [
     | inl i ↦ (d, ap (cell_at new) i ∙ put.here)
-    | inr i ↦ let one = h.1 k (set_now n k ss e i) in (one.0, put.else (suc k) (λ j. i (omega (arith, j))) ∙ one.1)
+    | inr i ↦ let one = h.1 k (put_else Cell Cell n k ss e i) in (one.0, put.else (suc k) (λ j. i (omega (arith, j))) ∙ one.1)
+  ]),
+  (λ k e. elim (cases_eq k n) [
+    | inl i ↦ absurd (no_level (put_here Cell Level n ss (subst (λ m. slice_get (slice_set ss n Cell) m ≡ Some Level) i e)))
+    | inr i ↦ let one = h.2 k (put_else Cell Level n k ss e i) in (one.0, other (suc k) (λ j. i (omega (arith, j))) ∙ one.1)
   ]),
 )
+  where
+    no_level : Cell ≡ Level → ⊥
+    no_level e = cc
 
-same_slots : (frame : Option (List Slot)) (old new : Places) → length new ≡ length old → ((k : ℕ) → cell_at new k ≡ cell_at old k) → HasSlots frame old → HasSlots frame new
-same_slots None old new size same h = nil_from_length new (size ∙ ap length h)
-same_slots (Some ss) old new size same h = (size ∙ h.0, λ k e. (let one = h.1 k e in (one.0, same k ∙ one.1)))
+same_slots : (frame : Option (List Slot)) (old new : Places) → length new ≡ length old → ((k : ℕ) → cell_at new k ≡ cell_at old k) → ((k : ℕ) → level_at new k ≡ level_at old k) → HasSlots frame old → HasSlots frame new
+same_slots None old new size same also h = nil_from_length new (size ∙ ap length h)
+same_slots (Some ss) old new size same also h = (size ∙ h.0, (λ k e. let one = h.1 k e in (one.0, same k ∙ one.1)), (λ k e. let one = h.2 k e in (one.0, also k ∙ one.1)))
 
 pub written_fits : (t : State) (c c' : Contents) (r : Register) (d : HeapCell) → Fits t c.registers c.slots → IsWritten (registers_of c) r d (registers_of c') → length c'.slots ≡ length c.slots → Fits (with_set t r) c'.registers c'.slots
 written_fits t c c' (X n) d f w size = record {
@@ -123,15 +140,15 @@ written_fits t c c' (X n) d f w size = record {
     | inl i ↦ (d, ap (cell_at c'.registers) (sym i) ∙ w.0.here)
     | inr i ↦ let one = f.set k (subst (λ b. b || has t.regs k ≡ true) (ne_eqb n k i) e) in (one.0, w.0.else k (λ j. i (sym j)) ∙ one.1)
   ];
-  frame = same_slots t.frame c.slots c'.slots size (λ k. w.1 (suc k)) f.frame;
+  frame = same_slots t.frame c.slots c'.slots size (λ k. w.1 (suc k)) (λ k. w.2 (suc k)) f.frame;
 }
 written_fits t c c' (Y n) d f w size = record {
   set = λ k e. (let one = f.set k e in (one.0, w.0 k ∙ one.1));
-  frame = slots_fit t.frame n d c.slots c'.slots size w.1 f.frame;
+  frame = slots_fit t.frame n d c.slots c'.slots size w.1 w.2 f.frame;
 }
 
 -- the cells stay the branch's
-pub written_own : (s : branch.State) (c c' : Contents) (r : Register) (d : HeapCell) → AreCells s c.registers → AreCells s c.slots → IsCell s d → IsWritten (registers_of c) r d (registers_of c') → AreCells s c'.registers × AreCells s c'.slots
+pub written_own : (s : branch.State) (c c' : Contents) (r : Register) (d : HeapCell) → AreOwn s c.registers → AreOwn s c.slots → IsCell s d → IsWritten (registers_of c) r d (registers_of c') → AreOwn s c'.registers × AreOwn s c'.slots
 written_own s c c' (X n) d xs ys own w = (
   (λ k e i. elim (cases_eq k n) [
     | inl j ↦ subst (IsCell s) (same_Some d e (sym w.0.here ∙ ap (cell_at c'.registers) (sym j) ∙ i)) own
@@ -152,7 +169,7 @@ written_own s c c' (Y n) d xs ys own w = (
 pub fits_less : (t u : State) (registers slots : Places) → Covers t u → Fits t registers slots → Fits u registers slots
 fits_less t u registers slots c f = record { set = λ n e. f.set n (c.regs n e); frame = subst (λ o. HasSlots o slots) c.frame f.frame }
 
-pub cells_kept : (s s' : branch.State) → ((d : HeapCell) → IsCell s d → IsCell s' d) → (cells : Places) → AreCells s cells → AreCells s' cells
+pub cells_kept : (s s' : branch.State) → ((d : HeapCell) → IsCell s d → IsCell s' d) → (cells : Places) → AreOwn s cells → AreOwn s' cells
 cells_kept s s' keep cells own n d e = keep d (own n d e)
 
 pub returns_kept : (ss : List State) (s s' : branch.State) → ((d : HeapCell) → IsCell s d → IsCell s' d) → (rs : List Return) → AreReturns ss s rs → AreReturns ss s' rs
@@ -190,7 +207,7 @@ module _ (area : Area) (s s' : branch.State) (at n : ℕ) (c c' : Contents) (saf
   back_safe sound = record { states = safe.states; verified = safe.verified; atoms = below.atoms ∙ safe.atoms; sound = sound; points = points_then }
 
   -- An instruction that goes on hands over to the next place.
-  pub next_safe : (i : Code) → Holds area at i → IsTrue (goes_on i) → (f : Finds area safe.states at n c i) → (n' : ℕ) → Fits f.handed c'.registers c'.slots → f.handed.owed ≡ n' → IsSound s' → ((d : HeapCell) → IsCell s d → IsCell s' d) → AreCells s' c'.registers → AreCells s' c'.slots → IsSafe area s' (suc at) n' c'
+  pub next_safe : (i : Code) → Holds area at i → IsTrue (goes_on i) → (f : Finds area safe.states at n c i) → (n' : ℕ) → Fits f.handed c'.registers c'.slots → f.handed.owed ≡ n' → IsSound s' → ((d : HeapCell) → IsCell s d → IsCell s' d) → AreOwn s' c'.registers → AreOwn s' c'.slots → IsSafe area s' (suc at) n' c'
   next_safe i holds on f n' fits owes sound keep xs ys =
       let h = f.goes on in record {
         states = safe.states;

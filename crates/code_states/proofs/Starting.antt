@@ -49,5 +49,5 @@ started_safe area ss v atoms named sound n q there =
 
 -- What is still to come for it is the query's run.
 pub started_runs : (area : Area) (t : Task) (s : Span) → IsQueryCode area t.query s → EachBelow t.query.variables t.query.goals → NumbersBelow t.query.variables t.query.shown → AreRunnable INFINITY t.query.goals → (atoms : ℕ) (f : Future)
-    → Run INFINITY t.program t.query f.budget f.answers (start_of t.query ∷ []) f.events f.reductions → RunsAt area t (first_state atoms) s.at nothing [] f
-started_runs area t s code below asked fit atoms f run = run_starts INFINITY area t.program t.query t.name no_cells refl s code below asked fit (registers_of nothing) f.budget f.answers f.events f.reductions run
+    → Run INFINITY INFINITY t.program t.query f.budget f.answers (start_of t.query ∷ []) f.events f.reductions → RunsAt area t (first_state atoms) s.at nothing [] f
+started_runs area t s code below asked fit atoms f run = run_starts INFINITY INFINITY area t.program t.query t.name no_cells refl s code below asked fit (registers_of nothing) refl f.budget f.answers f.events f.reductions run

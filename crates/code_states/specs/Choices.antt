@@ -5,17 +5,17 @@ use Rattle.heap_cells.specs.Cells.{Cells}
 use Rattle.branch_state.specs.States as branch
 use Rattle.code_areas.specs.Areas.{cell_at, Point, Contents}
 use Rattle.code_steps.specs.Running.{Left, Choice}
-use Rattle.code_states.specs.Machine.{slot_cell, saved_of}
+use Rattle.code_states.specs.Machine.{slot_cell, slot_level, saved_of}
 
--- the current registers, slots and continuations as a choice point, to come back to at a place
+-- the current registers, slots and continuations, with what was noted, as a choice point, to come back to at a place
 abbrev pub point_of : Contents → ℕ → Point
-point_of c to = record { place = to; registers = c.registers; slots = c.slots; returns = c.returns }
+point_of c to = record { place = to; registers = c.registers; slots = c.slots; returns = c.returns; noted = c.noted }
 
 -- a point on its own heap and level of the store, with what is left there
 abbrev pub choice_of : Left → Point → Cells → Level → Choice
 choice_of l p h v = record {
   left = l;
-  registers = record { x = cell_at p.registers; y = slot_cell p.slots };
+  registers = record { x = cell_at p.registers; y = slot_cell p.slots; levels = slot_level p.slots; noted = p.noted };
   stack = map saved_of p.returns;
   heap = h;
   store = v.posted;

@@ -1,13 +1,14 @@
 -- What a machine's areas hold wherever verified code goes on.
 use Rattle.std.specs.Prelude.{◌≡◌, ℕ, true, List, [], ◌∷◌, length, Option, Some, None, slice_get}
 use Rattle.fd_language.specs.Family.{has}
+use Rattle.heap_cells.specs.declared.Cell.{Cell as HeapCell}
 use Rattle.heap_cells.specs.Cells.{Cells}
 use Rattle.branch_state.specs.States as branch
-use Rattle.branch_state.specs.States.{AreCells, IsSound, IsSoundBelow, with_heap}
-use Rattle.wam_code.specs.Area.{Slot, Cell, State, Span, Area, HasState, HasQuery}
+use Rattle.branch_state.specs.States.{IsCell, IsSound, IsSoundBelow, with_heap}
+use Rattle.wam_code.specs.Area.{Slot, Cell, Level, State, Span, Area, HasState, HasQuery}
 use Rattle.wam_code.specs.Reaching.{IsOutside}
 use Rattle.wam_code.specs.VerifiedCode.{IsIn, IsVerifiedBy}
-use Rattle.code_areas.specs.Areas.{Places, IsSet, Return, Point, Contents}
+use Rattle.code_areas.specs.Areas.{Places, cell_at, IsSet, IsLevelSet, Return, Point, Contents}
 use Rattle.code_states.specs.declared.went.Went.{Went}
 use Rattle.code_states.specs.declared.went.Went.TheVariants.{On, Back}
 
@@ -17,10 +18,10 @@ use Rattle.code_states.specs.declared.went.Went.TheVariants.{On, Back}
 abbrev pub HasRegisters : List ℕ → Places → Type 0
 HasRegisters regs cells = (n : ℕ) → has regs n ≡ true → IsSet cells n
 
--- There are as many slots as a state's frame has, and each that is a cell there is set.
+-- There are as many slots as a state's frame has; each that is a cell there holds one, and each that is a level there a level.
 abbrev pub HasSlots : Option (List Slot) → Places → Type 0
 HasSlots None cells = cells ≡ []
-HasSlots (Some slots) cells = (length cells ≡ length slots) × ((n : ℕ) → slice_get slots n ≡ Some Cell → IsSet cells n)
+HasSlots (Some slots) cells = (length cells ≡ length slots) × ((n : ℕ) → slice_get slots n ≡ Some Cell → IsSet cells n) × ((n : ℕ) → slice_get slots n ≡ Some Level → IsLevelSet cells n)
 
 -- the registers and slots have what a state says
 pub record Fits (s : State) (registers slots : Places) : Type 0 where
@@ -34,12 +35,16 @@ pub record IsReached (ss : List State) (at owed : ℕ) (registers slots : Places
   pub owes : state.owed ≡ owed
   pub fits : Fits state registers slots
 
+-- the cells in these registers or slots are the branch's
+abbrev pub AreOwn : branch.State → Places → Type 0
+AreOwn s cells = (n : ℕ) (d : HeapCell) → cell_at cells n ≡ Some d → IsCell s d
+
 -- ---- continuations
 
 -- Each goes on without registers, with cells of the branch in its slots.
 abbrev pub AreReturns : List State → branch.State → List Return → Type 0
 AreReturns ss s [] = Unit {0}
-AreReturns ss s (r ∷ rs) = IsReached ss r.to 0 [] r.slots × AreCells s r.slots × AreReturns ss s rs
+AreReturns ss s (r ∷ rs) = IsReached ss r.to 0 [] r.slots × AreOwn s r.slots × AreReturns ss s rs
 
 -- The places of a query's code are those with nothing behind them.
 abbrev pub AreBehind : Area → ℕ → List Return → Type 0
@@ -51,8 +56,8 @@ AreBehind area at (r ∷ rs) = IsOutside area at × AreBehind area r.to rs
 -- It is safe to go on at a place, with these registers, slots and continuations.
 pub record IsThread (area : Area) (ss : List State) (s : branch.State) (at owed : ℕ) (registers slots : Places) (returns : List Return) : Type 0 where
   pub reached : IsReached ss at owed registers slots
-  pub registers_own : AreCells s registers
-  pub slots_own : AreCells s slots
+  pub registers_own : AreOwn s registers
+  pub slots_own : AreOwn s slots
   pub returns_own : AreReturns ss s returns
   pub behind : AreBehind area at returns
 

@@ -1,10 +1,10 @@
 -- The events and reductions that are still to come for a machine, by its branch, its areas and its place, and what the steps of a machine keep of them.
-use Rattle.std.specs.Prelude.{ℕ, suc, List, [], ◌∷◌, Option}
+use Rattle.std.specs.Prelude.{◌≡◌, ℕ, suc, List, [], ◌∷◌, length, Option}
 use Rattle.fd_language.specs.declared.TheConstants.{INFINITY}
 use Rattle.fd_model.specs.Goal.{Program, Query, Event}
 use Rattle.fd_model.specs.Sound.{ClausesScoped, IsRunnableProgram}
 use Rattle.heap_cells.specs.Terms.{Naming}
-use Rattle.machine_relation.specs.Ahead.{Spends}
+use Rattle.machine_relation.specs.Ahead.{oldest, Spends}
 use Rattle.branch_state.specs.States as branch
 use Rattle.wam_code.specs.Area.{Area}
 use Rattle.wam_code.specs.Tries.{StandsForProgram}
@@ -31,11 +31,11 @@ pub record Future : Type 0 where
 
 -- The machine goes on at a place. ls says what is left at each choice point.
 abbrev pub RunsAt : Area → Task → branch.State → ℕ → Contents → List Left → Future → Type 0
-RunsAt area t s at c ls f = Runs INFINITY area t.program t.query t.name s.heaps.now s.levels.current.posted at (registers_of c) (stack_of c) (choices_in s c ls) f.budget f.answers f.events f.reductions
+RunsAt area t s at c ls f = Runs INFINITY INFINITY area t.program t.query t.name s.heaps.now s.levels.current.posted at (registers_of c) (stack_of c) (choices_in s c ls) f.budget f.answers f.events f.reductions
 
 -- It goes back to its newest choice point.
 abbrev pub ReturnsTo : Area → Task → branch.State → Contents → List Left → Future → Type 0
-ReturnsTo area t s c ls f = Returns INFINITY area t.program t.query t.name (choices_in s c ls) f.budget f.answers f.events f.reductions
+ReturnsTo area t s c ls f = Returns INFINITY INFINITY area t.program t.query t.name (choices_in s c ls) f.budget f.answers f.events f.reductions
 
 -- ---- steps
 
@@ -65,16 +65,24 @@ pub record IsReadyToRun (area : Area) (prog : Program) : Type 0 where
   pub scoped : ClausesScoped prog.clauses
   pub runnable : IsRunnableProgram INFINITY prog
 
--- A goal is taken: a reduction is spent.
+-- A goal is taken: a reduction is spent. Something is left at each choice point.
 abbrev pub SpendsOn : Area → branch.State → ℕ → Contents → (Task → List Left → Future → Type 0) → Type 0
 SpendsOn area s at c Then =
-    (t : Task) (ls : List Left) (n : ℕ) (k : Option ℕ) (es : List Event) (r : ℕ) → IsReadyToRun area t.program → RunsAt area t s at c ls (record { budget = suc n; answers = k; events = es; reductions = r })
+    (t : Task) (ls : List Left) (n : ℕ) (k : Option ℕ) (es : List Event) (r : ℕ) → IsReadyToRun area t.program → length ls ≡ length c.points → RunsAt area t s at c ls (record { budget = suc n; answers = k; events = es; reductions = r })
     → Spends (λ later j. Then t ls (record { budget = n; answers = k; events = later; reductions = j })) [] es r
 
 -- A predicate is called, whose code begins at the place to.
 abbrev pub Calls : Area → branch.State → ℕ → Contents → branch.State → ℕ → Contents → Type 0
 Calls area s at c s' to c' = SpendsOn area s at c (λ t ls f. RunsAt area t s' to c' ls f)
 
--- Both ways of a disjunction are to be taken, the other one from a new choice point.
+-- Both ways of a disjunction, or of a test, are to be taken, the other one from a new choice point.
 abbrev pub SplitsAt : Area → branch.State → ℕ → Contents → branch.State → ℕ → Contents → ℕ → Type 0
 SplitsAt area s at c s' to c' other = SpendsOn area s at c (λ t ls f. RunsAt area t s' to c' (resume other ∷ ls) f)
+
+-- A test that has no other way begins.
+abbrev pub TestsAt : Area → branch.State → ℕ → Contents → branch.State → ℕ → Contents → Type 0
+TestsAt area s at c s' to c' = SpendsOn area s at c (λ t ls f. RunsAt area t s' to c' ls f)
+
+-- The newest choice points are dropped, and with them what is left there.
+abbrev pub CutsAt : Area → branch.State → ℕ → Contents → branch.State → ℕ → Contents → Type 0
+CutsAt area s at c s' to c' = SpendsOn area s at c (λ t ls f. RunsAt area t s' to c' (oldest (length c'.points) ls) f)

@@ -21,20 +21,20 @@ pub record IsNaming (area : Area) (name : Naming) : Type 0 where
   pub same : (c : AtomId) → IsAtom area c → name c ≡ name_of area c
 
 abbrev pub HasNoModel : Branch → Type 0
-HasNoModel b = (S : Family) → IsModel INFINITY b.equations b.posted S → ⊥
+HasNoModel b = (S : Family) → IsModel INFINITY INFINITY b.equations b.posted S → ⊥
 
--- the machine stands for the branch b
-abbrev pub StandsFor : Area → List ℕ → Naming → branch.State → ℕ → Contents → Branch → Type 0
-StandsFor area shown name s at c b = Stands INFINITY area shown name s.heaps.now s.levels.current.posted at (registers_of c) (stack_of c) b
+-- the machine stands for the branch b, where its choice points have such marks
+abbrev pub StandsFor : List ℕ → Area → List ℕ → Naming → branch.State → ℕ → Contents → Branch → Type 0
+StandsFor marks area shown name s at c b = Stands INFINITY INFINITY marks area shown name s.heaps.now s.levels.current.posted at (registers_of c) (stack_of c) b
 
 -- It does so where an instruction leads, or the branch has no model.
-abbrev pub StandsThen : Area → List ℕ → Naming → branch.State → Contents → Went → Branch → Type 0
-StandsThen area shown name s c (On to) b = StandsFor area shown name s to c b
-StandsThen area shown name s c Back b = HasNoModel b
+abbrev pub StandsThen : List ℕ → Area → List ℕ → Naming → branch.State → Contents → Went → Branch → Type 0
+StandsThen marks area shown name s c (On to) b = StandsFor marks area shown name s to c b
+StandsThen marks area shown name s c Back b = HasNoModel b
 
 -- Each branch that the machine stood for it stands for then.
 abbrev pub KeepsStanding : Area → branch.State → ℕ → Contents → branch.State → Contents → Went → Type 0
-KeepsStanding area s at c s' c' w = (shown : List ℕ) (name : Naming) (b : Branch) → IsNaming area name → StandsFor area shown name s at c b → StandsThen area shown name s' c' w b
+KeepsStanding area s at c s' c' w = (marks : List ℕ) (shown : List ℕ) (name : Naming) (b : Branch) → IsNaming area name → StandsFor marks area shown name s at c b → StandsThen marks area shown name s' c' w b
 
 -- to the next place where two cells were made equal, and else back
 abbrev pub went_by : ℕ → Bool → Went

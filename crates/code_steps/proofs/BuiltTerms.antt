@@ -24,6 +24,7 @@ use Rattle.code_steps.specs.Steps.{GoesOnEqual}
 use Rattle.code_steps.specs.ReadMode.{AreCells}
 use Rattle.code_steps.specs.WriteMode.{End, GetEnd, PutEnd, Builds}
 use Rattle.code_steps.proofs.RegisterTerms.{one_moved, shown_moved, all_moved, shown_same}
+use Rattle.code_steps.proofs.Leveling.{leveled_same}
 use Rattle.code_steps.proofs.Making.{made_write, made_unified, made_refuted}
 use Rattle.code_steps.proofs.ReadMode.{cells_keep}
 use Rattle.code_steps.proofs.Stepping.{here}
@@ -38,10 +39,10 @@ joined_none : (ts : Terms) → joined_terms ts no_terms ≡ ts
 joined_none no_terms = refl
 joined_none (term t ts) = ap (term t) (joined_none ts)
 
-module _ (M : ℕ) (name : Naming) (qs : List Indexical) (returns : List Return) (stack : List Saved) (b : Branch) (h : Cells) (c : Registers) (p : Places) (todo : List Equation) (m : IsMade M name h qs c returns stack b p todo) where
+module _ (M N : ℕ) (marks : List ℕ) (name : Naming) (qs : List Indexical) (returns : List Return) (stack : List Saved) (b : Branch) (h : Cells) (c : Registers) (p : Places) (todo : List Equation) (m : IsMade M N marks name h qs c returns stack b p todo) where
   -- the code counts on one register less, which may hold another cell
-  made_without : (a : ℕ) (c' : Registers) → ((n : ℕ) → (n ≡ a → ⊥) → c'.x n ≡ c.x n) → AreSame c.y c'.y → IsMade M name h qs c' returns stack b (without p a) todo
-  made_without a c' xs ys = record {
+  made_without : (a : ℕ) (c' : Registers) → ((n : ℕ) → (n ≡ a → ⊥) → c'.x n ≡ c.x n) → AreSame c.y c'.y → AreSame c.levels c'.levels → c'.noted ≡ c.noted → IsMade M N marks name h qs c' returns stack b (without p a) todo
+  made_without a c' xs ys levels noted = record {
     done = m.done;
     look = m.look;
     kept = m.kept;
@@ -52,6 +53,7 @@ module _ (M : ℕ) (name : Naming) (qs : List Indexical) (returns : List Return)
     ];
     ys = shown_same name h m.look (Made p b.fresh) p.y c.y c'.y ys m.ys;
     saved = m.saved;
+    leveled = leveled_same marks p.levels p.noted c returns stack m.leveled c' levels noted;
     own = m.own;
     covered = m.covered;
     used = m.used;
@@ -59,17 +61,18 @@ module _ (M : ℕ) (name : Naming) (qs : List Indexical) (returns : List Return)
   }
 
   -- the heap grows
-  made_grown : (now : Cells) → IsGrown h now → (g : IsMade M name now qs c returns stack b p todo) × ((s : Term) (e : Cell) → IsShown name h m.look (Made p b.fresh) s e → IsShown name now g.look (Made p b.fresh) s e)
+  made_grown : (now : Cells) → IsGrown h now → (g : IsMade M N marks name now qs c returns stack b p todo) × ((s : Term) (e : Cell) → IsShown name h m.look (Made p b.fresh) s e → IsShown name now g.look (Made p b.fresh) s e)
   made_grown now g =
       let moves : (P : ℕ → Type 0) (t : Term) (e : Cell) → IsOf h e → apply m.look t ≡ term_of name h e → IsOf now e × (apply m.look t ≡ term_of name now e) = λ P t e o k. (of_grown h now g e o, k ∙ sym (g.terms name e o)) in (
         record {
           done = m.done;
           look = m.look;
-          kept = kept_grown M h qs m.done b.posted (Made p b.fresh) m.look m.kept now g;
+          kept = kept_grown M N h qs m.done b.posted (Made p b.fresh) m.look m.kept now g;
           same = m.same;
           xs = shown_moved name h now m.look m.look (Made p b.fresh) (Made p b.fresh) (λ x k. k) (λ t e o. moves (Made p b.fresh) t e) p.x c.x m.xs;
           ys = shown_moved name h now m.look m.look (Made p b.fresh) (Made p b.fresh) (λ x k. k) (λ t e o. moves (Made p b.fresh) t e) p.y c.y m.ys;
           saved = all_moved name h now m.look m.look (IsOld p b.fresh) (IsOld p b.fresh) (λ x k. k) (λ t e o. moves (IsOld p b.fresh) t e) b.fresh b.fresh (omega arith) returns stack m.saved;
+          leveled = m.leveled;
           own = m.own;
           covered = m.covered;
           used = m.used;
@@ -106,11 +109,11 @@ built_shown name h now f g named ds e own is kept look P ts a = record {
   value = ap (Comp g) (all_values name now look P ds ts a ∙ kept) ∙ ap (λ n. Comp n (terms_by (term_of name h) ds)) (sym named) ∙ sym is;
 }
 
-module _ (M : ℕ) (area : Area) (shown : List ℕ) (name : Naming) (h : Cells) (qs : List Indexical) (at : ℕ) (c : Registers) (stack : List Saved) (b : Branch) where
+module _ (M N : ℕ) (marks : List ℕ) (area : Area) (shown : List ℕ) (name : Naming) (h : Cells) (qs : List Indexical) (at : ℕ) (c : Registers) (stack : List Saved) (b : Branch) where
   -- a head's argument: it is gathered first, and then the arguments of the term that is to be equal to it
-  pub start_get : Stands M area shown name h qs at c stack b → (f : AtomId) (n a : ℕ) → Holds area at (GetStructure f n a) → (d : Cell) × (c.x a ≡ Some d) × IsOf h d × Builds M area shown name h qs 0 (suc at) c (d ∷ []) n stack b (GetEnd area shown b (name_of area f))
+  pub start_get : Stands M N marks area shown name h qs at c stack b → (f : AtomId) (n a : ℕ) → Holds area at (GetStructure f n a) → (d : Cell) × (c.x a ≡ Some d) × IsOf h d × Builds M N marks area shown name h qs 0 (suc at) c (d ∷ []) n stack b (GetEnd area shown b (name_of area f))
   start_get m f n a holds =
-      let k = here M area shown name h qs at c stack b m (GetStructure f n a) holds in
+      let k = here M N marks area shown name h qs at c stack b m (GetStructure f n a) holds in
       let e = k.3.4 in
       let one = k.2.xs a e.0 e.2 in (
         one.0,
@@ -137,9 +140,9 @@ module _ (M : ℕ) (area : Area) (shown : List ℕ) (name : Naming) (h : Cells) 
       )
 
   -- a goal's argument: the register may hold any cell meanwhile
-  pub start_put : Stands M area shown name h qs at c stack b → (f : AtomId) (n a : ℕ) → Holds area at (PutStructure f n a) → (c' : Registers) → ((i : ℕ) → (i ≡ a → ⊥) → c'.x i ≡ c.x i) → AreSame c.y c'.y → Builds M area shown name h qs 0 (suc at) c' [] n stack b (PutEnd area shown b (name_of area f) a)
-  start_put m f n a holds c' xs ys =
-      let k = here M area shown name h qs at c stack b m (PutStructure f n a) holds in
+  pub start_put : Stands M N marks area shown name h qs at c stack b → (f : AtomId) (n a : ℕ) → Holds area at (PutStructure f n a) → (c' : Registers) → ((i : ℕ) → (i ≡ a → ⊥) → c'.x i ≡ c.x i) → AreSame c.y c'.y → AreSame c.levels c'.levels → c'.noted ≡ c.noted → Builds M N marks area shown name h qs 0 (suc at) c' [] n stack b (PutEnd area shown b (name_of area f) a)
+  start_put m f n a holds c' xs ys levels noted =
+      let k = here M N marks area shown name h qs at c stack b m (PutStructure f n a) holds in
       record {
         p = without k.0 a;
         q = k.3.2;
@@ -149,7 +152,7 @@ module _ (M : ℕ) (area : Area) (shown : List ℕ) (name : Naming) (h : Cells) 
         todo = k.1;
         returns = m.returns;
         after = m.after;
-        made = made_without M name qs m.returns stack b h c k.0 k.1 k.2 a c' xs ys;
+        made = made_without M N marks name qs m.returns stack b h c k.0 k.1 k.2 a c' xs ys levels noted;
         are = tt;
         counted = k.3.3.0;
         owed = k.3.3.1;
@@ -162,17 +165,17 @@ module _ (M : ℕ) (area : Area) (shown : List ℕ) (name : Naming) (h : Cells) 
   -- the cell new of the heap now is the compound term of the cells ds
   module _ (f : AtomId) (named : name f ≡ name_of area f) (ds : List Cell) (now : Cells) (new : Cell) (grown : IsGrown h now) (own : IsOf now new) (is : term_of name now new ≡ Comp (name f) (terms_by (term_of name h) ds)) where
     -- nothing is left to be given
-    at_end : (cells : List Cell) (Ends : End) (m : Builds M area shown name h qs 0 at c cells 0 stack b Ends) → (m.next ≡ at) × (m.q ≡ m.p) × Ends m.gathered m.next m.q m.todo m.after
+    at_end : (cells : List Cell) (Ends : End) (m : Builds M N marks area shown name h qs 0 at c cells 0 stack b Ends) → (m.next ≡ at) × (m.q ≡ m.p) × Ends m.gathered m.next m.q m.todo m.after
     at_end cells Ends m = go m.ts m.counted m.owed m.ends
       where
         go : (ts : Terms) → term_count ts ≡ 0 → Owed area 0 at m.p ts m.next m.q → Ends (joined_terms m.gathered ts) m.next m.q m.todo m.after → (m.next ≡ at) × (m.q ≡ m.p) × Ends m.gathered m.next m.q m.todo m.after
         go no_terms n o e = (o.1, o.2, subst (λ l. Ends l m.next m.q m.todo m.after) (joined_none m.gathered) e)
         go (term t ts) n o e = absurd (omega (arith, n))
 
-    pub end_get : (d : Cell) → Builds M area shown name h qs 0 at c (d ∷ ds) 0 stack b (GetEnd area shown b (name_of area f)) → GoesOnEqual M area shown name now qs at c stack b d new
+    pub end_get : (d : Cell) → Builds M N marks area shown name h qs 0 at c (d ∷ ds) 0 stack b (GetEnd area shown b (name_of area f)) → GoesOnEqual M N marks area shown name now qs at c stack b d new
     end_get d m =
         let e = at_end (d ∷ ds) (GetEnd area shown b (name_of area f)) m in
-        let k = made_grown M name qs m.returns stack b h c m.p m.todo m.made now grown in
+        let k = made_grown M N marks name qs m.returns stack b h c m.p m.todo m.made now grown in
         let P = Made m.p b.fresh in
         let a = e.2.0 in
         let us = e.2.1 in
@@ -188,19 +191,19 @@ module _ (M : ℕ) (area : Area) (shown : List ℕ) (name : Naming) (h : Cells) 
             todo = later;
             returns = m.returns;
             after = m.after;
-            made = made_unified M name qs m.returns stack b now c m.p m.todo k.0 a (Comp g us) d new are.0 built later e.2.4 then' ts u size;
+            made = made_unified M N marks name qs m.returns stack b now c m.p m.todo k.0 a (Comp g us) d new are.0 built later e.2.4 then' ts u size;
             continues = m.continues;
             means = means;
             below = m.below;
             asked = m.asked;
           };
-          refuted = made_refuted M name qs m.returns stack b now c m.p m.todo k.0 a (Comp g us) d new are.0 built later e.2.4;
+          refuted = made_refuted M N marks name qs m.returns stack b now c m.p m.todo k.0 a (Comp g us) d new are.0 built later e.2.4;
         }
 
-    pub end_put : (r : ℕ) → Builds M area shown name h qs 0 at c ds 0 stack b (PutEnd area shown b (name_of area f) r) → (c' : Registers) → IsWritten c (X r) new c' → Stands M area shown name now qs at c' stack b
+    pub end_put : (r : ℕ) → Builds M N marks area shown name h qs 0 at c ds 0 stack b (PutEnd area shown b (name_of area f) r) → (c' : Registers) → IsWritten c (X r) new c' → Stands M N marks area shown name now qs at c' stack b
     end_put r m c' w =
         let e = at_end ds (PutEnd area shown b (name_of area f) r) m in
-        let k = made_grown M name qs m.returns stack b h c m.p m.todo m.made now grown in
+        let k = made_grown M N marks name qs m.returns stack b h c m.p m.todo m.made now grown in
         let P = Made m.p b.fresh in
         let t : Term = Comp (name_of area f) m.gathered in
         let are = cells_keep name h now m.made.look k.0.look P P k.1 ds m.gathered m.are in
@@ -212,7 +215,7 @@ module _ (M : ℕ) (area : Area) (shown : List ℕ) (name : Naming) (h : Cells) 
           todo = m.todo;
           returns = m.returns;
           after = m.after;
-          made = (made_write M name qs m.returns stack b now c c' m.p m.todo k.0 (X r) t new built w).0;
+          made = (made_write M N marks name qs m.returns stack b now c c' m.p m.todo k.0 (X r) t new built w).0;
           continues = m.continues;
           means = there;
           below = m.below;

@@ -1,5 +1,5 @@
 -- A clause is entered, whose head's equations are still to be made.
-use Rattle.std.proofs.Common.{◌≡◌, ℕ, suc, ◌+◌, ◌<◌, ◌≤◌, true, List, [], ◌∷◌, ◌++◌, map, Option, None, refl, ap, sym, ◌∙◌, subst, inl, inr, arith, nat_lt}
+use Rattle.std.proofs.Common.{◌≡◌, ℕ, suc, ◌+◌, ◌<◌, ◌≤◌, true, List, [], ◌∷◌, ◌++◌, map, Option, Some, None, refl, ap, sym, ◌∙◌, subst, inl, inr, arith, nat_lt}
 use Rattle.std.proofs.lemmas.Bool.{cases_eq, true≢false, and_parts}
 use Rattle.std.proofs.lemmas.Bool.Decides.{nat_tests}
 use Rattle.std.specs.Str.{bytes_eq}
@@ -10,10 +10,10 @@ use Rattle.fd_language.specs.Range.{Indexical}
 use Rattle.fd_language.specs.Variables.{TermBelow, TermsBelow}
 use Rattle.fd_model.specs.Children.{by_clause, fits_head, same_count, paired, argument_equations}
 use Rattle.fd_model.specs.Constraining.{arguments}
-use Rattle.fd_model.specs.Goal.{Clause, Branch}
+use Rattle.fd_model.specs.Goal.{Clause, Branch, marked_all}
 use Rattle.fd_model.specs.Renaming.{rename_term, rename_goal}
 use Rattle.fd_model.specs.Sound.{EachBelow, NumbersBelow}
-use Rattle.fd_model.proofs.Lemmas.{join_both, split_both, each_wider, each_both_below, body_renamed}
+use Rattle.fd_model.proofs.Lemmas.{join_both, split_both, each_wider, each_both_below, each_marked, body_renamed}
 use Rattle.heap_cells.specs.declared.Cell.{Cell}
 use Rattle.heap_cells.specs.Cells.{Cells}
 use Rattle.heap_cells.specs.Terms.{Naming}
@@ -23,11 +23,12 @@ use Rattle.machine_relation.proofs.Lemmas.{more_all, more_each, below_both}
 use Rattle.machine_frames.proofs.Lemmas.{renamed_all, kept_known}
 use Rattle.wam_code.specs.declared.parts.Entry.{Entry}
 use Rattle.wam_code.specs.Area.{Area, name_of}
-use Rattle.wam_code.specs.Places.{Places, put_at, Hold, made}
+use Rattle.wam_code.specs.Places.{Depth, Places, put_at, Hold, made}
 use Rattle.wam_code.specs.Tries.{IsClause}
 use Rattle.code_steps.specs.Registers.{Registers, Saved, AreSame, IsShown, AreShown, AreHeld}
 use Rattle.code_steps.specs.Standing.{Made, IsOld, Stands, IsCalling}
 use Rattle.wam_code.proofs.Lemmas.{put_here, put_else}
+use Rattle.code_steps.proofs.Leveling.{leveled_no_slots}
 use Rattle.code_steps.proofs.RegisterTerms.{all_moved, shown_same, shown_moved}
 
 -- the terms in registers from i on
@@ -93,21 +94,21 @@ pub numbers_wider : (n k : ℕ) → n ≤ k → (vs : List ℕ) → NumbersBelow
 numbers_wider n k l [] b = tt
 numbers_wider n k l (v ∷ vs) b = ((let i = b.0 in omega (arith, i, l)), numbers_wider n k l vs b.1)
 
-module _ (M : ℕ) (area : Area) (shown : List ℕ) (name : Naming) (h : Cells) (qs : List Indexical) (at : ℕ) (e : Entry) (c : Registers) (stack : List Saved) (b : Branch) (m : IsCalling M area shown name h qs e c stack b) where
+module _ (M N : ℕ) (marks : List ℕ) (noted : Depth) (area : Area) (shown : List ℕ) (name : Naming) (h : Cells) (qs : List Indexical) (at : ℕ) (e : Entry) (c : Registers) (stack : List Saved) (b : Branch) (m : IsCalling M N marks noted area shown name h qs e c stack b) where
   -- Where the clause's code stands, the machine stands for the clause's branch. The slots hold whatever they do.
   pub enter_clause : (k : Clause) → IsClause area at k → fits_head (made (name_of area e.name) m.ts) k.head ≡ true → TermBelow k.variables k.head × EachBelow k.variables k.body
-      → (c' : Registers) → AreSame c.x c'.x → Stands M area shown name h qs at c' stack (by_clause b (made (name_of area e.name) m.ts) m.rest k)
-  enter_clause k code fits low c' same =
+      → (c' : Registers) → AreSame c.x c'.x → c'.noted ≡ c.noted → Stands M N marks area shown name h qs at c' stack (by_clause noted.branches b (made (name_of area e.name) m.ts) m.rest k)
+  enter_clause k code fits low c' same number =
       let f : Name = name_of area e.name in
       let n : ℕ = b.fresh in
       let fresh : ℕ = n + k.variables in
       let P : ℕ → Type 0 = λ v. v < n in
       let F : ℕ → Type 0 = λ v. v < fresh in
       let wide : (v : ℕ) → v < n → v < fresh = λ v l. omega (arith, l) in
-      let p : Places = record { x = args_at 1 m.ts; y = λ i. None; known = λ v. nat_lt v n; own = fresh; top = fresh } in
+      let p : Places = record { x = args_at 1 m.ts; y = λ i. None; levels = λ i. None; noted = Some noted; known = λ v. nat_lt v n; own = fresh; top = fresh } in
       let us : Terms = apply_all (λ x. Var (n + x)) (arguments k.head) in
       let todo : List Equation = paired m.ts us in
-      let kid : Branch = by_clause b (made f m.ts) m.rest k in
+      let kid : Branch = by_clause noted.branches b (made f m.ts) m.rest k in
       let is : argument_equations (made f m.ts) (rename_term (λ x. n + x) k.head) ≡ todo = fits_equations (λ x. n + x) f m.ts k.head fits in
       let old : AllOf P m.ts = held_low name h m.look P 1 c.x m.ts m.held in
       let there : (v : ℕ) → v < n → Made p fresh v = λ v l. (grind (arith, nat_tests), inl (wide v l)) in
@@ -126,18 +127,20 @@ module _ (M : ℕ) (area : Area) (shown : List ℕ) (name : Naming) (h : Cells) 
         made = record {
           done = b.equations;
           look = m.look;
-          kept = kept_known M h qs b.equations b.posted P m.look m.kept (Made p fresh) there back;
+          kept = kept_known M N h qs b.equations b.posted P m.look m.kept (Made p fresh) there back;
           same = subst (λ l. SaysSame F (b.equations ++ todo) (l ++ b.equations)) (sym is) says;
           xs = shown_same name h m.look (Made p fresh) p.x c.x c'.x same (shown_moved name h h m.look m.look P (Made p fresh) there (λ t d o i j. (i, j)) p.x c.x (shown_args name h m.look P 1 c.x m.ts m.held));
           ys = λ i t j. absurd (none-some t j);
           saved = all_moved name h h m.look m.look P (IsOld p fresh) (λ v l. ((there v l).0, wide v l)) (λ t d o i j. (i, j)) n fresh (omega arith) m.returns stack m.saved;
+          leveled = leveled_no_slots marks (λ i. None) (Some noted) c m.returns stack m.leveled c' number;
           own = omega arith;
           covered = λ v l t. absurd (omega (arith, l, t));
           used = λ v i. wide v (m.kept.stored.used v i);
           scoped = subst (λ l. EquationsOf F (l ++ b.equations)) (sym is) scoped;
         };
         continues = m.continues;
-        means = code n m.ts m.rest shown p (fits_count f m.ts k.head fits) old (hold_args p 1 m.ts (λ i l. refl)) (record { known = λ i l. (there i l).0; fresh = λ i l. grind (arith, nat_tests); own = refl; top = refl });
-        below = each_both_below fresh (map (rename_goal (λ x. n + x)) k.body) m.rest (body_renamed k.variables fresh (λ x. n + x) (λ x l. omega (arith, l)) k.body low.1) (each_wider n fresh (omega arith) m.rest (subst (EachBelow n) m.goals m.below).1);
+        means = code n m.ts noted m.rest shown p (fits_count f m.ts k.head fits) old (hold_args p 1 m.ts (λ i l. refl)) refl (record { known = λ i l. (there i l).0; fresh = λ i l. grind (arith, nat_tests); own = refl; top = refl });
+        below = each_both_below fresh (marked_all noted.branches (map (rename_goal (λ x. n + x)) k.body)) m.rest
+            (each_marked fresh noted.branches (map (rename_goal (λ x. n + x)) k.body) (body_renamed k.variables fresh (λ x. n + x) (λ x l. omega (arith, l)) k.body low.1)) (each_wider n fresh (omega arith) m.rest (subst (EachBelow n) m.goals m.below).1);
         asked = numbers_wider n fresh (omega arith) shown m.asked;
       }

@@ -7,6 +7,8 @@ pub use Rattle.code_steps.proofs.WriteMode.{build_constant, build_integer, build
 pub use Rattle.code_steps.proofs.BuiltTerms.{end_get, end_put, start_get, start_put}
 -- A goal is called: the branches of the clauses that its predicate's code tries are those that are still to come.
 pub use Rattle.code_steps.proofs.Calling.{run_call, run_execute}
+-- The steps of the group cut: a test, with another way or without, and a cut.
+pub use Rattle.code_steps.proofs.Cutting.{run_cut, run_enter, run_test}
 -- The steps from a constraint: its row by the heap and the store's sets, whose fresh variables are the next variables of the heap.
 pub use Rattle.code_steps.proofs.Constraining.{run_constraint, run_constraint_failed, run_constraint_fault}
 -- The steps from a built-in goal, by what it comes to on the heap and the store's sets.
@@ -14,7 +16,10 @@ pub use Rattle.code_steps.proofs.Finding.{run_found_equated, run_found_false, ru
 -- The steps from `true`, `fail`, `=` and `;`, and from any goal where the budget is spent.
 pub use Rattle.code_steps.proofs.Goals.{TakesGoal, run_either, run_fail, run_false, run_refuted, run_true, run_unify, runs_spent}
 -- The steps from a labelling, and back to one.
-pub use Rattle.code_steps.proofs.Labelling.{back_no_values, back_value, run_label, run_label_done, run_label_fault}
+pub use Rattle.code_steps.proofs.Labelling.{back_last_value, back_no_values, back_value, run_label, run_label_done, run_label_fault}
+-- The steps from a search for the best leaf of a labelling, and the numbers found, which the machine takes one after the other.
+pub use Rattle.code_steps.proofs.Leading.{run_best, run_best_fault, run_best_none}
+pub use Rattle.code_steps.proofs.Rounds.{lead_done, lead_equal, lead_model, lead_more, lead_no_fault, lead_value}
 -- A compound term of a clause's head, where the argument is one of its name and arity: its arguments are read one by one.
 pub use Rattle.code_steps.proofs.Opening.{IsNone, count_terms, step_get_structure}
 -- The steps from a goal `T in R`, by the cells of its target and of the range's variables.
@@ -22,13 +27,13 @@ pub use Rattle.code_steps.proofs.Ranging.{run_range, run_range_fault}
 -- The unify instructions on a compound term that is there.
 pub use Rattle.code_steps.proofs.ReadMode.{read_constant, read_end, read_integer, read_value, read_variable, read_void, read_voids}
 -- Steps of the whole state: on in a clause, before a clause, to a choice point and back to it.
-pub use Rattle.code_steps.proofs.Running.{back_resumes, goes_before, runs_gone, runs_jump, runs_on, runs_over, runs_tries, spends_more, stands_no_model, back_ends}
+pub use Rattle.code_steps.proofs.Running.{back_resumes, goes_before, runs_gone, runs_jump, runs_on, runs_over, runs_tries, spends_more, stands_no_model, stands_pushed, trying_pushed, back_ends}
 -- Registers and continuations on a heap that changes.
 pub use Rattle.code_steps.proofs.RegisterTerms.{all_moved, shown_moved}
 -- A new machine at a query's code, and a store without a model.
-pub use Rattle.code_steps.proofs.Starting.{run_starts}
+pub use Rattle.code_steps.proofs.Starting.{run_fails, run_starts}
 -- The machine's step at each instruction.
-pub use Rattle.code_steps.proofs.Stepping.{step_allocate, step_deallocate, step_get_constant, step_get_integer, step_get_value, step_get_variable, step_proceed, step_put_constant, step_put_integer, step_put_value, step_put_variable}
+pub use Rattle.code_steps.proofs.Stepping.{step_allocate, step_deallocate, step_get_constant, step_get_integer, step_get_value, step_get_variable, step_level, step_proceed, step_put_constant, step_put_integer, step_put_value, step_put_variable}
 -- The machine's step at each choice and switch, and clauses that may be left out.
 pub use Rattle.code_steps.proofs.Trying.{step_constants, step_enter, step_fail, step_integers, step_retry, step_retry_me_else, step_structures, step_switch, step_trust, step_trust_me, step_try, step_try_me_else}
 -- The steps from `write` and `nl`.

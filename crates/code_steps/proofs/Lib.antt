@@ -14,12 +14,15 @@ mod BuiltTerms
 mod Running
 mod Readying
 mod Goals
+mod Cutting
 mod Calling
 mod Answering
 mod Arguments
 mod Constraining
 mod Finding
 mod Labelling
+mod Leading
+mod Rounds
 mod Writing
 mod Starting
 mod Choosing
@@ -28,3 +31,5 @@ mod Agreeing
 mod Numbering
 mod Ranging
 pub mod Lemmas
+mod Depths
+mod Leveling

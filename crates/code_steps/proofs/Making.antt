@@ -31,6 +31,7 @@ use Rattle.wam_code.specs.Places.{Places, write, learn, read, IsFresh}
 use Rattle.wam_code.specs.Means.{Return}
 use Rattle.code_steps.specs.Registers.{Registers, Saved, cell_in, IsWritten, IsShown, AreShown, AllShown}
 use Rattle.code_steps.specs.Standing.{Made, IsOld, IsMade}
+use Rattle.code_steps.proofs.Leveling.{leveled_same, leveled_drop}
 use Rattle.code_steps.proofs.RegisterTerms.{one_moved, shown_moved, all_moved, shown_same, shown_put}
 
 -- the first of the equations still to be made is made
@@ -63,9 +64,9 @@ module _ (p : Places) (fresh v : ℕ) (new_one : IsFresh p v) where
   made_back : (x : ℕ) → Made (learn p v) fresh x → Or (Made p fresh) v x
   made_back x k = elim (cases_eq x v) [ inl e ↦ inl e | inr d ↦ inr (sym (learnt_else p v x d) ∙ k.0, k.1) ]
 
-module _ (M : ℕ) (name : Naming) (qs : List Indexical) (returns : List Return) (stack : List Saved) (b : Branch) where
+module _ (M N : ℕ) (marks : List ℕ) (name : Naming) (qs : List Indexical) (returns : List Return) (stack : List Saved) (b : Branch) where
   abbrev Makes : Cells → Registers → Places → List Equation → Type 0
-  Makes h c p todo = IsMade M name h qs c returns stack b p todo
+  Makes h c p todo = IsMade M N marks name h qs c returns stack b p todo
 
   -- what a register holds is the cell of its term
   pub made_read : (h : Cells) (c : Registers) (p : Places) (todo : List Equation) (m : Makes h c p todo) (r : Register) (t : Term) → read p r ≡ Some t → (d : Cell) × (cell_in c r ≡ Some d) × IsShown name h m.look (Made p b.fresh) t d
@@ -84,6 +85,7 @@ module _ (M : ℕ) (name : Naming) (qs : List Indexical) (returns : List Return)
       xs = shown_put name h m.look (Made p b.fresh) p.x c.x c'.x n t d s w.0 m.xs;
       ys = shown_same name h m.look (Made p b.fresh) p.y c.y c'.y w.1 m.ys;
       saved = m.saved;
+      leveled = leveled_same marks p.levels p.noted c returns stack m.leveled c' w.2 w.3;
       own = m.own;
       covered = m.covered;
       used = m.used;
@@ -101,6 +103,7 @@ module _ (M : ℕ) (name : Naming) (qs : List Indexical) (returns : List Return)
       xs = shown_same name h m.look (Made p b.fresh) p.x c.x c'.x w.0 m.xs;
       ys = shown_put name h m.look (Made p b.fresh) p.y c.y c'.y n t d s w.1 m.ys;
       saved = m.saved;
+      leveled = leveled_drop marks p.levels p.noted c returns stack m.leveled n c' w.2 w.3;
       own = m.own;
       covered = m.covered;
       used = m.used;
@@ -154,11 +157,12 @@ module _ (M : ℕ) (name : Naming) (qs : List Indexical) (returns : List Return)
         record {
           done = e ∷ m.done;
           look = with_one v u m.look;
-          kept = kept_known M h qs (e ∷ m.done) b.posted (Or (Made p b.fresh) v) (with_one v u m.look) (kept_place M h qs m.done b.posted (Made p b.fresh) m.look m.kept v (none_made p b.fresh v f) t s.known) (Made (learn p v) b.fresh) (made_there p b.fresh v f) (made_back p b.fresh v f);
+          kept = kept_known M N h qs (e ∷ m.done) b.posted (Or (Made p b.fresh) v) (with_one v u m.look) (kept_place M N h qs m.done b.posted (Made p b.fresh) m.look m.kept v (none_made p b.fresh v f) t s.known) (Made (learn p v) b.fresh) (made_there p b.fresh v f) (made_back p b.fresh v f);
           same = moved_over (λ x. x < b.fresh) m.done later b.equations e (subst (λ l. SaysSame (λ x. x < b.fresh) (m.done ++ l) b.equations) is m.same);
           xs = xs_now h h c p todo m v f u stays;
           ys = ys_now h h c p todo m v f u stays;
           saved = saved_now h h c p todo m v f u stays;
+          leveled = m.leveled;
           own = m.own;
           covered = covered_now h h c p todo m v f u stays;
           used = m.used;
@@ -179,11 +183,12 @@ module _ (M : ℕ) (name : Naming) (qs : List Indexical) (returns : List Return)
         record {
           done = m.done;
           look = with_one v u m.look;
-          kept = kept_known M now qs m.done b.posted (Or (Made p b.fresh) v) (with_one v u m.look) (kept_cell M h qs m.done b.posted (Made p b.fresh) m.look m.kept v (none_made p b.fresh v f)) (Made (learn p v) b.fresh) (made_there p b.fresh v f) (made_back p b.fresh v f);
+          kept = kept_known M N now qs m.done b.posted (Or (Made p b.fresh) v) (with_one v u m.look) (kept_cell M N h qs m.done b.posted (Made p b.fresh) m.look m.kept v (none_made p b.fresh v f)) (Made (learn p v) b.fresh) (made_there p b.fresh v f) (made_back p b.fresh v f);
           same = m.same;
           xs = xs_now h now c p todo m v f u grows;
           ys = ys_now h now c p todo m v f u grows;
           saved = saved_now h now c p todo m v f u grows;
+          leveled = m.leveled;
           own = m.own;
           covered = covered_now h now c p todo m v f u grows;
           used = m.used;
@@ -203,7 +208,7 @@ module _ (M : ℕ) (name : Naming) (qs : List Indexical) (returns : List Return)
     says = moved_over (λ x. x < b.fresh) m.done later b.equations e (subst (λ l. SaysSame (λ x. x < b.fresh) (m.done ++ l) b.equations) is m.same)
 
     -- the cells are equal now, and what was touched is to be posted
-    pub made_unified : (now : Cells) (ts : List Touch) → core.IsUnified name h a d now ts → IsSameSize h now → IsMade M name now (qs ++ posts (store_touches ts)) c returns stack b p later
+    pub made_unified : (now : Cells) (ts : List Touch) → core.IsUnified name h a d now ts → IsSameSize h now → IsMade M N marks name now (qs ++ posts (store_touches ts)) c returns stack b p later
     made_unified now ts u size =
         let own : (c : Cell) → IsOf h c → IsOf now c = λ c o. of_same h now c (sym size.slots) (sym (ap length size.compounds)) o in
         let moves : (P : ℕ → Type 0) (t : Term) (c : Cell) → Of P t → IsOf h c → apply m.look t ≡ term_of name h c → IsOf now c × (apply (after u.unifier m.look) t ≡ term_of name now c) =
@@ -211,16 +216,21 @@ module _ (M : ℕ) (name : Naming) (qs : List Indexical) (returns : List Return)
         record {
           done = e ∷ m.done;
           look = after u.unifier m.look;
-          kept = kept_unified M name h qs m.done b.posted (Made p b.fresh) m.look m.kept l r a d (at_l.known, at_r.known) at_l.value at_r.value now ts u size;
+          kept = kept_unified M N name h qs m.done b.posted (Made p b.fresh) m.look m.kept l r a d (at_l.known, at_r.known) at_l.value at_r.value now ts u size;
           same = says;
           xs = shown_moved name h now m.look (after u.unifier m.look) (Made p b.fresh) (Made p b.fresh) (λ x k. k) (moves (Made p b.fresh)) p.x c.x m.xs;
           ys = shown_moved name h now m.look (after u.unifier m.look) (Made p b.fresh) (Made p b.fresh) (λ x k. k) (moves (Made p b.fresh)) p.y c.y m.ys;
           saved = all_moved name h now m.look (after u.unifier m.look) (IsOld p b.fresh) (IsOld p b.fresh) (λ x k. k) (moves (IsOld p b.fresh)) b.fresh b.fresh (omega arith) returns stack m.saved;
+          leveled = m.leveled;
           own = m.own;
           covered = m.covered;
           used = m.used;
           scoped = m.scoped;
         }
+
+    pub unified_look : (now : Cells) (ts : List Touch) (u : core.IsUnified name h a d now ts) (size : IsSameSize h now) → (made_unified now ts u size).look ≡ after u.unifier m.look
+    unfolding made_unified
+    unified_look now ts u size = refl
 
     -- what cells show of other terms they show still
     pub unified_keeps : (now : Cells) (ts : List Touch) (u : core.IsUnified name h a d now ts) (size : IsSameSize h now) (s : Term) (k : Cell) → IsShown name h m.look (Made p b.fresh) s k → IsShown name now (made_unified now ts u size).look (Made p b.fresh) s k
@@ -232,8 +242,8 @@ module _ (M : ℕ) (name : Naming) (qs : List Indexical) (returns : List Return)
     }
 
     -- they can't be equal: the branch has no model
-    pub made_refuted : IsRefuted h (cells_equal name h a d) → (S : Family) → IsModel M b.equations b.posted S → ⊥
+    pub made_refuted : IsRefuted h (cells_equal name h a d) → (S : Family) → IsModel M N b.equations b.posted S → ⊥
     made_refuted no_one S k =
-        let all = same_model M (λ x. x < b.fresh) ((e ∷ m.done) ++ later) b.equations b.posted S says m.used k in
-        kept_refuted M name h qs m.done b.posted (Made p b.fresh) m.look m.kept l r a d (at_l.known, at_r.known) at_l.value at_r.value no_one S
-        (weaker M ((e ∷ m.done) ++ later) (e ∷ m.done) b.posted S (λ u g. (g.0, (split_both u m.done later g.1).0)) all)
+        let all = same_model M N (λ x. x < b.fresh) ((e ∷ m.done) ++ later) b.equations b.posted S says m.used k in
+        kept_refuted M N name h qs m.done b.posted (Made p b.fresh) m.look m.kept l r a d (at_l.known, at_r.known) at_l.value at_r.value no_one S
+        (weaker M N ((e ∷ m.done) ++ later) (e ∷ m.done) b.posted S (λ u g. (g.0, (split_both u m.done later g.1).0)) all)

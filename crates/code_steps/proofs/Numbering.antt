@@ -65,26 +65,26 @@ placed_back u (d ∷ ds) es k =
     let b = split_both u (equations ds) es k.1 in
     placed_back u ds (record { left = Int d.1; right = Var d.0 } ∷ es) (join_both u (equations ds) (record { left = Int d.1; right = Var d.0 } ∷ es) b.0 (sym k.0, b.1))
 
-module _ (M : ℕ) (h : Cells) (qs : List Indexical) (ps : List Indexical) where
-  kept_placed : (n : ℕ) (ds : List (ℕ × ℤ)) (es : List Equation) (look : Substitution) → AreConsecutive n ds → IsKept M h qs es ps (λ v. v < n) look → IsKept M h qs (placed ds es) ps (λ v. v < n + length ds) (numbered ds look)
-  kept_placed n [] es look a k = kept_known M h qs es ps (λ v. v < n) look k (λ v. v < n + 0) (λ v l. omega (arith, l)) (λ v l. omega (arith, l))
+module _ (M N : ℕ) (h : Cells) (qs : List Indexical) (ps : List Indexical) where
+  kept_placed : (n : ℕ) (ds : List (ℕ × ℤ)) (es : List Equation) (look : Substitution) → AreConsecutive n ds → IsKept M N h qs es ps (λ v. v < n) look → IsKept M N h qs (placed ds es) ps (λ v. v < n + length ds) (numbered ds look)
+  kept_placed n [] es look a k = kept_known M N h qs es ps (λ v. v < n) look k (λ v. v < n + 0) (λ v l. omega (arith, l)) (λ v l. omega (arith, l))
   kept_placed n (d ∷ ds) es look a k =
       let first = a.0 in
-      let one = kept_place M h qs es ps (λ v. v < n) look k d.0 (λ l. omega (arith, first, l)) (Int d.1) tt in
-      let next = kept_known M h qs (record { left = Int d.1; right = Var d.0 } ∷ es) ps (Or (λ v. v < n) d.0) (with_one d.0 (Int d.1) look) one (λ v. v < suc n)
+      let one = kept_place M N h qs es ps (λ v. v < n) look k d.0 (λ l. omega (arith, first, l)) (Int d.1) tt in
+      let next = kept_known M N h qs (record { left = Int d.1; right = Var d.0 } ∷ es) ps (Or (λ v. v < n) d.0) (with_one d.0 (Int d.1) look) one (λ v. v < suc n)
       (λ v o. elim o [ inl e ↦ omega (arith, e, first) | inr l ↦ omega (arith, l) ]) (λ v l. elim (cases_eq v d.0) [ inl e ↦ inl e | inr e ↦ inr (omega (arith, l, e, first)) ]) in
       let more = kept_placed (suc n) ds (record { left = Int d.1; right = Var d.0 } ∷ es) (with_one d.0 (Int d.1) look) a.1 next in
-      kept_known M h qs (placed (d ∷ ds) es) ps (λ v. v < suc n + length ds) (numbered (d ∷ ds) look) more (λ v. v < n + suc (length ds)) (λ v l. omega (arith, l)) (λ v l. omega (arith, l))
+      kept_known M N h qs (placed (d ∷ ds) es) ps (λ v. v < suc n + length ds) (numbered (d ∷ ds) look) more (λ v. v < n + suc (length ds)) (λ v l. omega (arith, l)) (λ v l. omega (arith, l))
 
   equations_low : (n : ℕ) (ds : List (ℕ × ℤ)) → AreConsecutive n ds → EquationsOf (λ v. v < n + length ds) (equations ds)
   equations_low n [] a = tt
   equations_low n (d ∷ ds) a = (((let e = a.0 in omega (arith, e)), tt), more_each (λ v. v < suc n + length ds) (λ v. v < n + suc (length ds)) (λ v l. omega (arith, l)) (equations ds) (equations_low (suc n) ds a.1))
 
   -- The heap stands for the branch with fresh variables that are integers.
-  pub kept_numbered : (n : ℕ) (ds : List (ℕ × ℤ)) (es : List Equation) (look : Substitution) → AreConsecutive n ds → IsKept M h qs es ps (λ v. v < n) look → IsKept M h qs (equations ds ++ es) ps (λ v. v < n + length ds) (numbered ds look)
+  pub kept_numbered : (n : ℕ) (ds : List (ℕ × ℤ)) (es : List Equation) (look : Substitution) → AreConsecutive n ds → IsKept M N h qs es ps (λ v. v < n) look → IsKept M N h qs (equations ds ++ es) ps (λ v. v < n + length ds) (numbered ds look)
   kept_numbered n ds es look a k =
       let P : ℕ → Type 0 = λ v. v < n + length ds in
       let wide = kept_placed n ds es look a k in
-      kept_forget M h qs (placed ds es) ps P (numbered ds look) wide (equations ds ++ es) P (λ v c. wide.stored.used v c) (λ v l. l)
+      kept_forget M N h qs (placed ds es) ps P (numbered ds look) wide (equations ds ++ es) P (λ v c. wide.stored.used v c) (λ v l. l)
       (record { there = λ u i. placed_there u ds es i; back = λ u i. (u, placed_back u ds es i, λ x l. refl) })
       (below_both P (equations ds) es (equations_low n ds a) (more_each (λ v. v < n) P (λ v l. omega (arith, l)) es k.stored.heap.scoped))

@@ -144,7 +144,7 @@ all_plain name h look P Q more fresh (r ∷ rs) [] a = absurd a
 all_plain name h look P Q more fresh [] (s ∷ ss) a = absurd a
 all_plain name h look P Q more fresh (r ∷ rs) (s ∷ ss) a = (a.1, (λ n t e. more_of P Q more t (a.2 n t e).2.known), all_plain name h look P Q more fresh rs ss a.3)
 
-module _ (M : ℕ) (name : Naming) (h : Cells) (qs : List Indexical) (returns : List Return) (stack : List Saved) (b : Branch) (c : Registers) (p : Places) (todo : List Equation) (m : IsMade M name h qs c returns stack b p todo)
+module _ (M N : ℕ) (marks : List ℕ) (name : Naming) (h : Cells) (qs : List Indexical) (returns : List Return) (stack : List Saved) (b : Branch) (c : Registers) (p : Places) (todo : List Equation) (m : IsMade M N marks name h qs c returns stack b p todo)
     (a : Term) (d : Cell) (at_a : IsShown name h m.look (Made p b.fresh) a d) (f : Name) (cells : List Cell) (there : term_of name h d ≡ Comp f (terms_by (term_of name h) cells)) (own : AllOwn h cells)
     (us : Terms) (counted : term_count us ≡ length cells) (low_us : AllOf (λ v. v < b.fresh + p.top) us) where
   abbrev P : ℕ → Type 0
@@ -160,7 +160,7 @@ module _ (M : ℕ) (name : Naming) (h : Cells) (qs : List Indexical) (returns : 
   inner v = p.known v && (nat_lt v b.fresh || nat_lt v p.top)
 
   abbrev wide : Places
-  wide = record { x = p.x; y = p.y; known = λ v. cond (nat_lt v base) (inner v) true; own = p.own; top = base + term_count values }
+  wide = record { x = p.x; y = p.y; levels = p.levels; noted = p.noted; known = λ v. cond (nat_lt v base) (inner v) true; own = p.own; top = base + term_count values }
 
   abbrev Q : ℕ → Type 0
   Q = Made wide base
@@ -273,16 +273,17 @@ module _ (M : ℕ) (name : Naming) (h : Cells) (qs : List Indexical) (returns : 
   moves : (S : ℕ → Type 0) → ((x : ℕ) → S x → P x) → (t : Term) (e : Cell) → Of S t → IsOf h e → apply m.look t ≡ term_of name h e → IsOf h e × (apply look' t ≡ term_of name h e)
   moves S into t e o i k = (i, sym (agree S m.look look' (λ x s. sym (old_look x (into x s))) t o) ∙ k)
 
-  opened_made : (now : IsMade M name h qs c returns stack (local b whole base) wide (paired gs us)) × AreCells name h now.look Q cells gs
+  opened_made : (now : IsMade M N marks name h qs c returns stack (local b whole base) wide (paired gs us)) × AreCells name h now.look Q cells gs
   opened_made = (
     record {
       done = opened ∷ m.done;
       look = look';
-      kept = kept_more M h qs m.done b.posted P m.look m.kept (opened ∷ m.done) Q look' wider opened_says opened_heap (λ x o. sym (old_look x o));
+      kept = kept_more M N h qs m.done b.posted P m.look m.kept (opened ∷ m.done) Q look' wider opened_says opened_heap (λ x o. sym (old_look x o));
       same = whole_says;
       xs = shown_moved name h h m.look look' P Q wider (moves P (λ x k. k)) p.x c.x m.xs;
       ys = shown_moved name h h m.look look' P Q wider (moves P (λ x k. k)) p.y c.y m.ys;
       saved = all_moved name h h m.look look' (IsOld p b.fresh) (IsOld wide base) (λ x k. ((wider x (k.0, inl k.1)).0, (let l = k.1 in omega (arith, l)))) (moves (IsOld p b.fresh) (λ x k. (k.0, inl k.1))) b.fresh base (omega arith) returns stack m.saved;
+      leveled = m.leveled;
       own = (let o = m.own in omega (arith, o));
       covered = λ v l k. absurd (omega (arith, l, k));
       used = λ v k. (let l = m.used v k in omega (arith, l));
@@ -292,20 +293,20 @@ module _ (M : ℕ) (name : Naming) (h : Cells) (qs : List Indexical) (returns : 
   )
 
   opened_wider : IsWider p wide b.fresh base
-  opened_wider = record { xs = λ n. refl; ys = λ n. refl; known = λ v l k. inner_back v (sym (known_low v l) ∙ k); made = λ v k. (wider v k).0; low = omega arith; top = omega arith; above = omega arith }
+  opened_wider = record { xs = λ n. refl; ys = λ n. refl; levels = λ n. refl; noted = refl; known = λ v l k. inner_back v (sym (known_low v l) ∙ k); made = λ v k. (wider v k).0; low = omega arith; top = omega arith; above = omega arith }
 
 -- ---- the instruction
 
-module _ (M : ℕ) (area : Area) (shown : List ℕ) (name : Naming) (h : Cells) (qs : List Indexical) (at : ℕ) (c : Registers) (stack : List Saved) (b : Branch) (m : Stands M area shown name h qs at c stack b) where
+module _ (M N : ℕ) (marks : List ℕ) (area : Area) (shown : List ℕ) (name : Naming) (h : Cells) (qs : List Indexical) (at : ℕ) (c : Registers) (stack : List Saved) (b : Branch) (m : Stands M N marks area shown name h qs at c stack b) where
   -- Whatever would make the cell such a term makes a variable of the store an atom or a compound term.
   abbrev pub IsNone : Cell → Name → ℕ → Type 0
   IsNone d f n = (back : Substitution) (us : Terms) → term_count us ≡ n → apply back (term_of name h d) ≡ Comp f us → (e : ℕ) × (k : ℕ) × IsLinked h e k × IsSymbolic (back e)
 
   pub step_get_structure : (f : AtomId) (n a : ℕ) → Holds area at (GetStructure f n a) → (d : Cell) × (c.x a ≡ Some d) × IsOf h d
-      × ((cells : List Cell) → length cells ≡ n → term_of name h d ≡ Comp (name_of area f) (terms_by (term_of name h) cells) → AllOwn h cells → Reads M area shown name h qs 0 (suc at) c cells stack b)
-      × (IsNone d (name_of area f) n → (S : Family) → IsModel M b.equations b.posted S → ⊥)
+      × ((cells : List Cell) → length cells ≡ n → term_of name h d ≡ Comp (name_of area f) (terms_by (term_of name h) cells) → AllOwn h cells → Reads M N marks area shown name h qs 0 (suc at) c cells stack b)
+      × (IsNone d (name_of area f) n → (S : Family) → IsModel M N b.equations b.posted S → ⊥)
   step_get_structure f n a holds =
-      let k = here M area shown name h qs at c stack b m (GetStructure f n a) holds in
+      let k = here M N marks area shown name h qs at c stack b m (GetStructure f n a) holds in
       let p = k.0 in
       let g = k.2 in
       let us = k.3.0 in
@@ -326,10 +327,10 @@ module _ (M : ℕ) (area : Area) (shown : List ℕ) (name : Naming) (h : Cells) 
         one.2.own,
         (λ cells size there own.
             let counted : term_count us ≡ length cells = k.3.3.0 ∙ sym size in
-            let o = opened_made M name h qs m.returns stack b c p k.1 g e.0 one.0 one.2 name' cells there own us counted low_us in
+            let o = opened_made M N marks name h qs m.returns stack b c p k.1 g e.0 one.0 one.2 name' cells there own us counted low_us in
             record {
               p = p;
-              wide = wide M name h qs m.returns stack b c p k.1 g e.0 one.0 one.2 name' cells there own us counted low_us;
+              wide = wide M N marks name h qs m.returns stack b c p k.1 g e.0 one.0 one.2 name' cells there own us counted low_us;
               base = b.fresh + p.top;
               q = q;
               next = k.3.1;
@@ -342,7 +343,7 @@ module _ (M : ℕ) (area : Area) (shown : List ℕ) (name : Naming) (h : Cells) 
               made = o.0;
               cells = o.1;
               counted = counted ∙ sym (count_terms (term_of name h) cells) ∙ sym (count_ghosts (b.fresh + p.top) (terms_by (term_of name h) cells));
-              wider = opened_wider M name h qs m.returns stack b c p k.1 g e.0 one.0 one.2 name' cells there own us counted low_us;
+              wider = opened_wider M N marks name h qs m.returns stack b c p k.1 g e.0 one.0 one.2 name' cells there own us counted low_us;
               owed = k.3.3.1;
               ahead = record {
                 same = same;
@@ -360,8 +361,8 @@ module _ (M : ℕ) (area : Area) (shown : List ℕ) (name : Naming) (h : Cells) 
               asked = m.asked;
             }),
         (λ none S j.
-            let all = same_model M (λ v. v < b.fresh) ((made ∷ g.done) ++ later) b.equations b.posted S same g.used j in
-            kept_barred M h qs g.done b.posted (Made p b.fresh) g.look g.kept e.0 (Comp name' us)
+            let all = same_model M N (λ v. v < b.fresh) ((made ∷ g.done) ++ later) b.equations b.posted S same g.used j in
+            kept_barred M N h qs g.done b.posted (Made p b.fresh) g.look g.kept e.0 (Comp name' us)
             (λ back v t i. none back (apply_all v us) (count_applied v us ∙ k.3.3.0) (ap (apply back) (sym one.2.value) ∙ sym (after_is back g.look e.0) ∙ agree (Made p b.fresh) (after back g.look) v t e.0 one.2.known ∙ i))
-            S (weaker M ((made ∷ g.done) ++ later) (made ∷ g.done) b.posted S (λ u i. (i.0, (split_both u g.done later i.1).0)) all)),
+            S (weaker M N ((made ∷ g.done) ++ later) (made ∷ g.done) b.posted S (λ u i. (i.0, (split_both u g.done later i.1).0)) all)),
       )

@@ -30,7 +30,7 @@ pub record IsSeenPosted (ps : List Indexical) (P : ℕ → Type 0) (look : Subst
   pub told : AreTold p look f ts
   pub all : (v : ℕ) (z : ℤ) → has (names p) v ≡ true → look v ≡ Int z → (u : Substitution) → Unifies u (touched ts) → u (f v) ≡ Int z
 
-module _ (M : ℕ) (es : List Equation) (ps : List Indexical) (P : ℕ → Type 0) (h : ℕ) (look : Substitution) (link : ℕ → Option ℕ) (slot : ℕ → ℕ) (qs : List Indexical) (st : IsStored M es ps P h look link slot qs)
+module _ (M N : ℕ) (es : List Equation) (ps : List Indexical) (P : ℕ → Type 0) (h : ℕ) (look : Substitution) (link : ℕ → Option ℕ) (slot : ℕ → ℕ) (qs : List Indexical) (st : IsStored M N es ps P h look link slot qs)
     (p : Indexical) (f : ℕ → ℕ) (link' : ℕ → Option ℕ) (ts : List Touch) (po : IsSeenPosted ps P look link qs p f link' ts) where
   abbrev pub seen_slot : ℕ → ℕ
   seen_slot = next_slot ps slot f
@@ -53,12 +53,12 @@ module _ (M : ℕ) (es : List Equation) (ps : List Indexical) (P : ℕ → Type 
   touched_named (Value j z ∷ us) t k c = elim (or_cases (j == k) (has (constrained (posts us)) k) c) [ inl e ↦ (t.0.0, t.0.1, t.0.2 ∙ eqb-true j k e) | inr e ↦ touched_named us t.1 k e ]
   touched_named (Same i j ∷ us) t k c = absurd t
 
-  module _ (T : Family) (m : IsModel M [] (Q ++ posts ts) T) where
-    middle : IsModel M [] Q T
-    middle = front M Q (posts ts) T m
+  module _ (T : Family) (m : IsModel M N [] (Q ++ posts ts) T) where
+    middle : IsModel M N [] Q T
+    middle = front M N Q (posts ts) T m
 
-    before : IsModel M [] qs T
-    before = front M qs (rename_indexical f p ∷ []) T middle
+    before : IsModel M N [] qs T
+    before = front M N qs (rename_indexical f p ∷ []) T middle
 
     full_named : (v : ℕ) → has (names p) v ≡ true → (n : ℕ) × (has (T (f v)) n ≡ true)
     full_named v c = middle.full (f v) (named_right qs (rename_indexical f p ∷ []) (f v) (slot_there f p v c))
@@ -100,30 +100,34 @@ module _ (M : ℕ) (es : List Equation) (ps : List Indexical) (P : ℕ → Type 
       ]
     ]
 
-    down_posted : IsModel M es (p ∷ ps) (λ v. T (seen_slot v))
+    down_posted : IsModel M N es (p ∷ ps) (λ v. T (seen_slot v))
     down_posted =
         let base = st.down T before in
         let last = posted_right (λ q. IsSubset (T q.target) (set_of M T q.range)) qs (rename_indexical f p ∷ []) middle.closed.posted in
-        by_shown M es (p ∷ ps) P h look link' T (λ v. T (seen_slot v)) st.heap (record { rising = λ v. m.closed.family.rising (seen_slot v) }) (
+        by_shown M N es (p ∷ ps) P h look link' T (λ v. T (seen_slot v)) st.heap (record { rising = λ v. m.closed.family.rising (seen_slot v) }) (
           subst (λ l. IsSubset l (set_of M (λ v. T (seen_slot v)) p.range)) (sym (at_named p.target (or_left (p.target == p.target) (has (reads p.range) p.target) (eq-eqb p.target p.target refl))))
               (subst (IsSubset (T (f p.target))) (set_same M f T (λ v. T (seen_slot v)) p.range (λ v c. sym (at_named v (or_right (p.target == v) (has (reads p.range) v) c)))) last.0),
           holds_agree M (λ v. T (seen_slot v)) (λ v. T (slot v)) ps (λ v c. ap T (slot_old v c)) base.closed.posted,
         )
         agrees_posted
+        (λ v i c h. elim (new_or_old p ps v c) [
+          | inl d ↦ base.closed.within v i d (subst (λ k. has (T k) i ≡ true) (slot_old v d) h)
+          | inr d ↦ middle.closed.within (f v) i (named_right qs (rename_indexical f p ∷ []) (f v) (slot_there f p v (one_back p v d))) (subst (λ l. has l i ≡ true) (at_named v (one_back p v d)) h)
+        ])
         (λ v c. elim (new_or_old p ps v c) [
           | inl d ↦ let g = base.full v d in (g.0, subst (λ k. has (T k) g.0 ≡ true) (sym (slot_old v d)) g.1)
           | inr d ↦ let g = full_named v (one_back p v d) in (g.0, subst (λ l. has l g.0 ≡ true) (sym (at_named v (one_back p v d))) g.1)
         ])
 
-  module _ (S : Family) (m : IsModel M es (p ∷ ps) S) where
-    first : IsModel M es ps S
-    first = ungrown M [] es (p ∷ []) ps S m
+  module _ (S : Family) (m : IsModel M N es (p ∷ ps) S) where
+    first : IsModel M N es ps S
+    first = ungrown M N [] es (p ∷ []) ps S m
 
     -- variables that the heap shows as one term have one set
     shown_one : (v w : ℕ) → has (constrained (p ∷ ps)) v ≡ true → has (constrained (p ∷ ps)) w ≡ true → P v → P w → look v ≡ look w → S v ≡ S w
     shown_one v w c d a b e =
         let back = st.heap.through m.unifier m.general.unifies in
-        one_term M es (p ∷ ps) S m v w (m.unifier w) c d (sym (back.1 v a) ∙ ap (apply back.0) e ∙ back.1 w b) refl
+        one_term M N es (p ∷ ps) S m v w (m.unifier w) c d (sym (back.1 v a) ∙ ap (apply back.0) e ∙ back.1 w b) refl
 
     -- and where it is an integer, that value
     number_one : (v : ℕ) (z : ℤ) → has (names p) v ≡ true → look v ≡ Int z → set_term (S v) ≡ Int z
@@ -135,7 +139,7 @@ module _ (M : ℕ) (es : List Equation) (ps : List Indexical) (P : ℕ → Type 
         let one : S v ≡ some.0 ∷ [] = single_from 0 M some.0 (S v) (m.closed.family.rising v) some.1 (λ i g. let a : pos i ≡ pos some.0 = m.closed.values v z i (named_in v c) is g ∙ sym value in cc) in
         ap set_term one ∙ ap Int value
 
-    module _ (T : Family) (t : IsModel M [] qs T) (equal : (v : ℕ) → has (constrained ps) v ≡ true → T (slot v) ≡ S v) where
+    module _ (T : Family) (t : IsModel M N [] qs T) (equal : (v : ℕ) → has (constrained ps) v ≡ true → T (slot v) ≡ S v) where
       abbrev new_sets : Family
       new_sets = pick f S T (names p)
 
@@ -167,26 +171,28 @@ module _ (M : ℕ) (es : List Equation) (ps : List Indexical) (P : ℕ → Type 
       told_hold (Value k z ∷ us) a = (let v = a.0 in ap set_term (ap new_sets (sym v.2) ∙ at_slot v.0 v.1) ∙ number_one v.0 z v.1 v.3, told_hold us a.1)
       told_hold (Same k j ∷ us) a = absurd a
 
-      up_middle : IsModel M [] Q new_sets
+      up_middle : IsModel M N [] Q new_sets
       up_middle =
           let fam : IsFamily M new_sets = pick_rising M f S T (names p) m.closed.family t.closed.family in
           let last = m.closed.posted in
-          extended M qs (rename_indexical f p ∷ []) new_sets
+          extended M N qs (rename_indexical f p ∷ []) new_sets
           (record {
             unifier = Var;
             general = identity;
-            closed = closed_without M qs new_sets fam (holds_agree M new_sets T qs at_old t.closed.posted);
+            closed = closed_without M N qs new_sets fam (holds_agree M new_sets T qs at_old t.closed.posted) (λ k i c h. t.closed.within k i c (subst (λ l. has l i ≡ true) (at_old k c) h));
             full = λ k c. (let g = t.full k c in (g.0, subst (λ l. has l g.0 ≡ true) (sym (at_old k c)) g.1));
           }) (
             subst (λ l. IsSubset l (set_of M new_sets (rename_range f p.range))) (sym (at_slot p.target (or_left (p.target == p.target) (has (reads p.range) p.target) (eq-eqb p.target p.target refl))))
                 (subst (IsSubset (S p.target)) (sym (set_same M f new_sets S p.range (λ v c. at_slot v (or_right (p.target == v) (has (reads p.range) v) c)))) last.0),
             tt,
           )
+          (λ k i c h. (let v = slot_back f p k c in m.closed.within v.0 i (named_in v.0 v.1) (subst (λ l. has l i ≡ true) (at_slot v.0 v.1) (subst (λ j. has (new_sets j) i ≡ true) (sym v.2) h))))
           (λ k c. (let v = slot_back f p k c in let g = m.full v.0 (named_in v.0 v.1) in (g.0, subst (λ j. has (new_sets j) g.0 ≡ true) v.2 (subst (λ l. has l g.0 ≡ true) (sym (at_slot v.0 v.1)) g.1))))
 
-      up_posted : IsModel M [] (Q ++ posts ts) new_sets
+      up_posted : IsModel M N [] (Q ++ posts ts) new_sets
       up_posted =
-          extended M Q (posts ts) new_sets up_middle (as_posts M new_sets up_middle.closed.family ts (told_hold ts po.told))
+          extended M N Q (posts ts) new_sets up_middle (as_posts M new_sets up_middle.closed.family ts (told_hold ts po.told))
+          (λ k i c h. (let v = touched_named ts po.told k c in m.closed.within v.0 i (named_in v.0 v.1) (subst (λ l. has l i ≡ true) (at_slot v.0 v.1) (subst (λ j. has (new_sets j) i ≡ true) (sym v.2) h))))
           (λ k c. (let v = touched_named ts po.told k c in let g = m.full v.0 (named_in v.0 v.1) in (g.0, subst (λ j. has (new_sets j) g.0 ≡ true) v.2 (subst (λ l. has l g.0 ≡ true) (sym (at_slot v.0 v.1)) g.1))))
 
   slots_posted : (v : ℕ) → has (constrained (p ∷ ps)) v ≡ true → has (constrained Q) (seen_slot v) ≡ true
@@ -202,7 +208,7 @@ module _ (M : ℕ) (es : List Equation) (ps : List Indexical) (P : ℕ → Type 
   no_open c z e = cc
 
   -- Heap and store stand for the branch with that range.
-  pub seen_posted : IsStored M es (p ∷ ps) P h look link' seen_slot (Q ++ posts ts)
+  pub seen_posted : IsStored M N es (p ∷ ps) P h look link' seen_slot (Q ++ posts ts)
   seen_posted = record {
     heap = st.heap;
     used = λ v c. elim (new_or_old p ps v c) [ inl d ↦ st.used v d | inr d ↦ po.used v (one_back p v d) ];

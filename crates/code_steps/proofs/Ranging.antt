@@ -28,7 +28,7 @@ use Rattle.heap_cells.specs.declared.Cell.{Cell}
 use Rattle.heap_cells.specs.Cells.{Cells}
 use Rattle.heap_cells.specs.Terms.{Naming, term_of}
 use Rattle.heap_cells.specs.Valid.{IsHeap}
-use Rattle.machine_relation.specs.Ahead.{offered, Spends}
+use Rattle.machine_relation.specs.Ahead.{at_top, offered, Spends}
 use Rattle.fd_language.specs.SingleValues.{value_at}
 use Rattle.machine_relation.specs.HeldBranches.{fixed_frame}
 use Rattle.machine_relation.specs.Rows.{slot_numbers, unless_fault, post_row}
@@ -163,8 +163,8 @@ module _ (look : Substitution) (n : ℕ) (r : Range) (low : RangeBelow n r) wher
 -- ---- the goal
 
 -- d is the cell of the target, and ds are those of the range's variables.
-module _ (M : ℕ) (area : Area) (prog : Program) (q : Query) (name : Naming) (h : Cells) (valid : IsHeap h) (qs : List Indexical) (at : ℕ) (c : Registers) (stack : List Saved) (cs : List Choice) (k : Option ℕ) (es : List Event) (r : ℕ)
-    (runnable : IsRunnableProgram M prog) (n : ℕ) (G : Family) (model : IsModel M [] qs G) (most : (R : Family) → IsModel M [] qs R → IsInside R G) (m : Runs M area prog q name h qs at c stack cs (suc n) k es r)
+module _ (M N : ℕ) (area : Area) (prog : Program) (q : Query) (name : Naming) (h : Cells) (valid : IsHeap h) (qs : List Indexical) (at : ℕ) (c : Registers) (stack : List Saved) (cs : List Choice) (k : Option ℕ) (es : List Event) (r : ℕ)
+    (runnable : IsRunnableProgram M prog) (n : ℕ) (G : Family) (model : IsModel M N [] qs G) (most : (R : Family) → IsModel M N [] qs R → IsInside R G) (m : Runs M N area prog q name h qs at c stack cs (suc n) k es r)
     (number args : ℕ) (d : Cell) (at_d : c.x 1 ≡ Some d) (ds : List Cell) (cells : AreIn c.x 2 ds) (counted : length ds ≡ length (slots_of (range_at area number))) where
   abbrev R : Range
   R = range_at area number
@@ -177,7 +177,7 @@ module _ (M : ℕ) (area : Area) (prog : Program) (q : Query) (name : Naming) (h
   see = slot_terms name h G (slots_of R) ds
 
   abbrev Takes : Branch → Type 0
-  Takes b = IsTaking M area q.shown name h qs at c stack b (λ p. PostRule area number p)
+  Takes b = IsTaking M N m.marks area q.shown name h qs at c stack b (λ p. PostRule area number p)
 
   module _ (b : Branch) (t : Takes b) (one : m.first ≡ b ∷ []) where
     abbrev t0 : Term
@@ -195,14 +195,14 @@ module _ (M : ℕ) (area : Area) (prog : Program) (q : Query) (name : Naming) (h
     abbrev raw : Substitution
     raw = t.ready.made.look
 
-    kept : IsKept M h qs b.equations b.posted P raw
-    kept = ready_kept M area q.shown name h qs at c stack b t.ready
+    kept : IsKept M N h qs b.equations b.posted P raw
+    kept = ready_kept M N m.marks area q.shown name h qs at c stack b t.ready
 
-    consistent : IsConsistent M b.equations b.posted
-    consistent = ready_consistent M area q.shown name h qs at c stack b t.ready (G, model)
+    consistent : IsConsistent M N b.equations b.posted
+    consistent = ready_consistent M N m.marks area q.shown name h qs at c stack b t.ready (G, model)
 
     abbrev look : Substitution
-    look = settled_look M name h valid qs b.equations b.posted P raw kept G most
+    look = settled_look M N name h valid qs b.equations b.posted P raw kept G most
 
     is : b.goals ≡ goal.Post t0 R' ∷ t.later
     is = t.goals ∙ ap (λ g. g ∷ t.later) t.is.5
@@ -235,16 +235,16 @@ module _ (M : ℕ) (area : Area) (prog : Program) (q : Query) (name : Naming) (h
     offence_is : cells_offence (apply look t0) look R' ≡ cells_offence target_term see R
     offence_is = two or_later (ap target_offence target_is) (range_offence f look see t.is.2 R each)
 
-    gives : (u : Substitution) (D : Family) → IsView M b.equations b.posted u D → offered M prog b (goal.Post t0 R') t.later u D ≡ by_constraint b t.later (post_row look t0 R' b.fresh)
+    gives : (u : Substitution) (D : Family) → IsView M N b.equations b.posted u D → offered M N (at_top m.marks) prog b (goal.Post t0 R') t.later u D ≡ by_constraint b t.later (post_row look t0 R' b.fresh)
     gives u D view =
         let F = fixed_frame (frame_of name h qs) G in
-        let held = settled_held M name h valid qs b.equations b.posted P raw kept G most in
-        let at_rest = settled_rest M name h valid qs b.equations b.posted P raw kept G most q model in
-        ap (by_post b t.later) (post_same b.fresh (look_in b u D) look (λ w l. view_kind M F b.equations b.posted P look held G at_rest u D view consistent w l) t0 R' b.fresh low.0 low.1)
+        let held = settled_held M N name h valid qs b.equations b.posted P raw kept G most in
+        let at_rest = settled_rest M N name h valid qs b.equations b.posted P raw kept G most q model in
+        ap (by_post b t.later) (post_same b.fresh (look_in b u D) look (λ w l. view_kind M N F b.equations b.posted P look held G at_rest u D view consistent w l) t0 R' b.fresh low.0 low.1)
         ∙ post_as_row look b t.later t0 R' b.fresh
 
     fault : (e : QueryFault) → cells_offence target_term see R ≡ Some e → (es ≡ Fault e ∷ []) × (r ≡ 1)
-    fault e i = goal_fault M area prog q name h qs at c stack cs k es r b consistent (goal.Post t0 R') t.later is runnable n m one e
+    fault e i = goal_fault M N area prog q name h qs at c stack cs k es r b consistent (goal.Post t0 R') t.later is runnable n m one e
         (λ u D v. gives u D v ∙ ap (by_constraint b t.later) (post_fault look b.fresh R' low.1 t0 e (offence_is ∙ i)))
 
     -- nothing offends
@@ -356,31 +356,31 @@ module _ (M : ℕ) (area : Area) (prog : Program) (q : Query) (name : Naming) (h
         grown : b.fresh ≤ x.fresh
         grown = let e = shape.fresh in omega (arith, e)
 
-        kept_posted : IsKept M now ranges_after kid.equations kid.posted (λ v. v < kid.fresh) raw'
+        kept_posted : IsKept M N now ranges_after kid.equations kid.posted (λ v. v < kid.fresh) raw'
         kept_posted =
             let es' = equations x.equated ++ b.equations in
-            let wide = kept_numbered M h qs b.posted b.fresh x.equated b.equations raw shape.equated kept in
-            let slot' = seen_slot M es' b.posted (λ v. v < b.fresh + length x.equated) (length h.slots) raw' (link_in h) wide.slot qs wide.stored p F (link_in now) ts seen_posts in
-            let done = seen_posted M es' b.posted (λ v. v < b.fresh + length x.equated) (length h.slots) raw' (link_in h) wide.slot qs wide.stored p F (link_in now) ts seen_posts in
+            let wide = kept_numbered M N h qs b.posted b.fresh x.equated b.equations raw shape.equated kept in
+            let slot' = seen_slot M N es' b.posted (λ v. v < b.fresh + length x.equated) (length h.slots) raw' (link_in h) wide.slot qs wide.stored p F (link_in now) ts seen_posts in
+            let done = seen_posted M N es' b.posted (λ v. v < b.fresh + length x.equated) (length h.slots) raw' (link_in h) wide.slot qs wide.stored p F (link_in now) ts seen_posts in
             record {
               slot = slot';
-              stored = subst (λ q. IsStored M es' (row.row.ranges ++ b.posted) (λ v. v < kid.fresh) (length now.slots) raw' (link_in now) slot' ((qs ++ q ∷ []) ++ posts ts)) posted_is
-                  (subst (λ rs. IsStored M es' (rs ++ b.posted) (λ v. v < kid.fresh) (length now.slots) raw' (link_in now) slot' ((qs ++ rename_indexical F p ∷ []) ++ posts ts)) (sym row.one)
-                  (subst (λ w. IsStored M es' (p ∷ b.posted) (λ v. v < w) (length now.slots) raw' (link_in now) slot' ((qs ++ rename_indexical F p ∷ []) ++ posts ts)) (sym shape.fresh)
-                  (subst (λ w. IsStored M es' (p ∷ b.posted) (λ v. v < b.fresh + length x.equated) w raw' (link_in now) slot' ((qs ++ rename_indexical F p ∷ []) ++ posts ts)) (sym l.size) done)));
+              stored = subst (λ q. IsStored M N es' (row.row.ranges ++ b.posted) (λ v. v < kid.fresh) (length now.slots) raw' (link_in now) slot' ((qs ++ q ∷ []) ++ posts ts)) posted_is
+                  (subst (λ rs. IsStored M N es' (rs ++ b.posted) (λ v. v < kid.fresh) (length now.slots) raw' (link_in now) slot' ((qs ++ rename_indexical F p ∷ []) ++ posts ts)) (sym row.one)
+                  (subst (λ w. IsStored M N es' (p ∷ b.posted) (λ v. v < w) (length now.slots) raw' (link_in now) slot' ((qs ++ rename_indexical F p ∷ []) ++ posts ts)) (sym shape.fresh)
+                  (subst (λ w. IsStored M N es' (p ∷ b.posted) (λ v. v < b.fresh + length x.equated) w raw' (link_in now) slot' ((qs ++ rename_indexical F p ∷ []) ++ posts ts)) (sym l.size) done)));
             }
 
-        posts_on : Spends (Runs M area prog q name now ranges_after (suc at) c stack cs n k) [] es r
-        posts_on = goal_one M area prog q name h qs at c stack cs k es r b consistent (goal.Post t0 R') t.later is runnable n m one kid []
+        posts_on : Spends (Runs M N area prog q name now ranges_after (suc at) c stack cs n k) [] es r
+        posts_on = goal_one M N area prog q name h qs at c stack cs k es r b consistent (goal.Post t0 R') t.later is runnable n m one (λ i. refl) kid []
             (λ u D v. gives u D v ∙ ap (by_constraint b t.later) row.is) (λ u D v. refl) now ranges_after (suc at) c stack
-            (taken_on M area q.shown name h qs at c stack b (λ p. PostRule area number p) t kid refl grown now ranges_after raw' kept_posted
+            (taken_on M N m.marks area q.shown name h qs at c stack b (λ p. PostRule area number p) t kid refl grown now ranges_after raw' kept_posted
             (λ u e o j g. (l.own e j, agree P raw' raw (λ v w. numbered_low b.fresh x.equated raw v shape.equated w) u o ∙ g ∙ sym (l.terms name e j))))
 
   module _ (holds : Holds area at (code.PostRange number args)) where
     here : (b : Branch) × Takes b × (m.first ≡ b ∷ [])
     here =
-        let s = goes_inside M area q.shown name h qs at c stack m.first m.here (code.PostRange number args) tt holds in
-        (s.0, taking M area q.shown name h qs at c stack s.0 (λ p. PostRule area number p) (code.PostRange number args) (λ w p es r. r) holds s.1, s.2)
+        let s = goes_inside M N m.marks area q.shown name h qs at c stack m.first m.here (code.PostRange number args) tt holds in
+        (s.0, taking M N m.marks area q.shown name h qs at c stack s.0 (λ p. PostRule area number p) (code.PostRange number args) (λ w p es r. r) holds s.1, s.2)
 
     -- the first offence is the fault
     pub run_range_fault : (e : QueryFault) → cells_offence target_term see R ≡ Some e → (es ≡ Fault e ∷ []) × (r ≡ 1)
@@ -388,5 +388,5 @@ module _ (M : ℕ) (area : Area) (prog : Program) (q : Query) (name : Naming) (h
 
     -- Where there is none, the range is posted on the variables of the store that the cells are linked to, and on new ones for integers.
     pub run_range : cells_offence target_term see R ≡ None → (slot_of : Term → ℕ) (now : Cells) (ts : List Touch) → IsTermsLinked h now qs slot_of (Names target_term see R) ts
-        → Spends (Runs M area prog q name now ((qs ++ cells_range slot_of target_term see R ∷ []) ++ posts ts) (suc at) c stack cs n k) [] es r
+        → Spends (Runs M N area prog q name now ((qs ++ cells_range slot_of target_term see R ∷ []) ++ posts ts) (suc at) c stack cs n k) [] es r
     run_range i slot_of now ts l = let s = here in posts_on s.0 s.1 s.2 i slot_of now ts l

@@ -41,39 +41,39 @@ no_row area s R [] cs f r = r
 no_row area s R (row ∷ rows) cs f (inl r) = absurd (f.0 r.0)
 no_row area s R (row ∷ rows) cs f (inr r) = no_row area s R rows cs f.1 r.1
 
-module _ (M : ℕ) (area : Area) (shown : List ℕ) (name : Naming) (h : Cells) (qs : List Indexical) (at : ℕ) (e : Entry) (c : Registers) (stack : List Saved) (b : Branch) (kids : List Branch) (m : IsTrying M area shown name h qs at e c stack b kids) where
+module _ (M N : ℕ) (marks : List ℕ) (area : Area) (shown : List ℕ) (name : Naming) (h : Cells) (qs : List Indexical) (at : ℕ) (e : Entry) (c : Registers) (stack : List Saved) (b : Branch) (kids : List Branch) (m : IsTrying M N marks area shown name h qs at e c stack b kids) where
   abbrev t : Term
   t = made (name_of area e.name) m.calling.ts
 
   abbrev Next : ℕ → Type 0
-  Next to = IsTrying M area shown name h qs to e c stack b kids
+  Next to = IsTrying M N marks area shown name h qs to e c stack b kids
 
   next : (to : ℕ) → Tries area m.shape to m.clauses → Next to
-  next to k = record { calling = m.calling; shape = m.shape; shows = m.shows; clauses = m.clauses; tries = k; fit = m.fit; scoped = m.scoped; kids_are = m.kids_are }
+  next to k = record { noted = m.noted; calling = m.calling; shape = m.shape; shows = m.shows; clauses = m.clauses; tries = k; fit = m.fit; scoped = m.scoped; kids_are = m.kids_are }
 
-  both : (first other : ℕ) → Both (Tries area m.shape) first other m.clauses → TriesBoth M area shown name h qs first other e c stack b kids
+  both : (first other : ℕ) → Both (Tries area m.shape) first other m.clauses → TriesBoth M N marks area shown name h qs first other e c stack b kids
   both first other k =
-      let kid = by_clause b t m.calling.rest in
+      let kid = by_clause m.noted.branches b t m.calling.rest in
       let fit = fit_split t k.0 k.1 (subst (AllFit t) k.2 m.fit) in
       let scoped = scoped_split k.0 k.1 (subst ClausesScoped k.2 m.scoped) in
       record {
         before = map kid k.0;
         behind = map kid k.1;
-        now = record { calling = m.calling; shape = m.shape; shows = m.shows; clauses = k.0; tries = k.3; fit = fit.0; scoped = scoped.0; kids_are = refl };
-        later = record { calling = m.calling; shape = m.shape; shows = m.shows; clauses = k.1; tries = k.4; fit = fit.1; scoped = scoped.1; kids_are = refl };
+        now = record { noted = m.noted; calling = m.calling; shape = m.shape; shows = m.shows; clauses = k.0; tries = k.3; fit = fit.0; scoped = scoped.0; kids_are = refl };
+        later = record { noted = m.noted; calling = m.calling; shape = m.shape; shows = m.shows; clauses = k.1; tries = k.4; fit = fit.1; scoped = scoped.1; kids_are = refl };
         both = m.kids_are ∙ ap (map kid) k.2 ∙ map-append kid k.0 k.1;
       }
 
-  pub step_try_me_else : (to : ℕ) → Holds area at (TryMeElse to) → TriesBoth M area shown name h qs (suc at) to e c stack b kids
+  pub step_try_me_else : (to : ℕ) → Holds area at (TryMeElse to) → TriesBoth M N marks area shown name h qs (suc at) to e c stack b kids
   step_try_me_else to f = both (suc at) to (at_try area m.shape (TryMeElse to) at m.clauses f m.tries)
 
-  pub step_retry_me_else : (to : ℕ) → Holds area at (RetryMeElse to) → TriesBoth M area shown name h qs (suc at) to e c stack b kids
+  pub step_retry_me_else : (to : ℕ) → Holds area at (RetryMeElse to) → TriesBoth M N marks area shown name h qs (suc at) to e c stack b kids
   step_retry_me_else to f = both (suc at) to (at_try area m.shape (RetryMeElse to) at m.clauses f m.tries)
 
-  pub step_try : (to : ℕ) → Holds area at (Try to) → TriesBoth M area shown name h qs to (suc at) e c stack b kids
+  pub step_try : (to : ℕ) → Holds area at (Try to) → TriesBoth M N marks area shown name h qs to (suc at) e c stack b kids
   step_try to f = both to (suc at) (at_try area m.shape (Try to) at m.clauses f m.tries)
 
-  pub step_retry : (to : ℕ) → Holds area at (Retry to) → TriesBoth M area shown name h qs to (suc at) e c stack b kids
+  pub step_retry : (to : ℕ) → Holds area at (Retry to) → TriesBoth M N marks area shown name h qs to (suc at) e c stack b kids
   step_retry to f = both to (suc at) (at_try area m.shape (Retry to) at m.clauses f m.tries)
 
   pub step_trust_me : Holds area at TrustMe → Next (suc at)
@@ -87,7 +87,7 @@ module _ (M : ℕ) (area : Area) (shown : List ℕ) (name : Naming) (h : Cells) 
 
   -- nothing fits
   none : m.clauses ≡ [] → kids ≡ []
-  none is = m.kids_are ∙ ap (map (by_clause b t m.calling.rest)) is
+  none is = m.kids_are ∙ ap (map (by_clause m.noted.branches b t m.calling.rest)) is
 
   pub step_fail : Holds area at FailNow → kids ≡ []
   step_fail f = none (at_try area m.shape FailNow at m.clauses f m.tries)
@@ -109,14 +109,14 @@ module _ (M : ℕ) (area : Area) (shown : List ℕ) (name : Naming) (h : Cells) 
   step_structures n f = rows n (at_try area m.shape (SwitchOnStructure n) at m.clauses f m.tries)
 
   -- Another instruction is the first one of a clause: the machine stands for its branch, which is the only one.
-  one : (first : (k : Clause) × IsClause area at k × (m.clauses ≡ k ∷ [])) → (c' : Registers) → AreSame c.x c'.x → (kid : Branch) × (kids ≡ kid ∷ []) × Stands M area shown name h qs at c' stack kid
-  one k c' same =
+  one : (first : (k : Clause) × IsClause area at k × (m.clauses ≡ k ∷ [])) → (c' : Registers) → AreSame c.x c'.x → c'.noted ≡ c.noted → (kid : Branch) × (kids ≡ kid ∷ []) × Stands M N marks area shown name h qs at c' stack kid
+  one k c' same noted =
       let fit = subst (AllFit t) k.2 m.fit in
       let scoped = subst ClausesScoped k.2 m.scoped in
-      (by_clause b t m.calling.rest k.0, m.kids_are ∙ ap (map (by_clause b t m.calling.rest)) k.2, enter_clause M area shown name h qs at e c stack b m.calling k.0 k.1 fit.0 scoped.0 c' same)
+      (by_clause m.noted.branches b t m.calling.rest k.0, m.kids_are ∙ ap (map (by_clause m.noted.branches b t m.calling.rest)) k.2, enter_clause M N marks m.noted area shown name h qs at e c stack b m.calling k.0 k.1 fit.0 scoped.0 c' same noted)
 
-  pub step_enter : (i : Code) → IsFirst i → Holds area at i → (c' : Registers) → AreSame c.x c'.x → (kid : Branch) × (kids ≡ kid ∷ []) × Stands M area shown name h qs at c' stack kid
-  step_enter i first f c' same = one (of_first i first (at_try area m.shape i at m.clauses f m.tries)) c' same
+  pub step_enter : (i : Code) → IsFirst i → Holds area at i → (c' : Registers) → AreSame c.x c'.x → c'.noted ≡ c.noted → (kid : Branch) × (kids ≡ kid ∷ []) × Stands M N marks area shown name h qs at c' stack kid
+  step_enter i first f c' same noted = one (of_first i first (at_try area m.shape i at m.clauses f m.tries)) c' same noted
     where
       of_first : (i : Code) → IsFirst i → TryRule area (Tries area m.shape) m.shape i at m.clauses → (k : Clause) × IsClause area at k × (m.clauses ≡ k ∷ [])
       of_first (TryMeElse to) n r = absurd n

@@ -33,15 +33,15 @@ cells_next name h look P [] (term u us) e t a s = absurd a
 cells_next name h look P (d ∷ ds) no_terms e t a s = absurd a
 cells_next name h look P (d ∷ ds) (term u us) e t a s = (a.0, cells_next name h look P ds us e t a.1 s)
 
-module _ (M : ℕ) (area : Area) (shown : List ℕ) (name : Naming) (h : Cells) (qs : List Indexical) (c : Registers) (cells : List Cell) (left : ℕ) (stack : List Saved) (b : Branch) (Ends : End) where
+module _ (M N : ℕ) (marks : List ℕ) (area : Area) (shown : List ℕ) (name : Naming) (h : Cells) (qs : List Indexical) (c : Registers) (cells : List Cell) (left : ℕ) (stack : List Saved) (b : Branch) (Ends : End) where
   abbrev Now : ℕ → ℕ → ℕ → Type 0
-  Now voids at k = Builds M area shown name h qs voids at c cells k stack b Ends
+  Now voids at k = Builds M N marks area shown name h qs voids at c cells k stack b Ends
 
   abbrev Then : Cells → ℕ → ℕ → Registers → Cell → Type 0
-  Then now voids at c' e = Builds M area shown name now qs voids at c' (cells ++ e ∷ []) left stack b Ends
+  Then now voids at c' e = Builds M N marks area shown name now qs voids at c' (cells ++ e ∷ []) left stack b Ends
 
   -- one more argument
-  gathers : (voids at : ℕ) (m : Now voids at (suc left)) (now : Cells) (voids' at' : ℕ) (c' : Registers) (p : Places) (t : Term) (us : Terms) (e : Cell) (g : IsMade M name now qs c' m.returns stack b p m.todo) → AreCells name now g.look (Made p b.fresh) cells m.gathered → IsShown name now g.look (Made p b.fresh) t e
+  gathers : (voids at : ℕ) (m : Now voids at (suc left)) (now : Cells) (voids' at' : ℕ) (c' : Registers) (p : Places) (t : Term) (us : Terms) (e : Cell) (g : IsMade M N marks name now qs c' m.returns stack b p m.todo) → AreCells name now g.look (Made p b.fresh) cells m.gathered → IsShown name now g.look (Made p b.fresh) t e
       → term_count us ≡ left → m.ts ≡ term t us → Owed area voids' at' p us m.next m.q → Then now voids' at' c' e
   gathers voids at m now voids' at' c' p t us e g are s counted is owed = record {
     p = p;
@@ -73,7 +73,7 @@ module _ (M : ℕ) (area : Area) (shown : List ℕ) (name : Naming) (h : Cells) 
   build_value at m r f =
       let k = first 0 at m in
       let o = at_unify area at m.p k.0 k.1 m.next m.q (UnifyValue r) f k.4 in
-      let one = made_read M name qs m.returns stack b h c m.p m.todo m.made r k.0 o.2.0 in
+      let one = made_read M N marks name qs m.returns stack b h c m.p m.todo m.made r k.0 o.2.0 in
       let owed : Owed area 0 (suc at) m.p k.1 m.next m.q = subst (λ p. Owed area 0 (suc at) p k.1 m.next m.q) o.2.2 (subst (λ n. Owed area n (suc at) o.1 k.1 m.next m.q) o.2.1 o.3) in
       (one.0, one.1, one.2.own, gathers 0 at m h 0 (suc at) c m.p k.0 k.1 one.0 m.made m.are one.2 k.3 k.2 owed)
 
@@ -104,8 +104,8 @@ module _ (M : ℕ) (area : Area) (shown : List ℕ) (name : Naming) (h : Cells) 
         let now = with_new_slot h in
         let p1 : Places = learn m.p v in
         let p2 : Places = write (learn m.p v) r (Var v) in
-        let one = made_cell M name qs m.returns stack b h valid c m.p m.todo m.made v o.2.1 in
-        let two = made_write M name qs m.returns stack b now c c' p1 m.todo one.0 r (Var v) fresh_cell one.1 w in
+        let one = made_cell M N marks name qs m.returns stack b h valid c m.p m.todo m.made v o.2.1 in
+        let two = made_write M N marks name qs m.returns stack b now c c' p1 m.todo one.0 r (Var v) fresh_cell one.1 w in
         let owed : Owed area 0 (suc at) p2 k.1 m.next m.q = subst (λ p. Owed area 0 (suc at) p k.1 m.next m.q) o.2.4 (subst (λ n. Owed area n (suc at) o.1 k.1 m.next m.q) o.2.3 o.3) in
         let are = cells_keep name now now one.0.look two.0.look (Made p1 b.fresh) (Made p2 b.fresh) two.2 cells m.gathered (cells_keep name h now m.made.look one.0.look (Made m.p b.fresh) (Made p1 b.fresh) one.2 cells m.gathered m.are) in
         gathers 0 at m now 0 (suc at) c' p2 (Var v) k.1 fresh_cell two.0 are two.1 k.3 (k.2 ∙ ap (λ t. term t k.1) o.2.2) owed
@@ -117,7 +117,7 @@ module _ (M : ℕ) (area : Area) (shown : List ℕ) (name : Naming) (h : Cells) 
         let v = o.2.0 in
         let now = with_new_slot h in
         let p1 : Places = learn m.p v in
-        let one = made_cell M name qs m.returns stack b h valid c m.p m.todo m.made v o.2.1 in
+        let one = made_cell M N marks name qs m.returns stack b h valid c m.p m.todo m.made v o.2.1 in
         let owed : Owed area n (suc at) p1 k.1 m.next m.q = subst (λ p. Owed area n (suc at) p k.1 m.next m.q) o.2.4 (subst (λ n. Owed area n (suc at) o.1 k.1 m.next m.q) o.2.3 o.3) in
         gathers 0 at m now n (suc at) c p1 (Var v) k.1 fresh_cell one.0 (cells_keep name h now m.made.look one.0.look (Made m.p b.fresh) (Made p1 b.fresh) one.2 cells m.gathered m.are) one.1 k.3 (k.2 ∙ ap (λ t. term t k.1) o.2.2) owed
 
@@ -127,5 +127,5 @@ module _ (M : ℕ) (area : Area) (shown : List ℕ) (name : Naming) (h : Cells) 
         let v = k.4.0 in
         let now = with_new_slot h in
         let p1 : Places = learn m.p v in
-        let one = made_cell M name qs m.returns stack b h valid c m.p m.todo m.made v k.4.1 in
+        let one = made_cell M N marks name qs m.returns stack b h valid c m.p m.todo m.made v k.4.1 in
         gathers (suc n) at m now n at c p1 (Var v) k.1 fresh_cell one.0 (cells_keep name h now m.made.look one.0.look (Made m.p b.fresh) (Made p1 b.fresh) one.2 cells m.gathered m.are) one.1 k.3 (k.2 ∙ ap (λ t. term t k.1) k.4.2) k.4.3

@@ -45,18 +45,18 @@ only_first : (f : Name) (ts : Terms) → only_argument (made f ts) ≡ first_arg
 only_first f no_terms = refl
 only_first f (term t ts) = refl
 
-module _ (M : ℕ) (area : Area) (prog : Program) (q : Query) (name : Naming) (h : Cells) (valid : IsHeap h) (qs : List Indexical) (at : ℕ) (c : Registers) (stack : List Saved) (cs : List Choice) (k : Option ℕ) (es : List Event) (r : ℕ)
+module _ (M N : ℕ) (area : Area) (prog : Program) (q : Query) (name : Naming) (h : Cells) (valid : IsHeap h) (qs : List Indexical) (at : ℕ) (c : Registers) (stack : List Saved) (cs : List Choice) (k : Option ℕ) (es : List Event) (r : ℕ)
     (runnable : IsRunnableProgram M prog) (n : ℕ) where
-  pub run_newline : (model : HasModel M qs) → Runs M area prog q name h qs at c stack cs (suc n) k es r → Holds area at (code.Builtin kind.Nl) → Spends (Runs M area prog q name h qs (suc at) c stack cs n k) (Newline ∷ []) es r
+  pub run_newline : (model : HasModel M N qs) → Runs M N area prog q name h qs at c stack cs (suc n) k es r → Holds area at (code.Builtin kind.Nl) → Spends (Runs M N area prog q name h qs (suc at) c stack cs n k) (Newline ∷ []) es r
   run_newline model m f =
-      let s = at_builtin M area prog q name h qs at c stack cs k es r runnable n model m kind.Nl f in
+      let s = at_builtin M N area prog q name h qs at c stack cs k es r runnable n model m kind.Nl f in
       let b = s.0 in
       let t = s.1 in
       let u = made t.is.0 t.is.1 in
-      goal_one M area prog q name h qs at c stack cs k es r b (ready_consistent M area q.shown name h qs at c stack b t.ready model) (goal.Builtin kind.Nl u) t.later (t.goals ∙ ap (λ g. g ∷ t.later) t.is.4) runnable n m s.2 (with_goals b t.later) (Newline ∷ [])
-      (λ w D v. refl) (λ w D v. refl) h qs (suc at) c stack (taken_same M area q.shown name h qs at c stack b (λ p. BuiltinRule kind.Nl p) t (with_goals b t.later) refl refl refl refl)
+      goal_one M N area prog q name h qs at c stack cs k es r b (ready_consistent M N m.marks area q.shown name h qs at c stack b t.ready model) (goal.Builtin kind.Nl u) t.later (t.goals ∙ ap (λ g. g ∷ t.later) t.is.4) runnable n m s.2 (λ i. refl) (with_goals b t.later) (Newline ∷ [])
+      (λ w D v. refl) (λ w D v. refl) h qs (suc at) c stack (taken_same M N m.marks area q.shown name h qs at c stack b (λ p. BuiltinRule kind.Nl p) t (with_goals b t.later) refl refl refl refl)
 
-  module _ (G : Family) (model : IsModel M [] qs G) (most : (R : Family) → IsModel M [] qs R → IsInside R G) where
+  module _ (G : Family) (model : IsModel M N [] qs G) (most : (R : Family) → IsModel M N [] qs R → IsInside R G) where
     abbrev F : Frame
     F = fixed_frame (frame_of name h qs) G
 
@@ -65,26 +65,26 @@ module _ (M : ℕ) (area : Area) (prog : Program) (q : Query) (name : Naming) (h
     written x = term_text Plain (cell_text F G (term x no_terms)) 1200 x
 
     -- d is the cell of what is written
-    pub run_write : (d : Cell) → c.x 1 ≡ Some d → Runs M area prog q name h qs at c stack cs (suc n) k es r → Holds area at (code.Builtin kind.Write)
-        → Spends (Runs M area prog q name h qs (suc at) c stack cs n k) (Wrote (written (read_term h G (term_of name h d))) ∷ []) es r
+    pub run_write : (d : Cell) → c.x 1 ≡ Some d → Runs M N area prog q name h qs at c stack cs (suc n) k es r → Holds area at (code.Builtin kind.Write)
+        → Spends (Runs M N area prog q name h qs (suc at) c stack cs n k) (Wrote (written (read_term h G (term_of name h d))) ∷ []) es r
     run_write d at_d m f =
-        let s = at_builtin M area prog q name h qs at c stack cs k es r runnable n (G, model) m kind.Write f in
+        let s = at_builtin M N area prog q name h qs at c stack cs k es r runnable n (G, model) m kind.Write f in
         let b = s.0 in
         let t = s.1 in
         let P : ℕ → Type 0 = λ v. v < b.fresh in
         let raw = t.ready.made.look in
-        let kept = ready_kept M area q.shown name h qs at c stack b t.ready in
-        let consistent = ready_consistent M area q.shown name h qs at c stack b t.ready (G, model) in
+        let kept = ready_kept M N m.marks area q.shown name h qs at c stack b t.ready in
+        let consistent = ready_consistent M N m.marks area q.shown name h qs at c stack b t.ready (G, model) in
         let whole = made t.is.0 t.is.1 in
         let is : b.goals ≡ goal.Builtin kind.Write whole ∷ t.later = t.goals ∙ ap (λ g. g ∷ t.later) t.is.4 in
         let low : TermBelow b.fresh whole = (subst (EachBelow b.fresh) is t.ready.below).0 in
         let u = first_argument whole in
         let known : Of P u = of_below b.fresh u (first_below b.fresh whole low) in
-        let look = settled_look M name h valid qs b.equations b.posted P raw kept G most in
-        let held = settled_held M name h valid qs b.equations b.posted P raw kept G most in
-        let at_rest = settled_rest M name h valid qs b.equations b.posted P raw kept G most q model in
+        let look = settled_look M N name h valid qs b.equations b.posted P raw kept G most in
+        let held = settled_held M N name h valid qs b.equations b.posted P raw kept G most in
+        let at_rest = settled_rest M N name h valid qs b.equations b.posted P raw kept G most q model in
         let term_is : apply look u ≡ read_term h G (term_of name h d) = after_is (λ e. value_at (link_in h e) G e) raw u ∙ ap (read_term h G) (first_shows name h raw (Made t.ready.p b.fresh) t.ready.p c.x t.ready.made.xs t.is.0 t.is.1 t.is.3 0 t.is.2 d at_d) in
-        goal_one M area prog q name h qs at c stack cs k es r b consistent (goal.Builtin kind.Write whole) t.later is runnable n m s.2 (with_goals b t.later) (Wrote (written (read_term h G (term_of name h d))) ∷ [])
+        goal_one M N area prog q name h qs at c stack cs k es r b consistent (goal.Builtin kind.Write whole) t.later is runnable n m s.2 (λ i. refl) (with_goals b t.later) (Wrote (written (read_term h G (term_of name h d))) ∷ [])
         (λ w D v. refl)
-        (λ w D v. ap (λ x. Wrote (written_text (constrained b.posted) w D (seen w D (constrained b.posted) x)) ∷ []) (only_first t.is.0 t.is.1) ∙ ap (λ x. Wrote x ∷ []) (sym (written_same M F b.equations b.posted P look held G at_rest w D v consistent u known) ∙ ap written term_is))
-        h qs (suc at) c stack (taken_same M area q.shown name h qs at c stack b (λ p. BuiltinRule kind.Write p) t (with_goals b t.later) refl refl refl refl)
+        (λ w D v. ap (λ x. Wrote (written_text (constrained b.posted) w D (seen w D (constrained b.posted) x)) ∷ []) (only_first t.is.0 t.is.1) ∙ ap (λ x. Wrote x ∷ []) (sym (written_same M N F b.equations b.posted P look held G at_rest w D v consistent u known) ∙ ap written term_is))
+        h qs (suc at) c stack (taken_same M N m.marks area q.shown name h qs at c stack b (λ p. BuiltinRule kind.Write p) t (with_goals b t.later) refl refl refl refl)

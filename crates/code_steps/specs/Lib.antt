@@ -1,3 +1,4 @@
+pub mod Depths
 pub mod Registers
 pub mod Standing
 pub mod Steps
@@ -5,6 +6,7 @@ pub mod Trying
 pub mod ReadMode
 pub mod WriteMode
 pub mod Running
+pub mod Leading
 pub mod Answers
 pub mod Ranging
 pub mod Laws

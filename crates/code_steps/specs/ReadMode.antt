@@ -38,6 +38,8 @@ AreCells name h look P (d ∷ ds) (term t ts) = IsShown name h look P t d × Are
 pub record IsWider (p wide : Places) (fresh base : ℕ) : Type 0 where
   pub xs : (n : ℕ) → wide.x n ≡ p.x n
   pub ys : (n : ℕ) → wide.y n ≡ p.y n
+  pub levels : (n : ℕ) → wide.levels n ≡ p.levels n
+  pub noted : wide.noted ≡ p.noted
   pub known : (v : ℕ) → v < base → wide.known v ≡ true → Made p fresh v
   pub made : (v : ℕ) → Made p fresh v → wide.known v ≡ true
   pub low : fresh ≤ base
@@ -69,7 +71,7 @@ pub record IsRead (b : Branch) (returns : List Return) (q : Places) (whole todo 
   pub scoped : EquationsOf (λ v. v < b.fresh) b.equations
 
 -- A compound term's arguments are being read: the cells left are still to be made equal to the terms that the code gives from here on. The instruction before still gives so many variables.
-pub record Reads (M : ℕ) (area : Area) (shown : List ℕ) (name : Naming) (h : Cells) (qs : List Indexical) (voids at : ℕ) (c : Registers) (left : List Cell) (stack : List Saved) (b : Branch) : Type 0 where
+pub record Reads (M N : ℕ) (marks : List ℕ) (area : Area) (shown : List ℕ) (name : Naming) (h : Cells) (qs : List Indexical) (voids at : ℕ) (c : Registers) (left : List Cell) (stack : List Saved) (b : Branch) : Type 0 where
   pub p : Places
   pub wide : Places
   pub base : ℕ
@@ -82,7 +84,7 @@ pub record Reads (M : ℕ) (area : Area) (shown : List ℕ) (name : Naming) (h :
   pub todo : List Equation
   pub returns : List Return
   pub after : List Goal
-  pub made : IsMade M name h qs c returns stack (local b whole base) wide (paired sides ts)
+  pub made : IsMade M N marks name h qs c returns stack (local b whole base) wide (paired sides ts)
   pub cells : AreCells name h made.look (Made wide base) left sides
   pub counted : term_count ts ≡ term_count sides
   pub wider : IsWider p wide b.fresh base
@@ -94,6 +96,6 @@ pub record Reads (M : ℕ) (area : Area) (shown : List ℕ) (name : Naming) (h :
   pub asked : NumbersBelow b.fresh shown
 
 -- Two cells are to be equal: where they are unified, the arguments left are read next; where they can't be, the branch has no model.
-pub record ReadsOnEqual (M : ℕ) (area : Area) (shown : List ℕ) (name : Naming) (h : Cells) (qs : List Indexical) (to : ℕ) (c : Registers) (left : List Cell) (stack : List Saved) (b : Branch) (d e : Cell) : Type 0 where
-  pub unified : (now : Cells) (ts : List Touch) → core.IsUnified name h d e now ts → IsSameSize h now → Reads M area shown name now (qs ++ posts (store_touches ts)) 0 to c left stack b
-  pub refuted : IsRefuted h (cells_equal name h d e) → (S : Family) → IsModel M b.equations b.posted S → ⊥
+pub record ReadsOnEqual (M N : ℕ) (marks : List ℕ) (area : Area) (shown : List ℕ) (name : Naming) (h : Cells) (qs : List Indexical) (to : ℕ) (c : Registers) (left : List Cell) (stack : List Saved) (b : Branch) (d e : Cell) : Type 0 where
+  pub unified : (now : Cells) (ts : List Touch) → core.IsUnified name h d e now ts → IsSameSize h now → Reads M N marks area shown name now (qs ++ posts (store_touches ts)) 0 to c left stack b
+  pub refuted : IsRefuted h (cells_equal name h d e) → (S : Family) → IsModel M N b.equations b.posted S → ⊥

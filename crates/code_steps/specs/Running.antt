@@ -17,11 +17,11 @@ use Rattle.code_steps.specs.Standing.{IsMade, Stands}
 use Rattle.code_steps.specs.Trying.{IsTrying}
 
 -- The machine stands for the branch b, with each of its variables made and no equation still to be made.
-pub record IsReady (M : ℕ) (area : Area) (shown : List ℕ) (name : Naming) (h : Cells) (qs : List Indexical) (at : ℕ) (c : Registers) (stack : List Saved) (b : Branch) : Type 0 where
+pub record IsReady (M N : ℕ) (marks : List ℕ) (area : Area) (shown : List ℕ) (name : Naming) (h : Cells) (qs : List Indexical) (at : ℕ) (c : Registers) (stack : List Saved) (b : Branch) : Type 0 where
   pub p : Places
   pub returns : List Return
   pub after : List Goal
-  pub made : IsMade M name h qs c returns stack b p []
+  pub made : IsMade M N marks name h qs c returns stack b p []
   pub whole : IsWhole p
   pub continues : Continues area shown returns after
   pub means : Means area (record { goals = after; shown = shown }) at p [] b.goals
@@ -29,9 +29,9 @@ pub record IsReady (M : ℕ) (area : Area) (shown : List ℕ) (name : Naming) (h
   pub asked : NumbersBelow b.fresh shown
 
 -- At a place the machine stands for these branches: in a clause or a query for one, and before a clause for one for each clause that is to be tried.
-abbrev pub Goes : ℕ → Area → List ℕ → Naming → Cells → List Indexical → ℕ → Registers → List Saved → List Branch → Type 0
-Goes M area shown name h qs at c stack raw =
-    ((b : Branch) × Stands M area shown name h qs at c stack b × (raw ≡ b ∷ [])) ⊎ ((e : Entry) × (b : Branch) × IsTrying M area shown name h qs at e c stack b raw)
+abbrev pub Goes : ℕ → ℕ → List ℕ → Area → List ℕ → Naming → Cells → List Indexical → ℕ → Registers → List Saved → List Branch → Type 0
+Goes M N marks area shown name h qs at c stack raw =
+    ((b : Branch) × Stands M N marks area shown name h qs at c stack b × (raw ≡ b ∷ [])) ⊎ ((e : Entry) × (b : Branch) × IsTrying M N marks area shown name h qs at e c stack b raw)
 
 -- where the machine goes on when it comes back: at a place, or at the place of a labelling with one of these values of a variable of the heap
 pub data Left : Type 0 where
@@ -46,30 +46,31 @@ pub record Choice : Type 0 where
   pub heap : Cells
   pub store : List Indexical
 
--- the branches that are left, of which some may not be consistent
-abbrev pub WaitsBy : ℕ → Area → List ℕ → Naming → Choice → Left → List Branch → Type 0
-WaitsBy M area shown name c (resume at) raw = Goes M area shown name c.heap c.store at c.registers c.stack raw
-WaitsBy M area shown name c (values ns v at) raw =
-    (b : Branch) × (x : ℕ) × (s : IsReady M area shown name c.heap c.store at c.registers c.stack b) × (x < b.fresh) × (s.made.look x ≡ Var v) × (raw ≡ map (by_value b b.goals x) ns)
+-- the branches that are left, of which some may not be consistent, where the older choice points have such marks
+abbrev pub WaitsBy : ℕ → ℕ → Area → List ℕ → Naming → List ℕ → Choice → Left → List Branch → Type 0
+WaitsBy M N area shown name marks c (resume at) raw = Goes M N marks area shown name c.heap c.store at c.registers c.stack raw
+WaitsBy M N area shown name marks c (values ns v at) raw =
+    (b : Branch) × (x : ℕ) × (s : IsReady M N marks area shown name c.heap c.store at c.registers c.stack b) × (x < b.fresh) × (s.made.look x ≡ Var v) × (raw ≡ map (by_value b b.goals x) ns)
 
-abbrev pub Waits : ℕ → Area → List ℕ → Naming → Choice → List Branch → Type 0
-Waits M area shown name c raw = WaitsBy M area shown name c c.left raw
+abbrev pub Waits : ℕ → ℕ → Area → List ℕ → Naming → List ℕ → Choice → List Branch → Type 0
+Waits M N area shown name marks c raw = WaitsBy M N area shown name marks c c.left raw
 
 -- At a place the machine stands for these events and reductions. n is the budget left, and k the number of answers still allowed, or none.
-pub record Runs (M : ℕ) (area : Area) (prog : Program) (q : Query) (name : Naming) (h : Cells) (qs : List Indexical) (at : ℕ) (c : Registers) (stack : List Saved) (cs : List Choice) (n : ℕ) (k : Option ℕ) (es : List Event) (r : ℕ) : Type 0 where
+pub record Runs (M N : ℕ) (area : Area) (prog : Program) (q : Query) (name : Naming) (h : Cells) (qs : List Indexical) (at : ℕ) (c : Registers) (stack : List Saved) (cs : List Choice) (n : ℕ) (k : Option ℕ) (es : List Event) (r : ℕ) : Type 0 where
   pub first : List Branch
   pub others : List Branch
-  pub here : Goes M area q.shown name h qs at c stack first
-  pub wait : AllWait Choice (Waits M area q.shown name) cs others
-  pub ahead : Ahead M prog q n k (first ++ others) es r
+  pub marks : List ℕ
+  pub here : Goes M N marks area q.shown name h qs at c stack first
+  pub wait : AllWait M N Choice (Waits M N area q.shown name) cs others marks
+  pub ahead : Ahead M N prog q n k (first ++ others) es r
 
 -- and on its way back to its newest choice point
-abbrev pub Returns : ℕ → Area → Program → Query → Naming → List Choice → ℕ → Option ℕ → List Event → ℕ → Type 0
-Returns M area prog q name cs n k es r = IsBack M prog q Choice (Waits M area q.shown name) cs n k es r
+abbrev pub Returns : ℕ → ℕ → Area → Program → Query → Naming → List Choice → ℕ → Option ℕ → List Event → ℕ → Type 0
+Returns M N area prog q name cs n k es r = IsBack M N prog q Choice (Waits M N area q.shown name) cs n k es r
 
 -- At a place the machine takes the goal in front, of which taken is true, and then goes on at the next place with the places q.
-pub record IsTaking (M : ℕ) (area : Area) (shown : List ℕ) (name : Naming) (h : Cells) (qs : List Indexical) (at : ℕ) (c : Registers) (stack : List Saved) (b : Branch) (taken : Places → Goal → Type 0) : Type 0 where
-  pub ready : IsReady M area shown name h qs at c stack b
+pub record IsTaking (M N : ℕ) (marks : List ℕ) (area : Area) (shown : List ℕ) (name : Naming) (h : Cells) (qs : List Indexical) (at : ℕ) (c : Registers) (stack : List Saved) (b : Branch) (taken : Places → Goal → Type 0) : Type 0 where
+  pub ready : IsReady M N marks area shown name h qs at c stack b
   pub goal : Goal
   pub later : List Goal
   pub q : Places

@@ -19,6 +19,6 @@ use Rattle.code_steps.specs.Registers.{Registers, Saved}
 use Rattle.code_steps.specs.Standing.{Stands}
 
 -- Two cells are to be equal: where they are unified, what was touched is posted and the machine goes on at the place to; where they can't be, the branch has no model.
-pub record GoesOnEqual (M : ℕ) (area : Area) (shown : List ℕ) (name : Naming) (h : Cells) (qs : List Indexical) (to : ℕ) (c : Registers) (stack : List Saved) (b : Branch) (d e : Cell) : Type 0 where
-  pub unified : (now : Cells) (ts : List Touch) → core.IsUnified name h d e now ts → IsSameSize h now → Stands M area shown name now (qs ++ posts (store_touches ts)) to c stack b
-  pub refuted : IsRefuted h (cells_equal name h d e) → (S : Family) → IsModel M b.equations b.posted S → ⊥
+pub record GoesOnEqual (M N : ℕ) (marks : List ℕ) (area : Area) (shown : List ℕ) (name : Naming) (h : Cells) (qs : List Indexical) (to : ℕ) (c : Registers) (stack : List Saved) (b : Branch) (d e : Cell) : Type 0 where
+  pub unified : (now : Cells) (ts : List Touch) → core.IsUnified name h d e now ts → IsSameSize h now → Stands M N marks area shown name now (qs ++ posts (store_touches ts)) to c stack b
+  pub refuted : IsRefuted h (cells_equal name h d e) → (S : Family) → IsModel M N b.equations b.posted S → ⊥

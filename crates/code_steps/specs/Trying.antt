@@ -12,7 +12,7 @@ use Rattle.wam_code.specs.declared.instruction.Code.{Code}
 use Rattle.wam_code.specs.declared.instruction.Code.TheVariants.{Jump, FailNow, TryMeElse, RetryMeElse, TrustMe, Try, Retry, Trust, SwitchOnTerm, SwitchOnConstant, SwitchOnInteger, SwitchOnStructure}
 use Rattle.wam_code.specs.declared.parts.Entry.{Entry}
 use Rattle.wam_code.specs.Area.{Area, Table, name_of}
-use Rattle.wam_code.specs.Places.{made}
+use Rattle.wam_code.specs.Places.{Depth, made}
 use Rattle.wam_code.specs.Tries.{Shape, is_open, shape_of, IsShape, Tries}
 use Rattle.code_steps.specs.Registers.{Registers, Saved}
 use Rattle.code_steps.specs.Standing.{IsCalling}
@@ -26,23 +26,24 @@ shape_in name h (Some d) = shape_of (term_of name h d)
 abbrev pub ShowsFirst : Naming → Cells → (ℕ → Option Cell) → Shape → Type 0
 ShowsFirst name h cells s = s ≡ shape_in name h (cells 1)
 
--- At this place the branch b's goal, which is called, is to try clauses. Their branches are kids.
-pub record IsTrying (M : ℕ) (area : Area) (shown : List ℕ) (name : Naming) (h : Cells) (qs : List Indexical) (at : ℕ) (e : Entry) (c : Registers) (stack : List Saved) (b : Branch) (kids : List Branch) : Type 0 where
-  pub calling : IsCalling M area shown name h qs e c stack b
+-- At this place the branch b's goal, which is called, is to try clauses. Their branches are kids: the cuts of each keep what the depth counts that the call has noted.
+pub record IsTrying (M N : ℕ) (marks : List ℕ) (area : Area) (shown : List ℕ) (name : Naming) (h : Cells) (qs : List Indexical) (at : ℕ) (e : Entry) (c : Registers) (stack : List Saved) (b : Branch) (kids : List Branch) : Type 0 where
+  pub noted : Depth
+  pub calling : IsCalling M N marks noted area shown name h qs e c stack b
   pub shape : Shape
   pub shows : ShowsFirst name h c.x shape
   pub clauses : List Clause
   pub tries : Tries area shape at clauses
   pub fit : AllFit (made (name_of area e.name) calling.ts) clauses
   pub scoped : ClausesScoped clauses
-  pub kids_are : kids ≡ map (by_clause b (made (name_of area e.name) calling.ts) calling.rest) clauses
+  pub kids_are : kids ≡ map (by_clause noted.branches b (made (name_of area e.name) calling.ts) calling.rest) clauses
 
 -- The clauses of two places: those of the one come first.
-pub record TriesBoth (M : ℕ) (area : Area) (shown : List ℕ) (name : Naming) (h : Cells) (qs : List Indexical) (first other : ℕ) (e : Entry) (c : Registers) (stack : List Saved) (b : Branch) (kids : List Branch) : Type 0 where
+pub record TriesBoth (M N : ℕ) (marks : List ℕ) (area : Area) (shown : List ℕ) (name : Naming) (h : Cells) (qs : List Indexical) (first other : ℕ) (e : Entry) (c : Registers) (stack : List Saved) (b : Branch) (kids : List Branch) : Type 0 where
   pub before : List Branch
   pub behind : List Branch
-  pub now : IsTrying M area shown name h qs first e c stack b before
-  pub later : IsTrying M area shown name h qs other e c stack b behind
+  pub now : IsTrying M N marks area shown name h qs first e c stack b before
+  pub later : IsTrying M N marks area shown name h qs other e c stack b behind
   pub both : kids ≡ before ++ behind
 
 -- no row has the shape's key

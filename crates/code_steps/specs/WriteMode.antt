@@ -30,7 +30,7 @@ abbrev pub PutEnd : Area → List ℕ → Branch → Name → ℕ → End
 PutEnd area shown b f r all next q todo after = Means area (record { goals = after; shown = shown }) next (write q (X r) (Comp f all)) todo b.goals
 
 -- These cells are gathered, and so many arguments are left, of which the instruction before still gives so many variables.
-pub record Builds (M : ℕ) (area : Area) (shown : List ℕ) (name : Naming) (h : Cells) (qs : List Indexical) (voids at : ℕ) (c : Registers) (cells : List Cell) (left : ℕ) (stack : List Saved) (b : Branch) (Ends : End) : Type 0 where
+pub record Builds (M N : ℕ) (marks : List ℕ) (area : Area) (shown : List ℕ) (name : Naming) (h : Cells) (qs : List Indexical) (voids at : ℕ) (c : Registers) (cells : List Cell) (left : ℕ) (stack : List Saved) (b : Branch) (Ends : End) : Type 0 where
   pub p : Places
   pub q : Places
   pub next : ℕ
@@ -39,7 +39,7 @@ pub record Builds (M : ℕ) (area : Area) (shown : List ℕ) (name : Naming) (h 
   pub todo : List Equation
   pub returns : List Return
   pub after : List Goal
-  pub made : IsMade M name h qs c returns stack b p todo
+  pub made : IsMade M N marks name h qs c returns stack b p todo
   pub are : AreCells name h made.look (Made p b.fresh) cells gathered
   pub counted : term_count ts ≡ left
   pub owed : Owed area voids at p ts next q

@@ -1,6 +1,6 @@
 //! The laws of a machine's steps, each the contract of a function that does nothing.
 
-ghost use Rattle.code_steps.specs.Laws.{HeadsAreMatched, CallsReturn, ClausesAreEntered, CallsTryClauses, ChoicesComeBack, AnswersAreTold, QueriesStart, RangesArePosted, StoresFail};
+ghost use Rattle.code_steps.specs.Laws.{HeadsAreMatched, CallsReturn, ClausesAreEntered, CallsTryClauses, ChoicesComeBack, CutsAreTaken, AnswersAreTold, QueriesStart, RangesArePosted, StoresFail};
 
 /// What the get group makes of a clause's head keeps what the machine stands for.
 pub fn heads_are_matched()
@@ -25,6 +25,11 @@ pub fn calls_try_clauses()
 /// What a choice leaves to be tried is gone on with when the machine comes back.
 pub fn choices_come_back()
     ensures { ChoicesComeBack }
+{}
+
+/// Levels are kept in slots, tests leave their other way, and a cut drops the choice points above a level.
+pub fn cuts_are_taken()
+    ensures { CutsAreTaken }
 {}
 
 /// The end of a query tells the answer of its branch.

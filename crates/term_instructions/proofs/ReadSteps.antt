@@ -64,11 +64,11 @@ shown_count name h look P (d ∷ ds) no_terms a = absurd a
 shown_count name h look P (d ∷ ds) (term t ts) a = ap suc (shown_count name h look P ds ts a.1)
 
 -- so many arguments are passed over
-pass_over : (M : ℕ) (area : Area) (shown : List ℕ) (name : Naming) (h : Cells) (qs : List Indexical) (c : Registers) (stack : List Saved) (b : Branch) (at n : ℕ) (cells : List Cell) → n ≤ length cells → Reads M area shown name h qs n at c cells stack b → Reads M area shown name h qs 0 at c (drop n cells) stack b
-pass_over M area shown name h qs c stack b at zero cells l m = m
-pass_over M area shown name h qs c stack b at (suc n) [] l m = absurd (omega (arith, l))
-pass_over M area shown name h qs c stack b at (suc n) (d ∷ cells) l m =
-    pass_over M area shown name h qs c stack b at n cells (omega (arith, l)) (read_voids M area shown name h qs c d cells stack b at n m)
+pass_over : (M N : ℕ) (marks : List ℕ) (area : Area) (shown : List ℕ) (name : Naming) (h : Cells) (qs : List Indexical) (c : Registers) (stack : List Saved) (b : Branch) (at n : ℕ) (cells : List Cell) → n ≤ length cells → Reads M N marks area shown name h qs n at c cells stack b → Reads M N marks area shown name h qs 0 at c (drop n cells) stack b
+pass_over M N marks area shown name h qs c stack b at zero cells l m = m
+pass_over M N marks area shown name h qs c stack b at (suc n) [] l m = absurd (omega (arith, l))
+pass_over M N marks area shown name h qs c stack b at (suc n) (d ∷ cells) l m =
+    pass_over M N marks area shown name h qs c stack b at n cells (omega (arith, l)) (read_voids M N marks area shown name h qs c d cells stack b at n m)
 
 module _ (area : Area) (cells : List Cell) (s : branch.State) (told : List Touch) (at i : ℕ) (c : Contents) (safe : IsSafe area s at (length cells - i) c) (more : i < length cells) (own : All (IsCell s) cells) (are_told : AreTouchesOf s told) (d : Cell) (first : drop i cells ≡ d ∷ drop (suc i) cells) where
   abbrev h : Cells
@@ -83,8 +83,8 @@ module _ (area : Area) (cells : List Cell) (s : branch.State) (told : List Touch
   abbrev left : List Cell
   left = drop (suc i) cells
 
-  opened : (shown : List ℕ) (name : Naming) (b : Branch) → ReadsAt area shown name s told at c (drop i cells) b → Reads INFINITY area shown name h qs 0 at (registers_of c) (d ∷ left) (stack_of c) b
-  opened shown name b m = subst (λ l. ReadsAt area shown name s told at c l b) first m
+  opened : (marks : List ℕ) (shown : List ℕ) (name : Naming) (b : Branch) → ReadsAt marks area shown name s told at c (drop i cells) b → Reads INFINITY INFINITY marks area shown name h qs 0 at (registers_of c) (d ∷ left) (stack_of c) b
+  opened marks shown name b m = subst (λ l. ReadsAt marks area shown name s told at c l b) first m
 
   -- the register takes the argument
   pub reads_variable : (r : Register) → Holds area at (UnifyVariable r) → IsCell s d → (c' : Contents) → IsWritten (registers_of c) r d (registers_of c') → IsSameBehind c c' → length c'.slots ≡ length c.slots → (to : ReadPosition) → to.at ≡ suc at → to.next ≡ suc i → IsReadTo area cells s told from c s told to c'
@@ -103,10 +103,10 @@ module _ (area : Area) (cells : List Cell) (s : branch.State) (told : List Touch
         are_told = are_told;
         behind = same;
         below = same_below s;
-        keeps = λ shown name b n m.
-            let k = read_variable INFINITY area shown name h qs (registers_of c) d left (stack_of c) b at (opened shown name b m) r holds (registers_of c') w in
-            let there : ReadsAt area shown name s told (suc at) c' left b = subst (λ rs. Reads INFINITY area shown name h qs 0 (suc at) (registers_of c') left (map saved_of rs) b) (sym same.returns) k in
-            subst (λ a. ReadsAt area shown name s told a c' (drop to.next cells) b) (sym at_is) (subst (λ j. ReadsAt area shown name s told (suc at) c' (drop j cells) b) (sym next_is) there);
+        keeps = λ marks shown name b n m.
+            let k = read_variable INFINITY INFINITY marks area shown name h qs (registers_of c) d left (stack_of c) b at (opened marks shown name b m) r holds (registers_of c') w in
+            let there : ReadsAt marks area shown name s told (suc at) c' left b = subst (λ rs. Reads INFINITY INFINITY marks area shown name h qs 0 (suc at) (registers_of c') left (map saved_of rs) b) (sym same.returns) k in
+            subst (λ a. ReadsAt marks area shown name s told a c' (drop to.next cells) b) (sym at_is) (subst (λ j. ReadsAt marks area shown name s told (suc at) c' (drop j cells) b) (sym next_is) there);
       }
 
   -- so many arguments are passed over
@@ -124,24 +124,24 @@ module _ (area : Area) (cells : List Cell) (s : branch.State) (told : List Touch
         are_told = are_told;
         behind = same_behind c;
         below = same_below s;
-        keeps = λ shown name b n m. subst (λ a. ReadsAt area shown name s told a c (drop to.next cells) b) (sym at_is) (subst (λ j. ReadsAt area shown name s told (suc at) c (drop j cells) b) (sym next_is) (passed shown name b m k holds low));
+        keeps = λ marks shown name b n m. subst (λ a. ReadsAt marks area shown name s told a c (drop to.next cells) b) (sym at_is) (subst (λ j. ReadsAt marks area shown name s told (suc at) c (drop j cells) b) (sym next_is) (passed marks shown name b m k holds low));
       }
     where
-      passed : (shown : List ℕ) (name : Naming) (b : Branch) → ReadsAt area shown name s told at c (drop i cells) b → (k : ℕ) → Holds area at (UnifyVoid k) → k ≤ length cells - i → ReadsAt area shown name s told (suc at) c (drop (i + k) cells) b
-      passed shown name b m zero holds low =
+      passed : (marks : List ℕ) (shown : List ℕ) (name : Naming) (b : Branch) → ReadsAt marks area shown name s told at c (drop i cells) b → (k : ℕ) → Holds area at (UnifyVoid k) → k ≤ length cells - i → ReadsAt marks area shown name s told (suc at) c (drop (i + k) cells) b
+      passed marks shown name b m zero holds low =
           let size = shown_count name h m.made.look (Made m.wide m.base) (drop i cells) m.sides m.cells in
           let counted = m.counted in
           let longer = length-drop i cells in
           absurd (no_void area at m.p m.ts m.next m.q (omega (arith, size, counted, longer, more)) holds m.owed)
-      passed shown name b m (suc k) holds low =
-          let one = read_void INFINITY area shown name h qs (registers_of c) d left (stack_of c) b at k (opened shown name b m) holds in
+      passed marks shown name b m (suc k) holds low =
+          let one = read_void INFINITY INFINITY marks area shown name h qs (registers_of c) d left (stack_of c) b at k (opened marks shown name b m) holds in
           let longer = length-drop (suc i) cells in
-          let all = pass_over INFINITY area shown name h qs (registers_of c) (stack_of c) b (suc at) k left (omega (arith, longer, low)) one in
-          subst (λ l. ReadsAt area shown name s told (suc at) c l b) (drop-drop k (suc i) cells ∙ ap (λ j. drop j cells) (let e : suc i + k ≡ i + suc k = omega arith in e)) all
+          let all = pass_over INFINITY INFINITY marks area shown name h qs (registers_of c) (stack_of c) b (suc at) k left (omega (arith, longer, low)) one in
+          subst (λ l. ReadsAt marks area shown name s told (suc at) c l b) (drop-drop k (suc i) cells ∙ ap (λ j. drop j cells) (let e : suc i + k ≡ i + suc k = omega arith in e)) all
 
   -- the argument is made equal to another cell
   pub reads_equal : (step : Code) → Holds area at step → goes_on step ≡ true → ((t u : State) → unify_effect step t ≡ Some u → u ≡ with_owed t (t.owed - 1)) → (e : Cell)
-      → ((shown : List ℕ) (name : Naming) (b : Branch) → IsNaming area name → Reads INFINITY area shown name h qs 0 at (registers_of c) (d ∷ left) (stack_of c) b → ReadsOnEqual INFINITY area shown name h qs (suc at) (registers_of c) left (stack_of c) b d e)
+      → ((marks : List ℕ) (shown : List ℕ) (name : Naming) (b : Branch) → IsNaming area name → Reads INFINITY INFINITY marks area shown name h qs 0 at (registers_of c) (d ∷ left) (stack_of c) b → ReadsOnEqual INFINITY INFINITY marks area shown name h qs (suc at) (registers_of c) left (stack_of c) b d e)
       → (E : Type 0) → (s' : branch.State) (told' : List Touch) (equal : Bool) → IfTrue {E = E} (Ok equal) (IsEqualled h d e s'.heaps.now told told') → IfFalse {E = E} (Ok equal) (CannotUnify h d e) → (AreTouchesOf s told → IfTrue {E = E} (Ok equal) (AreTouchesOf s' told')) → s' ≡ with_heap s s'.heaps.now
       → IfTrue {E = E} (Ok equal) (IsSound s') → IfFalse {E = E} (Ok equal) (IsSoundBelow s') → (to : ReadPosition) → to.at ≡ suc at → to.next ≡ suc i → ReadsOn area cells s told from c s' told' c (if equal then Some to else None)
   reads_equal step holds on stays e ons E s' told' true done un told_then heap sound back to at_is next_is =
@@ -160,33 +160,33 @@ module _ (area : Area) (cells : List Cell) (s : branch.State) (told : List Touch
         are_told = told_then are_told;
         behind = same_behind c;
         below = below;
-        keeps = λ shown name b n m.
-            let g = (ons shown name b n (opened shown name b m)).unified s'.heaps.now done.more (done.unified name) done.size in
+        keeps = λ marks shown name b n m.
+            let g = (ons marks shown name b n (opened marks shown name b m)).unified s'.heaps.now done.more (done.unified name) done.size in
             let same : qs ++ posts (store_touches done.more) ≡ posted_with s' told' = posts_behind s.levels.current.posted told done.more told' done.touches ∙ ap (λ (l : Levels). l.current.posted ++ posts (store_touches told')) (sym (ap (λ (t : branch.State). t.levels) heap)) in
-            let there : ReadsAt area shown name s' told' (suc at) c left b = subst (λ ps. Reads INFINITY area shown name s'.heaps.now ps 0 (suc at) (registers_of c) left (stack_of c) b) same g in
-            subst (λ a. ReadsAt area shown name s' told' a c (drop to.next cells) b) (sym at_is) (subst (λ j. ReadsAt area shown name s' told' (suc at) c (drop j cells) b) (sym next_is) there);
+            let there : ReadsAt marks area shown name s' told' (suc at) c left b = subst (λ ps. Reads INFINITY INFINITY marks area shown name s'.heaps.now ps 0 (suc at) (registers_of c) left (stack_of c) b) same g in
+            subst (λ a. ReadsAt marks area shown name s' told' a c (drop to.next cells) b) (sym at_is) (subst (λ j. ReadsAt marks area shown name s' told' (suc at) c (drop j cells) b) (sym next_is) there);
       }
   reads_equal step holds on stays e ons E s' told' false done un told_then heap sound back to at_is next_is = record {
     safe = back_safe area s s' at (length cells - i) c c safe (below_heap s s' heap) (same_behind c) back;
     behind = same_behind c;
     below = below_heap s s' heap;
-    none = λ shown name b n m. (ons shown name b n (opened shown name b m)).refuted (un name n.apart);
+    none = λ marks shown name b n m. (ons marks shown name b n (opened marks shown name b m)).refuted (un name n.apart);
   }
 
   -- by each instruction that does so
   abbrev OnsEqual : Cell → Type 0
-  OnsEqual e = (shown : List ℕ) (name : Naming) (b : Branch) → IsNaming area name → Reads INFINITY area shown name h qs 0 at (registers_of c) (d ∷ left) (stack_of c) b → ReadsOnEqual INFINITY area shown name h qs (suc at) (registers_of c) left (stack_of c) b d e
+  OnsEqual e = (marks : List ℕ) (shown : List ℕ) (name : Naming) (b : Branch) → IsNaming area name → Reads INFINITY INFINITY marks area shown name h qs 0 at (registers_of c) (d ∷ left) (stack_of c) b → ReadsOnEqual INFINITY INFINITY marks area shown name h qs (suc at) (registers_of c) left (stack_of c) b d e
 
   pub value_equal : (r : Register) → Holds area at (UnifyValue r) → (e : Cell) → cell_in (registers_of c) r ≡ Some e → OnsEqual e
-  value_equal r holds e here shown name b n m =
-      let k = read_value INFINITY area shown name h qs (registers_of c) d left (stack_of c) b at m r holds in
-      subst (λ x. ReadsOnEqual INFINITY area shown name h qs (suc at) (registers_of c) left (stack_of c) b d x) (same_Some k.0 e (sym k.1 ∙ here)) k.3
+  value_equal r holds e here marks shown name b n m =
+      let k = read_value INFINITY INFINITY marks area shown name h qs (registers_of c) d left (stack_of c) b at m r holds in
+      subst (λ x. ReadsOnEqual INFINITY INFINITY marks area shown name h qs (suc at) (registers_of c) left (stack_of c) b d x) (same_Some k.0 e (sym k.1 ∙ here)) k.3
 
   pub constant_equal : (i : AtomId) → Holds area at (UnifyConstant i) → OnsEqual (cell.Atom i)
-  constant_equal i holds shown name b n m = read_constant INFINITY area shown name h qs (registers_of c) d left (stack_of c) b safe.sound.now.valid at m i holds (n.same i (safe.verified.there at (UnifyConstant i) holds))
+  constant_equal i holds marks shown name b n m = read_constant INFINITY INFINITY marks area shown name h qs (registers_of c) d left (stack_of c) b safe.sound.now.valid at m i holds (n.same i (safe.verified.there at (UnifyConstant i) holds))
 
   pub integer_equal : (z : ℤ) → Holds area at (UnifyInteger z) → OnsEqual (cell.Int z)
-  integer_equal z holds shown name b n m = read_integer INFINITY area shown name h qs (registers_of c) d left (stack_of c) b safe.sound.now.valid at m z holds
+  integer_equal z holds marks shown name b n m = read_integer INFINITY INFINITY marks area shown name h qs (registers_of c) d left (stack_of c) b safe.sound.now.valid at m z holds
 
   pub constant_own : (i : AtomId) → Holds area at (UnifyConstant i) → IsCell s (cell.Atom i)
   constant_own i holds = (tt, subst (λ k. i.number < k) (sym safe.atoms) (safe.verified.there at (UnifyConstant i) holds))
@@ -259,7 +259,7 @@ module _ (area : Area) (cells : List Cell) (s : branch.State) (at i : ℕ) (c : 
 -- ---- many arguments
 
 pub read_start : (area : Area) (cells : List Cell) (s : branch.State) (told : List Touch) (from : ReadPosition) (c : Contents) → IsSafe area s from.at (length cells - from.next) c → from.next ≤ length cells → All (IsCell s) cells → AreTouchesOf s told → IsReadTo area cells s told from c s told from c
-read_start area cells s told from c safe within own are = record { safe = safe; within = within; leads = among_none area from.at; own = own; are_told = are; behind = same_behind c; below = same_below s; keeps = λ shown name b n m. m }
+read_start area cells s told from c safe within own are = record { safe = safe; within = within; leads = among_none area from.at; own = own; are_told = are; behind = same_behind c; below = same_below s; keeps = λ marks shown name b n m. m }
 
 module _ (area : Area) (cells : List Cell) (s : branch.State) (told : List Touch) (from : ReadPosition) (c : Contents) (s1 : branch.State) (told1 : List Touch) (to : ReadPosition) (c1 : Contents) (g : IsReadTo area cells s told from c s1 told1 to c1) where
   pub read_both : (s2 : branch.State) (told2 : List Touch) (to2 : ReadPosition) (c2 : Contents) → IsReadTo area cells s1 told1 to c1 s2 told2 to2 c2 → IsReadTo area cells s told from c s2 told2 to2 c2
@@ -271,11 +271,11 @@ module _ (area : Area) (cells : List Cell) (s : branch.State) (told : List Touch
     are_told = k.are_told;
     behind = behind_both c c1 c2 g.behind k.behind;
     below = below_both s s1 s2 g.below k.below;
-    keeps = λ shown name b n m. k.keeps shown name b n (g.keeps shown name b n m);
+    keeps = λ marks shown name b n m. k.keeps marks shown name b n (g.keeps marks shown name b n m);
   }
 
   pub read_refused : (s2 : branch.State) (c2 : Contents) → IsRefused area cells s1 told1 to c1 s2 c2 → IsRefused area cells s told from c s2 c2
-  read_refused s2 c2 k = record { safe = k.safe; behind = behind_both c c1 c2 g.behind k.behind; below = below_both s s1 s2 g.below k.below; none = λ shown name b n m. k.none shown name b n (g.keeps shown name b n m) }
+  read_refused s2 c2 k = record { safe = k.safe; behind = behind_both c c1 c2 g.behind k.behind; below = below_both s s1 s2 g.below k.below; none = λ marks shown name b n m. k.none marks shown name b n (g.keeps marks shown name b n m) }
 
   -- the last one is read
   pub read_all : length cells ≤ to.next → IsReadTo area cells s told from c s1 told1 (record { at = to.at; next = length cells }) c1

@@ -7,7 +7,7 @@ use Rattle.heap_cells.specs.declared.Cell.{Cell as HeapCell}
 use Rattle.heap_cells.specs.declared.Cell.TheVariants as cell
 use Rattle.heap_cells.specs.Cells.{free, with_new_slot}
 use Rattle.branch_state.specs.States as branch
-use Rattle.branch_state.specs.States.{IsCell, AreCells, IsSound, IsSameBelow, with_heap}
+use Rattle.branch_state.specs.States.{IsCell, IsSound, IsSameBelow, with_heap}
 use Rattle.wam_code.specs.declared.instruction.Register.{Register}
 use Rattle.wam_code.specs.declared.instruction.Register.TheVariants.{X, Y}
 use Rattle.wam_code.specs.declared.instruction.Code.{Code}
@@ -19,7 +19,7 @@ use Rattle.code_areas.specs.Areas.{cell_at, IsSet, Contents}
 use Rattle.code_steps.specs.Registers.{cell_in, IsWritten}
 use Rattle.code_states.specs.Machine.{registers_of, HasCell, CanHold, IsSameBehind}
 use Rattle.code_states.specs.Queries.{StaysInside}
-use Rattle.code_states.specs.Safety.{Fits, IsSafe, IsSafeThen}
+use Rattle.code_states.specs.Safety.{Fits, AreOwn, IsSafe, IsSafeThen}
 use Rattle.code_states.specs.Standing.{went_by}
 use Rattle.code_states.specs.Work.{LeadsOn}
 use Rattle.code_states.specs.declared.went.Went.{Went}
@@ -64,7 +64,7 @@ module _ (area : Area) (s : branch.State) (at : ℕ) (c : Contents) (safe : IsSa
   led_from from is Back later = tt
 
 -- what a register holds is a cell of the branch
-pub held_own : (s : branch.State) (c : Contents) (r : Register) (d : HeapCell) → AreCells s c.registers → AreCells s c.slots → cell_in (registers_of c) r ≡ Some d → IsCell s d
+pub held_own : (s : branch.State) (c : Contents) (r : Register) (d : HeapCell) → AreOwn s c.registers → AreOwn s c.slots → cell_in (registers_of c) r ≡ Some d → IsCell s d
 held_own s c (X n) d xs ys e = xs n d e
 held_own s c (Y zero) d xs ys e = (let none : None ≡ Some d = e in cc)
 held_own s c (Y (suc n)) d xs ys e = ys n d e

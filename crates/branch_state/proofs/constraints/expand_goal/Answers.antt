@@ -1,5 +1,5 @@
 use Rattle.std.proofs.Common.{arith}
-use Rattle.branch_state.proofs.ConstrainingRows.{row_ends, answer_words}
+use Rattle.branch_state.proofs.PoolRows.{row_ends, answer_words}
 use Rattle.branch_state.proofs.constraints.expand_goal.Goals as goal
 
 pub expand-requires-clause-ends : goal.expand-requires-clause-ends

@@ -1,4 +1,4 @@
-use Rattle.std.proofs.Common.{◌+◌, ◌≤◌, take, refl, ap}
+use Rattle.std.proofs.Common.{◌+◌, ◌≤◌, length, take, refl, ap, ◌∙◌}
 use Rattle.wam_code.specs.declared.instruction.Code.TheVariants as step
 use Rattle.code_areas.specs.Areas.{Contents}
 use Rattle.code_states.specs.Safety.{IsSafe}
@@ -17,26 +17,27 @@ entry_of-entry-requires g c =
 
 pub returns-clause-safe : goal.returns-clause-safe
 returns-clause-safe g c =
-    moved_to (λ to a. IsSafe c.args.code.now c.args.branch.now to 0 a) c.entry_of-entry.result.at c.entry_of-entry.result.at (record c.args.areas.now { registers = take (c.entry_of-entry.result.arity + 1) c.args.areas.now.registers }) c.keep_registers.new.self refl c.keep_registers.ensures
+    moved_to (λ to a. IsSafe c.args.code.now c.args.branch.now to 0 a) c.entry_of-entry.result.at c.entry_of-entry.result.at (record c.args.areas.now { registers = take (c.entry_of-entry.result.arity + 1) c.args.areas.now.registers; noted = length c.args.areas.now.points }) c.keep_registers.new.self refl (c.keep_registers.ensures ∙ ap (λ (a : Contents). record a { registers = take (c.entry_of-entry.result.arity + 1) a.registers }) c.note.ensures)
     (execute_safe c.args.code.now c.args.branch.now c.args.at c.args.areas.now c.requires.safe c.args.e c.requires.holds c.entry_of-entry.result c.entry_of-entry.ensures)
 
 pub returns-clause-runs : goal.returns-clause-runs
 returns-clause-runs g c =
-    moved_to (λ to a. Calls c.args.code.now c.args.branch.now c.args.at c.args.areas.now c.args.branch.now to a) c.entry_of-entry.result.at c.entry_of-entry.result.at (record c.args.areas.now { registers = take (c.entry_of-entry.result.arity + 1) c.args.areas.now.registers }) c.keep_registers.new.self refl c.keep_registers.ensures
-    (execute_runs c.args.code.now c.args.branch.now c.args.at c.args.areas.now c.requires.safe.sound c.args.e c.requires.holds c.entry_of-entry.result c.entry_of-entry.ensures)
+    moved_to (λ to a. Calls c.args.code.now c.args.branch.now c.args.at c.args.areas.now c.args.branch.now to a) c.entry_of-entry.result.at c.entry_of-entry.result.at (record c.args.areas.now { registers = take (c.entry_of-entry.result.arity + 1) c.args.areas.now.registers; noted = length c.args.areas.now.points }) c.keep_registers.new.self refl (c.keep_registers.ensures ∙ ap (λ (a : Contents). record a { registers = take (c.entry_of-entry.result.arity + 1) a.registers }) c.note.ensures)
+    (execute_runs c.args.code.now c.args.branch.now c.args.at c.args.areas.now c.requires.safe c.args.e c.requires.holds c.entry_of-entry.result c.entry_of-entry.ensures)
 
 pub returns-clause-most : goal.returns-clause-most
 returns-clause-most g c =
-    moved_to (λ to a. work_at c.args.code.now to a ≤ most_work c.args.code.now (work_at c.args.code.now c.args.at c.args.areas.now)) c.entry_of-entry.result.at c.entry_of-entry.result.at (record c.args.areas.now { registers = take (c.entry_of-entry.result.arity + 1) c.args.areas.now.registers }) c.keep_registers.new.self refl c.keep_registers.ensures
+    moved_to (λ to a. work_at c.args.code.now to a ≤ most_work c.args.code.now (work_at c.args.code.now c.args.at c.args.areas.now)) c.entry_of-entry.result.at c.entry_of-entry.result.at (record c.args.areas.now { registers = take (c.entry_of-entry.result.arity + 1) c.args.areas.now.registers; noted = length c.args.areas.now.points }) c.keep_registers.new.self refl (c.keep_registers.ensures ∙ ap (λ (a : Contents). record a { registers = take (c.entry_of-entry.result.arity + 1) a.registers }) c.note.ensures)
     (executed_most c.args.code.now c.requires.safe.states c.requires.safe.verified c.args.at c.args.areas.now c.entry_of-entry.result.at (take (c.entry_of-entry.result.arity + 1) c.args.areas.now.registers))
 
 pub returns-clause-same : goal.returns-clause-same
 returns-clause-same g c =
-    record { returns = ap (λ (a : Contents). a.returns) c.keep_registers.ensures; points = ap (λ (a : Contents). a.points) c.keep_registers.ensures }
+    let after = c.keep_registers.ensures ∙ ap (λ (a : Contents). record a { registers = take (c.entry_of-entry.result.arity + 1) a.registers }) c.note.ensures in
+    record { returns = ap (λ (a : Contents). a.returns) after; points = ap (λ (a : Contents). a.points) after }
 
 pub returns-clause-query : goal.returns-clause-query
 returns-clause-query g c =
-    moved_to (λ to a. KeepsQuery c.args.code.now c.args.at c.args.areas.now to a) c.entry_of-entry.result.at c.entry_of-entry.result.at (record c.args.areas.now { registers = take (c.entry_of-entry.result.arity + 1) c.args.areas.now.registers }) c.keep_registers.new.self refl c.keep_registers.ensures
+    moved_to (λ to a. KeepsQuery c.args.code.now c.args.at c.args.areas.now to a) c.entry_of-entry.result.at c.entry_of-entry.result.at (record c.args.areas.now { registers = take (c.entry_of-entry.result.arity + 1) c.args.areas.now.registers; noted = length c.args.areas.now.points }) c.keep_registers.new.self refl (c.keep_registers.ensures ∙ ap (λ (a : Contents). record a { registers = take (c.entry_of-entry.result.arity + 1) a.registers }) c.note.ensures)
     (execute_query c.args.code.now c.args.branch.now c.args.at c.args.areas.now c.requires.safe c.args.e c.requires.holds c.entry_of-entry.result.at (take (c.entry_of-entry.result.arity + 1) c.args.areas.now.registers))
 
 pub returns-clause-place : goal.returns-clause-place

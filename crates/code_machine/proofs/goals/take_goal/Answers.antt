@@ -23,3 +23,10 @@ returns-in-PostRange g c =
     goals_spend c.args.code.now c.args.branch.now c.args.at c.args.areas.now (reverse c.args.labels.now.items) c.requires.labels
     (next_inside c.args.code.now c.args.branch.now c.args.at 0 c.args.areas.now c.requires.safe c.args.instruction c.requires.holds (goal_goes c.args.instruction c.requires.goal))
     c.post.new.branch c.post.result e.safe e.takes e.leads e.same
+
+pub returns-in-Best : goal.returns-in-Best
+returns-in-Best g c =
+    let e = c.take_best.ensures in
+    goals_spend c.args.code.now c.args.branch.now c.args.at c.args.areas.now (reverse c.args.labels.now.items) c.requires.labels
+    (next_inside c.args.code.now c.args.branch.now c.args.at 0 c.args.areas.now c.requires.safe c.args.instruction c.requires.holds (goal_goes c.args.instruction c.requires.goal))
+    c.take_best.new.branch c.take_best.result e.safe e.takes e.leads e.same

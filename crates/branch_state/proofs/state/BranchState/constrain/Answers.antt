@@ -1,4 +1,5 @@
 use Rattle.std.proofs.Common.{◌≡◌, ◌∙◌, ap, sym, subst, length, Ok, Err, refl}
+use Rattle.fd_language.specs.declared.TheConstants.{INFINITY}
 use Rattle.fd_model.specs.Constraining.{arguments, expand}
 use Rattle.heap_cells.specs.Cells.{Heaps}
 use Rattle.heap_cells.specs.SeenTerms.{seen_term}
@@ -30,7 +31,7 @@ returns-in-Err-clause-step g c =
     let same : c.count_variables.new.heap ≡ now.heaps = c.in_ok-fresh.ensures.same in
     let fresh = c.in_ok-fresh.fresh in
     let read = row_read names now o atoms kind cell own fresh c.in_ok-fresh.ensures.count in
-    let moved = ap (λ (x : Heaps). expand kind (arguments (seen_term (name_in names) x.now (family_of now.levels.current.sets) cell)) fresh) (sym same) in
+    let moved = ap (λ (x : Heaps). expand INFINITY kind (arguments (seen_term (name_in names) x.now (family_of now.levels.current.sets) cell)) fresh) (sym same) in
     let fault : row_of names now kind cell ≡ Err c.in_ok-fault_of-in-Err.field-0 = sym read ∙ moved ∙ fault_read _ c.in-Err.fault c.in_ok-fault_of-in-Err.field-0 c.in-Err.ensures.row c.in_ok-fault_of-in-Err.ensures in
     let unmoved : record { atoms = now.atoms; heaps = c.count_variables.new.heap; levels = now.levels } ≡ now = ap (λ (x : Heaps). record { atoms = now.atoms; heaps = x; levels = now.levels }) same in
     (subst (λ (v : State). row_of names v kind cell ≡ Err c.in_ok-fault_of-in-Err.field-0) c.self.view_is fault, unmoved ∙ c.self.view_is)
@@ -53,7 +54,7 @@ prepare_row-requires-clause-row g c =
     let same : c.count_variables.new.heap ≡ now.heaps = c.in_ok-fresh.ensures.same in
     let fresh = c.in_ok-fresh.fresh in
     let read = row_read names now o atoms kind cell own fresh c.in_ok-fresh.ensures.count in
-    let moved = ap (λ (x : Heaps). expand kind (arguments (seen_term (name_in names) x.now (family_of now.levels.current.sets) cell)) fresh) (sym same) in
+    let moved = ap (λ (x : Heaps). expand INFINITY kind (arguments (seen_term (name_in names) x.now (family_of now.levels.current.sets) cell)) fresh) (sym same) in
     let y = c.in-Ok.expansion in
     let is : row_of names now kind cell ≡ Ok y = sym read ∙ moved ∙ c.in-Ok.ensures.row in
     let row : IsRowOf now.heaps.now y = row_of_heap names now o kind cell own y is in
@@ -71,7 +72,7 @@ post_rows-requires-clause-list g c =
     let same : c.count_variables.new.heap ≡ now.heaps = c.in_ok-fresh.ensures.same in
     let fresh = c.in_ok-fresh.fresh in
     let read = row_read names now o atoms kind cell own fresh c.in_ok-fresh.ensures.count in
-    let moved = ap (λ (x : Heaps). expand kind (arguments (seen_term (name_in names) x.now (family_of now.levels.current.sets) cell)) fresh) (sym same) in
+    let moved = ap (λ (x : Heaps). expand INFINITY kind (arguments (seen_term (name_in names) x.now (family_of now.levels.current.sets) cell)) fresh) (sym same) in
     let y = c.in-Ok.expansion in
     let is : row_of names now kind cell ≡ Ok y = sym read ∙ moved ∙ c.in-Ok.ensures.row in
     let row : IsRowOf now.heaps.now y = row_of_heap names now o kind cell own y is in
@@ -93,7 +94,7 @@ post_rows-requires-clause-fixed g c =
     let same : c.count_variables.new.heap ≡ now.heaps = c.in_ok-fresh.ensures.same in
     let fresh = c.in_ok-fresh.fresh in
     let read = row_read names now o atoms kind cell own fresh c.in_ok-fresh.ensures.count in
-    let moved = ap (λ (x : Heaps). expand kind (arguments (seen_term (name_in names) x.now (family_of now.levels.current.sets) cell)) fresh) (sym same) in
+    let moved = ap (λ (x : Heaps). expand INFINITY kind (arguments (seen_term (name_in names) x.now (family_of now.levels.current.sets) cell)) fresh) (sym same) in
     let y = c.in-Ok.expansion in
     let is : row_of names now kind cell ≡ Ok y = sym read ∙ moved ∙ c.in-Ok.ensures.row in
     let row : IsRowOf now.heaps.now y = row_of_heap names now o kind cell own y is in
@@ -115,7 +116,7 @@ returns-clause-step g c =
     let same : c.count_variables.new.heap ≡ now.heaps = c.in_ok-fresh.ensures.same in
     let fresh = c.in_ok-fresh.fresh in
     let read = row_read names now o atoms kind cell own fresh c.in_ok-fresh.ensures.count in
-    let moved = ap (λ (x : Heaps). expand kind (arguments (seen_term (name_in names) x.now (family_of now.levels.current.sets) cell)) fresh) (sym same) in
+    let moved = ap (λ (x : Heaps). expand INFINITY kind (arguments (seen_term (name_in names) x.now (family_of now.levels.current.sets) cell)) fresh) (sym same) in
     let y = c.in-Ok.expansion in
     let is : row_of names now kind cell ≡ Ok y = sym read ∙ moved ∙ c.in-Ok.ensures.row in
     let row : IsRowOf now.heaps.now y = row_of_heap names now o kind cell own y is in

@@ -1,4 +1,4 @@
-use Rattle.std.proofs.Common.{false}
+use Rattle.std.proofs.Common.{false, sym, ◌∙◌}
 use Rattle.code_machine.specs.States.{state_of, state_within}
 use Rattle.code_machine.proofs.Running.{all_given, all_spent, lost_machine, of_goal, seen_says, within_more}
 use Rattle.code_machine.proofs.machine.Machine.next.Goals as goal
@@ -19,6 +19,18 @@ returns-clause-last g c =
     let i = c.self.inside in
     let x = c.run_on.new in
     (seen_says c.deref.result.now i.code.value c.deref.ensures i.branch i.run i.lost i.limits i.answers x.branch x.run c.counted-self-inside.result c.args.self.now c.in_ok-event.event c.self.view_is c.in_ok-event.ensures.says).last
+
+pub returns-clause-stage : goal.returns-clause-stage
+returns-clause-stage g c =
+    let i = c.self.inside in
+    let x = c.run_on.new in
+    (seen_says c.deref.result.now i.code.value c.deref.ensures i.branch i.run i.lost i.limits i.answers x.branch x.run c.counted-self-inside.result c.args.self.now c.in_ok-event.event c.self.view_is c.in_ok-event.ensures.says).ended
+
+pub returns-clause-again : goal.returns-clause-again
+returns-clause-again g c =
+    let i = c.self.inside in
+    let x = c.run_on.new in
+    λ y e. (let a = (seen_says c.deref.result.now i.code.value c.deref.ensures i.branch i.run i.lost i.limits i.answers x.branch x.run c.counted-self-inside.result c.args.self.now c.in_ok-event.event c.self.view_is c.in_ok-event.ensures.says).again y e in (a.0, a.1 ∙ sym e, a.2))
 
 pub returns-clause-budget : goal.returns-clause-budget
 returns-clause-budget g c =
