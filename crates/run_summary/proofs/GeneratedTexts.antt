@@ -125,44 +125,44 @@ pub record Passes (text : List ℕ) : Type 0 where
   pub few : length (terminals [] (lexemes_of text)) ≤ deepest
   pub terms : reverse (map (λ s. s.term) (sentences_in text)) ≡ terms_in text
   pub names : map (λ s. s.names) (sentences_in text) ≡ sentence_names [] (lexemes_of text)
-  pub refusal : (M : ℕ) → first_refusal M (map (λ s. s.term) (sentences_in text)) (map (λ s. s.term) (sentences_in text)) ≡ None
-  pub query : one_query (program_of (sentences_in text)).queries ≡ true
+  pub refusal : (M N : ℕ) → first_refusal M N (map (λ s. s.term) (sentences_in text)) (map (λ s. s.term) (sentences_in text)) ≡ None
+  pub query : (N : ℕ) → one_query (program_of N (sentences_in text)).queries ≡ true
 
 four : Passes (queens_text 4)
 unfolding front_of chars is_symbol is_punct begins_variable ucd_derived digits is_operator infix_of prefix_of
-four = record { size = omega arith; ascii = refl; ends = refl; reads = refl; few = omega arith; terms = refl; names = refl; refusal = λ M. refl; query = refl }
+four = record { size = omega arith; ascii = refl; ends = refl; reads = refl; few = omega arith; terms = refl; names = refl; refusal = λ M N. refl; query = λ N. refl }
 
 five : Passes (queens_text 5)
 unfolding front_of chars is_symbol is_punct begins_variable ucd_derived digits is_operator infix_of prefix_of
-five = record { size = omega arith; ascii = refl; ends = refl; reads = refl; few = omega arith; terms = refl; names = refl; refusal = λ M. refl; query = refl }
+five = record { size = omega arith; ascii = refl; ends = refl; reads = refl; few = omega arith; terms = refl; names = refl; refusal = λ M N. refl; query = λ N. refl }
 
 six : Passes (queens_text 6)
 unfolding front_of chars is_symbol is_punct begins_variable ucd_derived digits is_operator infix_of prefix_of
-six = record { size = omega arith; ascii = refl; ends = refl; reads = refl; few = omega arith; terms = refl; names = refl; refusal = λ M. refl; query = refl }
+six = record { size = omega arith; ascii = refl; ends = refl; reads = refl; few = omega arith; terms = refl; names = refl; refusal = λ M N. refl; query = λ N. refl }
 
 seven : Passes (queens_text 7)
 unfolding front_of chars is_symbol is_punct begins_variable ucd_derived digits is_operator infix_of prefix_of
-seven = record { size = omega arith; ascii = refl; ends = refl; reads = refl; few = omega arith; terms = refl; names = refl; refusal = λ M. refl; query = refl }
+seven = record { size = omega arith; ascii = refl; ends = refl; reads = refl; few = omega arith; terms = refl; names = refl; refusal = λ M N. refl; query = λ N. refl }
 
 eight : Passes (queens_text 8)
 unfolding front_of chars is_symbol is_punct begins_variable ucd_derived digits is_operator infix_of prefix_of
-eight = record { size = omega arith; ascii = refl; ends = refl; reads = refl; few = omega arith; terms = refl; names = refl; refusal = λ M. refl; query = refl }
+eight = record { size = omega arith; ascii = refl; ends = refl; reads = refl; few = omega arith; terms = refl; names = refl; refusal = λ M N. refl; query = λ N. refl }
 
 nine : Passes (queens_text 9)
 unfolding front_of chars is_symbol is_punct begins_variable ucd_derived digits is_operator infix_of prefix_of
-nine = record { size = omega arith; ascii = refl; ends = refl; reads = refl; few = omega arith; terms = refl; names = refl; refusal = λ M. refl; query = refl }
+nine = record { size = omega arith; ascii = refl; ends = refl; reads = refl; few = omega arith; terms = refl; names = refl; refusal = λ M N. refl; query = λ N. refl }
 
 ten : Passes (queens_text 10)
 unfolding front_of chars is_symbol is_punct begins_variable ucd_derived digits is_operator infix_of prefix_of
-ten = record { size = omega arith; ascii = refl; ends = refl; reads = refl; few = omega arith; terms = refl; names = refl; refusal = λ M. refl; query = refl }
+ten = record { size = omega arith; ascii = refl; ends = refl; reads = refl; few = omega arith; terms = refl; names = refl; refusal = λ M N. refl; query = λ N. refl }
 
 eleven : Passes (queens_text 11)
 unfolding front_of chars is_symbol is_punct begins_variable ucd_derived digits is_operator infix_of prefix_of
-eleven = record { size = omega arith; ascii = refl; ends = refl; reads = refl; few = omega arith; terms = refl; names = refl; refusal = λ M. refl; query = refl }
+eleven = record { size = omega arith; ascii = refl; ends = refl; reads = refl; few = omega arith; terms = refl; names = refl; refusal = λ M N. refl; query = λ N. refl }
 
 twelve : Passes (queens_text 12)
 unfolding front_of chars is_symbol is_punct begins_variable ucd_derived digits is_operator infix_of prefix_of
-twelve = record { size = omega arith; ascii = refl; ends = refl; reads = refl; few = omega arith; terms = refl; names = refl; refusal = λ M. refl; query = refl }
+twelve = record { size = omega arith; ascii = refl; ends = refl; reads = refl; few = omega arith; terms = refl; names = refl; refusal = λ M N. refl; query = λ N. refl }
 
 -- each of the generator's texts passes
 pub each_passes : (n : ℕ) → 4 ≤ n → n ≤ 12 → Passes (queens_text n)
@@ -190,10 +190,10 @@ ascii_at (b ∷ bs) h zero = ltb-true b 128 (and_parts (nat_lt b 128) (all_ascii
 ascii_at (b ∷ bs) h (suc i) = ascii_at bs (and_parts (nat_lt b 128) (all_ascii bs) h).1 i
 
 -- a program with one query
-pub record OneQuery (text : List ℕ) : Type 0 where
+pub record OneQuery (M : ℕ) (text : List ℕ) : Type 0 where
   pub program : Program
   pub query : Query
-  pub verdict : (M : ℕ) → IsVerdict M text (accepted program)
+  pub verdict : IsVerdict M M text (accepted program)
   pub one : program.queries ≡ query ∷ []
 
 only_query : (qs : List Query) → one_query qs ≡ true → (q : Query) × (qs ≡ q ∷ [])
@@ -202,21 +202,21 @@ only_query (q ∷ []) h = (q, refl)
 only_query (q ∷ p ∷ qs) h = absurd (cc)
 
 -- a text that passes is a program with one query
-pub passed : (text : List ℕ) → Passes text → OneQuery text
-passed text p =
+pub passed : (M : ℕ) (text : List ℕ) → Passes text → OneQuery M text
+passed M text p =
     let ss = sentences_in text in
     let ls = lexemes_of text in
     let ts = terminals [] ls in
     let read : IsRead ts (terms_in text) = record { text = sound ts (terms_in text) p.reads; shallow = shallow ts p.few } in
     let reading : IsSentences text ss = record { lexemes = ls; tokens = lexed 300 0 true text p.ends; terms = subst (IsRead ts) (sym p.terms) read; names = p.names } in
-    let only = only_query (program_of ss).queries p.query in
+    let only = only_query (program_of M ss).queries (p.query M) in
     record {
-      program = program_of ss;
+      program = program_of M ss;
       query = only.0;
-      verdict = λ M. inr (inr (p.size, IsUtf8-from_ascii text (ascii_at text p.ascii), (sentences ss, reading, sym (ap (sentences_verdict ss) (p.refusal M)))));
+      verdict = inr (inr (p.size, IsUtf8-from_ascii text (ascii_at text p.ascii), (sentences ss, reading, sym (ap (sentences_verdict M ss) (p.refusal M M)))));
       one = only.1;
     }
 
 -- the generator's texts are programs with one query
-pub queens_program : (n : ℕ) → 4 ≤ n → n ≤ 12 → OneQuery (queens_text n)
-queens_program n least most = passed (queens_text n) (each_passes n least most)
+pub queens_program : (M n : ℕ) → 4 ≤ n → n ≤ 12 → OneQuery M (queens_text n)
+queens_program M n least most = passed M (queens_text n) (each_passes n least most)

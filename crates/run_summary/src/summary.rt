@@ -120,8 +120,8 @@ fn count_queens(alloc: Global, size: u32, options: Options) -> Result<Tally, NoM
     requires limit { IsLimit options.answers }
     ensures last { IfOk result (λ t. is_fixed t.last ≡ true) }
     ensures whole { (program : model.Program) (query : Query) (es : List Event) (r : ℕ)
-        → IsVerdict TOP (queens_bytes size) (accepted program) → program.queries ≡ query ∷ []
-        → Run TOP program query options.steps options.answers (start_of query ∷ []) es r
+        → IsVerdict TOP TOP (queens_bytes size) (accepted program) → program.queries ≡ query ∷ []
+        → Run TOP TOP program query options.steps options.answers (start_of query ∷ []) es r
         → IfOk result (IsTally es r) }
 {
     let text = queens_text(alloc, size)?;

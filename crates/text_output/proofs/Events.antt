@@ -102,7 +102,7 @@ pub record Behind (steps : ℕ) (answers : Option ℕ) (prog : Program) (n : ℕ
   pub later : Bool
   pub is : out ≡ done ++ rest
   pub wrote : WroteAll old now done
-  pub queries : Queries INFINITY prog steps answers n qs rest later
+  pub queries : Queries INFINITY INFINITY prog steps answers n qs rest later
   pub stops : stop ≡ or_stop stopped later
 
 -- at the end
@@ -121,10 +121,10 @@ pub record Next (steps : ℕ) (answers : Option ℕ) (prog : Program) (n : ℕ) 
   pub spent : ℕ
   pub rest : List ℕ
   pub later : Bool
-  pub run : Run INFINITY prog q steps answers (start_of q ∷ []) events spent
+  pub run : Run INFINITY INFINITY prog q steps answers (start_of q ∷ []) events spent
   pub is : out ≡ done ++ (line (codes "query " ++ decimal n) ++ (events_bytes events ++ rest))
   pub wrote : WroteAll old now done
-  pub queries : Queries INFINITY prog steps answers (n + 1) qs rest later
+  pub queries : Queries INFINITY INFINITY prog steps answers (n + 1) qs rest later
   pub stops : stop ≡ or_stop stopped (or_stop (is_stop events) later)
 
 pub next_query : (steps : ℕ) (answers : Option ℕ) (prog : Program) (n : ℕ) (q : Query) (qs : List Query) (old now : SinkState) (stopped : Bool) (out : List ℕ) (stop : Bool) → Behind steps answers prog n (q ∷ qs) old now stopped out stop → Next steps answers prog n q qs old now stopped out stop

@@ -41,12 +41,12 @@ fault_status fault.NoMemory = NoMemory
 abbrev pub IsRunOf : FlatProgram → ℕ → ℕ → Option ℕ → List Event → ℕ → Type 0
 IsRunOf p q steps answers es r =
     let query = query_in p (query_at p q) in
-    Run INFINITY (program_in p) query steps answers (start_of query ∷ []) es r
+    Run INFINITY INFINITY (program_in p) query steps answers (start_of query ∷ []) es r
 
 -- The run of the query that code has under a number, for some program that the code stands for.
 abbrev pub IsRunBy : Area → ℕ → ℕ → Option ℕ → List Event → ℕ → Type 0
 IsRunBy area number steps answers es r =
-    (prog : Program) × (query : Query) × MayRun area number prog query × Run INFINITY prog query steps answers (start_of query ∷ []) es r
+    (prog : Program) × (query : Query) × MayRun area number prog query × Run INFINITY INFINITY prog query steps answers (start_of query ∷ []) es r
 
 -- whether the event is the last one, and then whether it stops its query
 abbrev pub IsEnding : MachineEvent → Option Bool → Type 0

@@ -186,12 +186,12 @@ fn put_program<K: Sink>(
 ) -> Result<bool, Fault>
     requires { IsLimit options.answers }
     ensures wrote { (out : List ℕ) (stop : Bool)
-        → Queries INFINITY (program_in program) options.steps options.answers 1
+        → Queries INFINITY INFINITY (program_in program) options.steps options.answers 1
         (program_in program).queries out stop
         → Wrote (sink_at (K.written sink.old) (K.faults sink.old)) (sink_at (K.written sink.new)
         (K.faults sink.new)) result out }
     ensures stopped { (out : List ℕ) (stop : Bool)
-        → Queries INFINITY (program_in program) options.steps options.answers 1
+        → Queries INFINITY INFINITY (program_in program) options.steps options.answers 1
         (program_in program).queries out stop
         → IfOk result (λ stopped. stopped ≡ stop) }
 {
@@ -213,7 +213,7 @@ fn put_program<K: Sink>(
 fn put_output<K: Sink>(alloc: Global, verdict: Verdict, options: Options, sink: &mut K) -> Status
     requires names { HasNames verdict }
     requires limit { IsLimit options.answers }
-    ensures { (out : List ℕ) (st : Status) → VerdictOutput INFINITY (verdict_of verdict)
+    ensures { (out : List ℕ) (st : Status) → VerdictOutput INFINITY INFINITY (verdict_of verdict)
         options.steps options.answers out st
         → Ending (sink_at (K.written sink.old) (K.faults sink.old)) (sink_at (K.written sink.new)
         (K.faults sink.new)) result st out }
@@ -244,7 +244,7 @@ pub fn answer<K: Sink>(
 ) -> Status
     requires names { IfOk verdict HasNames }
     requires limit { IsLimit options.answers }
-    ensures { (out : List ℕ) (st : Status) → IfOk verdict (λ v. VerdictOutput INFINITY (verdict_of
+    ensures { (out : List ℕ) (st : Status) → IfOk verdict (λ v. VerdictOutput INFINITY INFINITY (verdict_of
         v) options.steps options.answers out st)
         → Ending (sink_at (K.written sink.old) (K.faults sink.old)) (sink_at (K.written sink.new)
         (K.faults sink.new)) result st out }

@@ -18,18 +18,18 @@ judge_text-requires c =
 pub count_program-requires-clause-query : goal.count_program-requires-clause-query
 count_program-requires-clause-query c =
     let same : c.as_bytes.result.now ≡ queens_text c.args.size = search rules in
-    let found : IsVerdict INFINITY c.as_bytes.result.now (accepted (program_in c.in-Accepted.program)) =
-    subst (λ (w : Verdict). IsVerdict INFINITY c.as_bytes.result.now (verdict_of w)) c.in-Accepted.is c.in_ok-program.ensures.verdict in
-    found_one (queens_text c.args.size) c.in-Accepted.program (queens_program c.args.size c.requires.least c.requires.most)
-    (subst (λ (t : List ℕ). IsVerdict INFINITY t (accepted (program_in c.in-Accepted.program))) same found)
+    let found : IsVerdict INFINITY INFINITY c.as_bytes.result.now (accepted (program_in c.in-Accepted.program)) =
+    subst (λ (w : Verdict). IsVerdict INFINITY INFINITY c.as_bytes.result.now (verdict_of w)) c.in-Accepted.is c.in_ok-program.ensures.verdict in
+    found_one (queens_text c.args.size) c.in-Accepted.program (queens_program INFINITY c.args.size c.requires.least c.requires.most)
+    (subst (λ (t : List ℕ). IsVerdict INFINITY INFINITY t (accepted (program_in c.in-Accepted.program))) same found)
 
 pub returns-clause-whole : goal.returns-clause-whole
 returns-clause-whole c = λ program query es r v one run.
     let same : c.as_bytes.result.now ≡ queens_text c.args.size = search rules in
     let p = c.in-Accepted.program in
-    let found : IsVerdict INFINITY c.as_bytes.result.now (accepted (program_in p)) =
-    subst (λ (w : Verdict). IsVerdict INFINITY c.as_bytes.result.now (verdict_of w)) c.in-Accepted.is c.in_ok-program.ensures.verdict in
-    let own = subst (λ (t : List ℕ). IsVerdict INFINITY t (accepted (program_in p))) same found in
+    let found : IsVerdict INFINITY INFINITY c.as_bytes.result.now (accepted (program_in p)) =
+    subst (λ (w : Verdict). IsVerdict INFINITY INFINITY c.as_bytes.result.now (verdict_of w)) c.in-Accepted.is c.in_ok-program.ensures.verdict in
+    let own = subst (λ (t : List ℕ). IsVerdict INFINITY INFINITY t (accepted (program_in p))) same found in
     c.count_program.ensures.whole es r
     (run_of_first p program query c.args.options.steps c.args.options.answers es r (verdict_program (queens_text c.args.size) program p v own) one run)
 
@@ -38,7 +38,7 @@ unreachable-requires c =
     let same : c.as_bytes.result.now ≡ queens_text c.args.size = search rules in
     let place = c.in-Refused.place in
     let reason = reason_text c.in-Refused.pool c.in-Refused.reason in
-    let found : IsVerdict INFINITY c.as_bytes.result.now (refused place reason) =
-    subst (λ (w : Verdict). IsVerdict INFINITY c.as_bytes.result.now (verdict_of w)) c.in-Refused.is c.in_ok-program.ensures.verdict in
-    found_refused (queens_text c.args.size) place reason (queens_program c.args.size c.requires.least c.requires.most)
-    (subst (λ (t : List ℕ). IsVerdict INFINITY t (refused place reason)) same found)
+    let found : IsVerdict INFINITY INFINITY c.as_bytes.result.now (refused place reason) =
+    subst (λ (w : Verdict). IsVerdict INFINITY INFINITY c.as_bytes.result.now (verdict_of w)) c.in-Refused.is c.in_ok-program.ensures.verdict in
+    found_refused (queens_text c.args.size) place reason (queens_program INFINITY c.args.size c.requires.least c.requires.most)
+    (subst (λ (t : List ℕ). IsVerdict INFINITY INFINITY t (refused place reason)) same found)
