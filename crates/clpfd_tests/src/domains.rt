@@ -96,8 +96,8 @@ const MEMBERS: &[(i128, i128, i128, bool)] = &[
     (3, 5, 5, true),
     (3, 5, 6, false),
     (5, 4, 4, false),
-    (9, i128::MAX, 16_777_215, true),
-    (i128::MIN, i128::MAX, 16_777_216, false),
+    (9, i128::MAX, 268_435_455, true),
+    (i128::MIN, i128::MAX, 268_435_456, false),
 ];
 
 #[test]
@@ -177,7 +177,7 @@ fn sizes(rt: HostRuntime) -> Result<(), NoMemory> {
     let domain = made(&rt, rt.alloc(), 3, 5, &[Call::Union(9, 9)])?;
     same(&rt, domain.size(), 4, "the size");
     let full = Domain::full(rt.alloc()).size();
-    same(&rt, full, 16_777_216, "the size");
+    same(&rt, full, 268_435_456, "the size");
     Ok(())
 }
 

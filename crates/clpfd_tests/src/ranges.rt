@@ -5,7 +5,7 @@ ghost use Rattle.term_reader.specs.Sentences.{IsSentence};
 
 use crate::same::same;
 use crate::verdicts::told;
-use fd_language::{Feature, RangeNode};
+use fd_language::{Feature, INFINITY, RangeNode};
 use monotone_check::check;
 use range_terms::{RangeFault, SourceRange, features, read_range};
 use std::alloc::{AllocError, Global};
@@ -28,7 +28,7 @@ dom(Y)*(P-1). | accepted
 dom(Y)/P. | accepted
 '..'(1,3). | accepted
 'dom'(Y). | accepted
-16777215..infinity. | accepted
+268435455..infinity. | accepted
 ?- X in 0..3, X in -{2}. | accepted
 ?- X in 1..3: -{2}. | accepted
 ?- Y in 0..3, X in 0..7/<min(Y). | accepted";
@@ -153,7 +153,7 @@ fn range_in(pool: &Pool, t: TermId) -> TermId
 fn said_of(alloc: Global, pool: &Pool, t: TermId) -> Result<String, AllocError>
     requires { t.number < length pool.now.entries }
 {
-    match read_range(alloc, pool, t) {
+    match read_range(alloc, pool, t, INFINITY) {
         Ok(SourceRange { range, places }) => told(alloc, check(alloc, range, &places)),
         Err(RangeFault::NotARange { place }) => format!(in alloc; "not a range {place}"),
         Err(RangeFault::NoMemory) => String::from_str(alloc, "out of memory"),
@@ -203,20 +203,25 @@ fn ranges_are_read_and_checked(rt: HostRuntime) -> Result<(), Fail> {
     Ok(())
 }
 
-/// The range that a text spells.
-fn source(alloc: Global, text: &str) -> Result<SourceRange, Fail> {
+/// The range that a text spells, whose word `infinity` is a number.
+fn source(alloc: Global, text: &str, infinity: u32) -> Result<SourceRange, Fail> {
     match read_sentences(alloc, text) {
-        Ok(sentences) => first_range(alloc, &sentences.pool, &sentences.list),
+        Ok(sentences) => first_range(alloc, &sentences.pool, &sentences.list, infinity),
         Err(_) => Err(Fail::new("no sentence")),
     }
 }
 
 /// The range of the first sentence.
-fn first_range(alloc: Global, pool: &Pool, list: &[Sentence]) -> Result<SourceRange, Fail>
+fn first_range(
+    alloc: Global,
+    pool: &Pool,
+    list: &[Sentence],
+    infinity: u32,
+) -> Result<SourceRange, Fail>
     requires { All (IsSentence pool.now) list.now }
 {
     for sentence in list {
-        return match read_range(alloc, pool, sentence.term) {
+        return match read_range(alloc, pool, sentence.term, infinity) {
             Ok(range) => Ok(range),
             Err(_) => Err(Fail::new("no range")),
         };
@@ -240,7 +245,7 @@ DivDown@23
 Param(4)@28
 DivUp@26
 Sub@9
-Infinity@31
+Int(268435455)@31
 Span@29
 Int(2)@41
 One@40
@@ -269,9 +274,18 @@ fn listed(alloc: Global, nodes: &[RangeNode], places: &[usize]) -> Result<String
 
 #[test]
 fn nodes_have_the_places_of_their_names(rt: HostRuntime) -> Result<(), Fail> {
-    let found = source(rt.alloc(), ALL_NODES)?;
+    let found = source(rt.alloc(), ALL_NODES, INFINITY)?;
     let lines = listed(rt.alloc(), found.range.nodes(), &found.places)?;
     same(&rt, lines.as_str(), NODES, "the nodes");
+    Ok(())
+}
+
+#[test]
+fn infinity_is_the_number_that_is_passed(rt: HostRuntime) -> Result<(), Fail> {
+    let found = source(rt.alloc(), "3..infinity.", 9)?;
+    let lines = listed(rt.alloc(), found.range.nodes(), &found.places)?;
+    let want = "Int(3)@0\nInt(9)@3\nSpan@1\n";
+    same(&rt, lines.as_str(), want, "the nodes");
     Ok(())
 }
 
@@ -289,6 +303,7 @@ fn each_feature_comes_once(rt: HostRuntime) -> Result<(), Fail> {
     let found = source(
         rt.alloc(),
         "max(B)+min(A)..max(A)-min(A):dom(A)&{max(B)+val(B)+P}.",
+        INFINITY,
     )?;
     let found = features(rt.alloc(), &found.range)?;
     same(&rt, found.as_slice(), FEATURES, "the features");
@@ -309,7 +324,7 @@ fn repeated(alloc: Global, part: &str, last: &str) -> Result<String, AllocError>
 fn a_range_may_be_as_deep_as_it_is_long(rt: HostRuntime) -> Result<(), Fail> {
     for (part, last) in [("- ", "dom(X)."), ("1+", "1..9.")] {
         let text = repeated(rt.alloc(), part, last)?;
-        let found = source(rt.alloc(), &text)?;
+        let found = source(rt.alloc(), &text, INFINITY)?;
         assert!(rt; found.places.len() > 100_000);
     }
     Ok(())

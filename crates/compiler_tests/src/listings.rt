@@ -2,6 +2,7 @@
 
 use clause_check::check_program;
 use clause_compiler::compile;
+use fd_language::INFINITY;
 use std::alloc::Global;
 use std::rc::Rc;
 use std::test::Fail;
@@ -13,7 +14,7 @@ fn code_of(alloc: Global, text: &str) -> Result<CodeArea, Fail> {
     let Ok(sentences) = read_sentences(alloc, text) else {
         return Err(Fail::new("no sentences"));
     };
-    let Ok(program) = check_program(alloc, sentences) else {
+    let Ok(program) = check_program(alloc, sentences, INFINITY) else {
         return Err(Fail::new("refused"));
     };
     Ok(compile(alloc, program)?)
@@ -93,6 +94,51 @@ AnswerNow
 (Int(3), 6)
 ";
 
+/// The choices of p/1, its clauses, the query: levels in slots behind those of the variables, two for a test.
+const CUTS: &str = "\
+Try(2)
+Trust(11)
+Allocate(2)
+GetVariable(Y(1), 1)
+Level(2)
+PutValue(Y(1), 1)
+PutInteger(1, 2)
+Builtin(Unify)
+CutTo(2)
+Deallocate
+Proceed
+Allocate(1)
+GetVariable(Y(1), 1)
+PutValue(Y(1), 1)
+PutInteger(2, 2)
+Builtin(Unify)
+Deallocate
+Proceed
+Allocate(4)
+PutVariable(Y(1), 1)
+Level(2)
+Level(3)
+Level(4)
+EnterTest(3, 4, 29)
+PutValue(Y(1), 1)
+Call(0)
+CutTo(3)
+Builtin(True)
+Jump(30)
+Builtin(Fail)
+EnterTest(3, 4, 36)
+PutValue(Y(1), 1)
+PutInteger(2, 2)
+Builtin(Unify)
+CutTo(3)
+Builtin(Fail)
+TestOnly(3)
+Builtin(True)
+CutTo(3)
+Builtin(True)
+AnswerNow
+";
+
 #[test]
 fn listings_of_code(rt: HostRuntime) -> Result<(), Fail> {
     let alloc = rt.alloc();
@@ -100,6 +146,9 @@ fn listings_of_code(rt: HostRuntime) -> Result<(), Fail> {
     assert_eq!(rt; listing(alloc, text)?.as_str(), APPEND);
     let text = "r(3). r(-1). r(2). ?- r(X).";
     assert_eq!(rt; listing(alloc, text)?.as_str(), INTEGERS);
+    let text = "p(X) :- X = 1, !. p(X) :- X = 2. \
+        ?- ( p(X) -> true ; fail ), \\+ X = 2, ( true -> true ).";
+    assert_eq!(rt; listing(alloc, text)?.as_str(), CUTS);
     Ok(())
 }
 

@@ -6,7 +6,7 @@ use crate::same::same;
 use clause_check::{Program, check_program};
 use clause_compiler::compile;
 use code_machine::Machine;
-use fd_language::NoMemory;
+use fd_language::{INFINITY, NoMemory};
 use fd_model::kinds::QueryFault;
 use machine_events::{Limits, MachineEvent};
 use propagate_queue::{Agenda, Cheapest, Fifo};
@@ -23,7 +23,7 @@ fn program_of(alloc: Global, text: &str) -> Result<Program, Fail> {
     let Ok(sentences) = read_sentences(alloc, text) else {
         return Err(Fail::new("no sentences"));
     };
-    match check_program(alloc, sentences) {
+    match check_program(alloc, sentences, INFINITY) {
         Ok(program) => Ok(program),
         Err(_) => Err(Fail::new("refused")),
     }
@@ -72,26 +72,35 @@ fn put_event<E: Events>(alloc: Global, events: &mut E, lines: &mut String) -> Re
     Ok(matches!(event, MachineEvent::End))
 }
 
-/// The next events, and the reductions behind them.
-fn events_of<E: Events>(alloc: Global, events: &mut E, count: usize) -> Result<String, Fail> {
+/// The next events up to the end, then `again` more, and the reductions behind them.
+fn events_of<E: Events>(
+    alloc: Global,
+    events: &mut E,
+    count: usize,
+    again: usize,
+) -> Result<String, Fail> {
     let mut lines = String::new(alloc);
     for _ in 0..count {
         if put_event(alloc, events, &mut lines)? {
             break;
         }
     }
+    for _ in 0..again {
+        let _ = put_event(alloc, events, &mut lines)?;
+    }
     let spent = events.reductions();
     lines.push_str(format!(in alloc; "{spent}")?.as_str())?;
     Ok(lines)
 }
 
-/// The first events of the code's first query, and the reductions behind them.
+/// The first events of the code's first query up to the end, then `again` more, and the reductions behind them.
 fn run_code<A: Agenda + Drop>(
     alloc: Global,
     code: CodeArea,
     limits: Limits,
     agenda: A,
     events: usize,
+    again: usize,
 ) -> Result<String, Fail>
     requires { IsLimit limits.answers }
 {
@@ -99,7 +108,7 @@ fn run_code<A: Agenda + Drop>(
         return Err(Fail::new("no query"));
     }
     let mut machine = Machine::new(alloc, Rc::new(alloc, code)?, 0, limits, agenda)?;
-    events_of(alloc, &mut machine, events)
+    events_of(alloc, &mut machine, events, again)
 }
 
 /// Those of the text's first query.
@@ -113,7 +122,7 @@ fn run<A: Agenda + Drop>(
     requires { IsLimit limits.answers }
 {
     let code = compile(alloc, program_of(alloc, text)?)?;
-    run_code(alloc, code, limits, agenda, events)
+    run_code(alloc, code, limits, agenda, events, 0)
 }
 
 const ROWS: &str = "\
@@ -133,7 +142,19 @@ true | ?- true, true. | answer 0; end; 2
 nrev checked | app([],L,L). app([H|T],L,[H|R]) :- app(T,L,R). rev([],[]). rev([H|T],R) :- rev(T,S), app(S,[H],R). ?- rev([1,2,3,4],[4,3,2,1]). | answer 0; end; 15
 nrev wrong | app([],L,L). app([H|T],L,[H|R]) :- app(T,L,R). rev([],[]). rev([H|T],R) :- rev(T,S), app(S,[H],R). ?- rev([1,2,3,4],[4,2,3,1]). | end; 13
 renamed apart | p(X,Y) :- X = Y. ?- p(A,1), p(B,2), A = 1, B = 2. | answer 2; end; 6
-undone domains | p(X) :- X in 1..3. p(X) :- X in 5..9. ?- X in 0..9, p(X), X in 4..6. | answer 1; end; 6";
+undone domains | p(X) :- X in 1..3. p(X) :- X in 5..9. ?- X in 0..9, p(X), X in 4..6. | answer 1; end; 6
+a cut in a query | p. p. ?- p, !. | answer 0; end; 2
+a clause for good | q(X) :- X in 1..2, !. q(X) :- X in 8..9. ?- X in 0..8, q(X). | answer 1; end; 4
+a cut not come to | q(X) :- X in 1..2, !. q(X) :- X in 8..9. ?- X in 3..8, q(X). | answer 1; end; 4
+a test between choices | ?- X in 0..9, (true ; Y = 2), (X in 0..5 -> true ; true), (X in 0..3 ; X in 2..8). | answer 2; answer 2; answer 2; answer 2; end; 18
+a cut in a test | r(1). r(2). ?- (r(X), ! -> true ; true), r(Y). | answer 2; answer 2; end; 6
+a test that fails behind its cut | ?- (X = 1, !, fail -> Y = a ; Y = b). | answer 2; end; 5
+a negation of what holds | ?- \\+ X = 1. | end; 4
+a negation of what doesn't | ?- \\+ 1 = 2. | answer 0; end; 2
+a test alone | r(1). r(2). ?- (r(X) -> true), r(Y). | answer 2; answer 2; end; 5
+values dropped | ?- X in 0..3, fd_labeling([X]), !. | answer 1; end; 4
+the newer values dropped | ?- X in 0..1, fd_labeling([X]), (Y in 0..3, fd_labeling([Y]) -> true ; true). | answer 2; answer 2; end; 16
+the least cost | ?- X in 0..3, Y in 0..3, X + Y #>= 3, C #= 2*X + 3*Y, fd_minimize(fd_labeling([X,Y,C]), C). | answer 3; end; 5";
 
 /// Refuses a text whose first query runs otherwise with one of the agendas.
 fn gives(
@@ -181,7 +202,13 @@ fn limits_end_a_run(rt: HostRuntime) -> Result<(), Fail> {
     };
     let text = "p(1). p(2). p(3). ?- p(X).";
     let wanted = "answer 1; answer 1; limit; limit; 1";
-    gives(&rt, rt.alloc(), text, limits, 4, wanted)
+    gives(&rt, rt.alloc(), text, limits, 4, wanted)?;
+    let limits = Limits {
+        steps: 3,
+        answers: None,
+    };
+    let text = "?- ( true -> true ; fail ).";
+    gives(&rt, rt.alloc(), text, limits, 2, "budget; budget; 3")
 }
 
 /// A query that switches on a register into which it has just put an integer: no program has such
@@ -220,7 +247,7 @@ fn verified_code_of_no_program(rt: HostRuntime) -> Result<(), Fail> {
     assert_eq!(rt; code.queries(), 1);
     assert_eq!(rt; code.pool().atoms(), 3);
     assert!(rt; code.parts().code.len() > 3 && matches!(code.instr(3), Instr::AnswerNow));
-    let lines = run_code(alloc, code, limits, Fifo::new(alloc), 2)?;
-    same(&rt, lines.as_str(), "answer 0; end; 0", "the code");
+    let lines = run_code(alloc, code, limits, Fifo::new(alloc), 2, 1)?;
+    same(&rt, lines.as_str(), "answer 0; end; end; 0", "the code");
     Ok(())
 }

@@ -8,6 +8,8 @@ mod range_codes;
 #[cfg(test)]
 mod same;
 #[cfg(test)]
+mod searches;
+#[cfg(test)]
 mod stores;
 #[cfg(test)]
 mod trails;

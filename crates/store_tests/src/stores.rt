@@ -34,11 +34,11 @@ const ABOVE: [RangeNode; 5] = [
 /// `{4}`
 const FOUR: [RangeNode; 2] = [RangeNode::Int(4), RangeNode::One];
 
-fn shared_code(alloc: Global, nodes: &[RangeNode]) -> Result<Rc<RangeCode>, Fail> {
+pub(crate) fn shared_code(alloc: Global, nodes: &[RangeNode]) -> Result<Rc<RangeCode>, Fail> {
     Ok(Rc::new(alloc, code_of(alloc, nodes)?)?)
 }
 
-fn instance(
+pub(crate) fn instance(
     alloc: Global,
     code: &Rc<RangeCode>,
     target: usize,
@@ -51,7 +51,7 @@ fn instance(
     })
 }
 
-fn post_one<A: Agenda + Drop>(
+pub(crate) fn post_one<A: Agenda + Drop>(
     alloc: Global,
     store: &mut Store<A>,
     first: Instance,

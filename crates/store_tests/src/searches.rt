@@ -1,0 +1,269 @@
+//! Searches for the least and the greatest cost.
+
+use crate::same::same;
+use crate::stores::{instance, post_one, shared_code};
+use bound_search::{best, may_search};
+use fd_language::RangeNode;
+use fd_model::kinds::Order;
+use label_search::Member;
+use propagate_queue::{Agenda, Cheapest, Fifo, Posted, Store};
+use range_code::{Activations, Arg};
+use std::alloc::Global;
+use std::process::Abort;
+use std::test::Fail;
+
+const X: usize = 0;
+
+const Y: usize = 1;
+
+const C: usize = 2;
+
+/// `0..3`, `0..2`, `0..1`
+const TO_THREE: [RangeNode; 3] = [RangeNode::Int(0), RangeNode::Int(3), RangeNode::Span];
+
+const TO_TWO: [RangeNode; 3] = [RangeNode::Int(0), RangeNode::Int(2), RangeNode::Span];
+
+const TO_ONE: [RangeNode; 3] = [RangeNode::Int(0), RangeNode::Int(1), RangeNode::Span];
+
+/// `2..infinity`
+const FROM_TWO: [RangeNode; 3] = [RangeNode::Int(2), RangeNode::Infinity, RangeNode::Span];
+
+/// `3-max(Y)..infinity`, of `X + Y #>= 3`
+const REST_OF_THREE: [RangeNode; 5] = [
+    RangeNode::Int(3),
+    RangeNode::Max(0),
+    RangeNode::Sub,
+    RangeNode::Infinity,
+    RangeNode::Span,
+];
+
+/// `-{val(Y)}`, of `X #\= Y`
+const OTHER: [RangeNode; 3] = [RangeNode::Val(0), RangeNode::One, RangeNode::Outside];
+
+/// `min(X)+min(Y)..max(X)+max(Y)`, and `min(C)-max(Y)..max(C)-min(Y)`, of `C #= X + Y`
+const SUM: [RangeNode; 7] = [
+    RangeNode::Min(0),
+    RangeNode::Min(1),
+    RangeNode::Add,
+    RangeNode::Max(0),
+    RangeNode::Max(1),
+    RangeNode::Add,
+    RangeNode::Span,
+];
+
+const PART: [RangeNode; 7] = [
+    RangeNode::Min(0),
+    RangeNode::Max(1),
+    RangeNode::Sub,
+    RangeNode::Max(0),
+    RangeNode::Min(1),
+    RangeNode::Sub,
+    RangeNode::Span,
+];
+
+/// `2*min(X)+3*min(Y)..2*max(X)+3*max(Y)`, of `C #= 2*X + 3*Y`
+const WEIGHED_SUM: [RangeNode; 15] = [
+    RangeNode::Int(2),
+    RangeNode::Min(0),
+    RangeNode::Mul,
+    RangeNode::Int(3),
+    RangeNode::Min(1),
+    RangeNode::Mul,
+    RangeNode::Add,
+    RangeNode::Int(2),
+    RangeNode::Max(0),
+    RangeNode::Mul,
+    RangeNode::Int(3),
+    RangeNode::Max(1),
+    RangeNode::Mul,
+    RangeNode::Add,
+    RangeNode::Span,
+];
+
+/// Posts the rows on a store of three variables, and searches it. `None`: the posted ranges leave some variable no value.
+fn finds<A: Agenda + Drop>(
+    rt: &impl Abort,
+    alloc: Global,
+    agenda: A,
+    rows: &[(usize, &[RangeNode], &[Arg])],
+    order: Order,
+    cost: Member,
+    least: bool,
+    want: Option<&[u32]>,
+    at: &str,
+) -> Result<(), Fail> {
+    let mut store = Store::new(alloc, agenda);
+    let mut n = Activations::new();
+    for _ in 0..3 {
+        let _ = store.new_var()?;
+    }
+    for (target, nodes, args) in rows {
+        let code = shared_code(alloc, nodes)?;
+        let range = instance(alloc, &code, *target, args)?;
+        same(
+            rt,
+            post_one(alloc, &mut store, range, &mut n)?,
+            Posted::Kept,
+            at,
+        );
+    }
+    let list = [Member::Var(X), Member::Var(Y), Member::Var(C)];
+    let vars = store.vars();
+    if store.failed() || !may_search(&list, cost, vars) {
+        return Err(Fail::new("no search"));
+    }
+    let found = best(alloc, &mut store, order, &list, cost, least, &mut n)?;
+    match &found {
+        Some(values) => same(rt, Some(values.as_slice()), want, at),
+        None => same(rt, None, want, at),
+    }
+    Ok(())
+}
+
+/// `X + Y #>= 3, C #= 2*X + 3*Y`, both up to 3.
+const WEIGHED: [(usize, &[RangeNode], &[Arg]); 5] = [
+    (X, &TO_THREE, &[]),
+    (Y, &TO_THREE, &[]),
+    (X, &REST_OF_THREE, &[Arg::Var(Y)]),
+    (Y, &REST_OF_THREE, &[Arg::Var(X)]),
+    (C, &WEIGHED_SUM, &[Arg::Var(X), Arg::Var(Y)]),
+];
+
+/// `C #= X + Y, C #>= 2`, both up to 2.
+const SUMS: [(usize, &[RangeNode], &[Arg]); 6] = [
+    (X, &TO_TWO, &[]),
+    (Y, &TO_TWO, &[]),
+    (C, &SUM, &[Arg::Var(X), Arg::Var(Y)]),
+    (X, &PART, &[Arg::Var(C), Arg::Var(Y)]),
+    (Y, &PART, &[Arg::Var(C), Arg::Var(X)]),
+    (C, &FROM_TWO, &[]),
+];
+
+/// `X #\= Y, C #= X + Y`, both up to 2.
+const APART: [(usize, &[RangeNode], &[Arg]); 5] = [
+    (X, &TO_TWO, &[]),
+    (Y, &TO_TWO, &[]),
+    (X, &OTHER, &[Arg::Var(Y)]),
+    (Y, &OTHER, &[Arg::Var(X)]),
+    (C, &SUM, &[Arg::Var(X), Arg::Var(Y)]),
+];
+
+/// Three variables from 0 to 1, no two of which are equal.
+const CROWDED: [(usize, &[RangeNode], &[Arg]); 9] = [
+    (X, &TO_ONE, &[]),
+    (Y, &TO_ONE, &[]),
+    (C, &TO_ONE, &[]),
+    (X, &OTHER, &[Arg::Var(Y)]),
+    (X, &OTHER, &[Arg::Var(C)]),
+    (Y, &OTHER, &[Arg::Var(X)]),
+    (Y, &OTHER, &[Arg::Var(C)]),
+    (C, &OTHER, &[Arg::Var(X)]),
+    (C, &OTHER, &[Arg::Var(Y)]),
+];
+
+/// `C #= X + Y`, X up to 3, Y up to 1, C from 2 to 3: Y has the fewest values.
+const FEWER: [(usize, &[RangeNode], &[Arg]); 7] = [
+    (X, &TO_THREE, &[]),
+    (Y, &TO_ONE, &[]),
+    (C, &SUM, &[Arg::Var(X), Arg::Var(Y)]),
+    (X, &PART, &[Arg::Var(C), Arg::Var(Y)]),
+    (Y, &PART, &[Arg::Var(C), Arg::Var(X)]),
+    (C, &FROM_TWO, &[]),
+    (C, &TO_THREE, &[]),
+];
+
+#[test]
+fn searches(rt: HostRuntime) -> Result<(), Fail> {
+    let alloc = rt.alloc();
+    let c = Member::Var(C);
+    let first = Order::Leftmost;
+    let fewest = Order::FirstFail;
+    finds(
+        &rt,
+        alloc,
+        Fifo::new(alloc),
+        &WEIGHED,
+        first,
+        c,
+        true,
+        Some(&[3, 0, 6]),
+        "least of a weighed sum",
+    )?;
+    finds(
+        &rt,
+        alloc,
+        Fifo::new(alloc),
+        &WEIGHED,
+        first,
+        c,
+        false,
+        Some(&[3, 3, 15]),
+        "greatest of a weighed sum",
+    )?;
+    finds(
+        &rt,
+        alloc,
+        Fifo::new(alloc),
+        &SUMS,
+        first,
+        c,
+        true,
+        Some(&[0, 2, 2]),
+        "first of equal sums",
+    )?;
+    finds(
+        &rt,
+        alloc,
+        Cheapest::new(alloc),
+        &SUMS,
+        first,
+        c,
+        true,
+        Some(&[0, 2, 2]),
+        "first of equal sums",
+    )?;
+    finds(
+        &rt,
+        alloc,
+        Fifo::new(alloc),
+        &APART,
+        first,
+        c,
+        false,
+        Some(&[1, 2, 3]),
+        "first of the greatest",
+    )?;
+    finds(
+        &rt,
+        alloc,
+        Fifo::new(alloc),
+        &CROWDED,
+        first,
+        c,
+        true,
+        None,
+        "no leaf",
+    )?;
+    finds(
+        &rt,
+        alloc,
+        Fifo::new(alloc),
+        &FEWER,
+        first,
+        Member::Fixed(-7),
+        true,
+        Some(&[1, 1, 2]),
+        "first leaf",
+    )?;
+    finds(
+        &rt,
+        alloc,
+        Fifo::new(alloc),
+        &FEWER,
+        fewest,
+        Member::Fixed(-7),
+        true,
+        Some(&[2, 0, 2]),
+        "first leaf by first-fail",
+    )
+}
