@@ -8,7 +8,7 @@ use Rattle.std.specs.Cmp.{both_ways}
 use Rattle.std.proofs.Math.Nat.{suc-mul}
 use Rattle.fd_language.specs.Family.{has, universe, IsRising}
 use Rattle.fd_language.specs.Range.{some_number, is_none_left, least}
-use Rattle.fd_language.proofs.Lemmas.{rising_same, has-filter, has-filter_back, universe_rising, in_universe, has_high, rising-filter, not_empty, any_to, any_from}
+use Rattle.fd_language.proofs.Lemmas.{rising_same, has-filter, has-filter_back, universe_rising, in_universe, has_high, rising-filter, not_empty, any_to, any_from, some_from}
 use Rattle.domain_ranges.specs.Spans.{Span, within, IsSpans, members, shifted, scaled}
 use Rattle.domain_ranges.specs.Sets.{is_shifted, is_scaled, is_quotient}
 use Rattle.domain_ranges.proofs.Spans.{within_high, in_head, in_later, head_or_later}
@@ -37,9 +37,6 @@ set_same M p q h = set_is M q (filter p (universe M)) (set_rising M p) (λ n l. 
 
 pub some_has : (M : ℕ) (f : ℕ → Bool) (e : ℕ) → e ≤ M → f e ≡ true → some_number M f ≡ true
 some_has M f e h g = any_to f (universe M) e (in_universe M e h) g
-
-pub some_from : (M : ℕ) (f : ℕ → Bool) → some_number M f ≡ true → (e : ℕ) × (e ≤ M) × (f e ≡ true)
-some_from M f h = let a = any_from f (universe M) h in (a.0, has_high 0 M (universe M) a.0 (universe_rising M) a.1, a.2)
 
 pub int_same : (x y : ℤ) → x ≡ y → int_eq x y ≡ true
 int_same x y e = (Decides-int_eq x y).1 e

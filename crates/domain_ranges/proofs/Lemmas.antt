@@ -5,7 +5,7 @@ pub use Rattle.domain_ranges.proofs.Ends.{own_ends}
 -- A set without a number.
 pub use Rattle.domain_ranges.proofs.Excluding.{fewer_left, keeps_all, wider}
 -- What the loops make, as the sets that it is.
-pub use Rattle.domain_ranges.proofs.Images.{has_set, set_is, set_rising, set_same, some_from, some_has, int_same, same_int, pos_same, times_zero}
+pub use Rattle.domain_ranges.proofs.Images.{has_set, set_is, set_rising, set_same, some_has, int_same, same_int, pos_same, times_zero}
 -- Whether the numbers of a list of intervals are all in another one.
 pub use Rattle.domain_ranges.proofs.Inside.{loses}
 -- A member of a set, and the others.

@@ -1,7 +1,7 @@
 -- The loop of the union of two lists of intervals.
 use Rattle.std.proofs.Common.{◌≡◌, ℕ, ◌+◌, ◌<◌, ◌≤◌, Bool, true, false, ◌||◌, ◌&&◌, leb, List, [], ◌∷◌, refl, ap, sym, ◌∙◌, subst, inl, inr, arith, length, get_or, drop, drop_of_length-le}
 use Rattle.std.proofs.lemmas.Bool.{true≢false, or_cases, cases_lt}
-use Rattle.std.proofs.Math.Bool.{or_comm}
+use Rattle.std.proofs.Math.Bool.{or_comm, or_assoc}
 use Rattle.std.proofs.lemmas.List.{drop_more}
 use Rattle.domain_ranges.specs.Spans.{Span, within, IsSpans}
 use Rattle.domain_ranges.proofs.Spans.{within_low}
@@ -11,9 +11,6 @@ use Rattle.domain_ranges.proofs.Joining.{IsFirst}
 -- the numbers to come
 abbrev pub in_either : List Span → List Span → ℕ → Bool
 in_either xs ys n = within xs n || within ys n
-
-or_assoc : (a b c : Bool) → ((a || b) || c) ≡ (a || (b || c))
-or_assoc a b c = grind arith
 
 later_low : (M low n : ℕ) (x : Span) (ys : List Span) → IsSpans low M ys → ((y : Span) (zs : List Span) → ys ≡ y ∷ zs → x.0 ≤ y.0) → within ys n ≡ true → x.0 ≤ n
 later_low M low n x [] r f h = absurd (true≢false (sym h))

@@ -1,7 +1,7 @@
 -- The lemmas that other crates may cite, by their subjects. All else in proofs/ is this crate's own.
 
 -- Sets of numbers as lists, and the greatest family that passes a test.
-pub use Rattle.fd_language.proofs.Sets.{eq_sym, has_kept, has-filter, has-filter_back, has_once, has_low, has_high, rising_same, universe_rising, in_count_up, in_universe, rising_inside, has_either, in_left, in_right, alone_in, in_flat, first_member, only_member, map_has, has_map, any_from, any_to, later_in}
+pub use Rattle.fd_language.proofs.Sets.{eq_sym, has_kept, has-filter, has-filter_back, has_once, has_low, has_high, rising_same, universe_rising, in_count_up, in_universe, rising_inside, has_either, in_left, in_right, alone_in, in_flat, first_member, only_member, map_has, has_map, any_from, some_from, any_to, later_in}
 pub use Rattle.fd_language.proofs.Monotone.{least_low, least_in, greatest_in, greatest_high, not_empty}
 pub use Rattle.fd_language.proofs.GreatestFamily.{IsGreatest, greatest_there, rising-filter, shorter_or_same, rising_later}
 -- What holds of each element of a list, and of an option.

@@ -4,6 +4,7 @@ use Rattle.std.specs.Prelude.{flat_map}
 use Rattle.std.specs.List.{list_any}
 use Rattle.std.proofs.lemmas.Bool.{or_cases, or_left, or_right, and_from, and_parts, cases_Bool, true≢false}
 use Rattle.fd_language.specs.Family.{has, IsSubset, IsRising, count_up, universe}
+use Rattle.fd_language.specs.Range.{some_number}
 use Rattle.fd_language.specs.Needs.{once}
 
 -- an equality may be turned round
@@ -131,6 +132,10 @@ has_map f (x ∷ xs) y h = elim (or_cases (x == y) (has xs y) h) [
 pub any_from : (f : ℕ → Bool) (xs : List ℕ) → list_any f xs ≡ true → (e : ℕ) × (has xs e ≡ true) × (f e ≡ true)
 any_from f [] h = absurd (true≢false (sym h))
 any_from f (x ∷ xs) h = elim (or_cases (f x) (list_any f xs) h) [ inl k ↦ (x, or_left _ _ (eq-eqb x x refl), k) | inr k ↦ let r = any_from f xs k in (r.0, or_right _ _ r.1, r.2) ]
+
+-- a number up to the greatest that passes a test
+pub some_from : (M : ℕ) (f : ℕ → Bool) → some_number M f ≡ true → (e : ℕ) × (e ≤ M) × (f e ≡ true)
+some_from M f h = let a = any_from f (universe M) h in (a.0, has_high 0 M (universe M) a.0 (universe_rising M) a.1, a.2)
 
 pub any_to : (f : ℕ → Bool) (xs : List ℕ) (e : ℕ) → has xs e ≡ true → f e ≡ true → list_any f xs ≡ true
 any_to f [] e h k = absurd (true≢false (sym h))

@@ -204,9 +204,6 @@ abbrev pub reads : Range → List ℕ
 reads r = from_range read_at r
 
 -- those that it names by val
-abbrev pub expr_vals : Expr → List ℕ
-expr_vals t = from_expr val_at t
-
 abbrev pub vals : Range → List ℕ
 vals r = from_range val_at r
 

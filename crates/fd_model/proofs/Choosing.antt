@@ -10,7 +10,7 @@ use Rattle.fd_language.specs.Term.{Term, no_terms, term}
 use Rattle.fd_language.specs.Variables.{TermBelow}
 use Rattle.fd_model.specs.declared.kinds.ConstraintKind.TheVariants.{Element}
 use Rattle.fd_language.specs.Range.{Range, One, Dom, Union, Inter, Outside, Times, Number, in_range, some_number}
-use Rattle.fd_language.proofs.Lemmas.{has_high, universe_rising, in_universe, any_from, any_to}
+use Rattle.fd_language.proofs.Lemmas.{has_high, universe_rising, in_universe, any_from, any_to, some_from}
 use Rattle.fd_model.specs.LinearRows.{Expansion}
 use Rattle.fd_model.specs.Members.{Member, as_member, as_integer, walk, place_of, after}
 use Rattle.fd_model.specs.Linear.{of_both}
@@ -22,10 +22,6 @@ use Rattle.fd_model.proofs.Collecting.{both_ok}
 use Rattle.fd_model.proofs.Singles.{up_to, set_singles, Inside}
 use Rattle.fd_model.proofs.Placing.{member_read, integers_read, MembersBelow, known_numbers, placed_worths, filled, filled_below, filled_small, filled_equated}
 use Rattle.fd_model.proofs.Differing.{placed_one}
-
--- some number of a list passes
-pub some_from : (M : ℕ) (f : ℕ → Bool) → some_number M f ≡ true → (e : ℕ) × (e ≤ M) × (f e ≡ true)
-some_from M f h = let r = any_from f (universe M) h in (r.0, has_high 0 M (universe M) r.0 (universe_rising M) r.1, r.2)
 
 pub some_to : (M : ℕ) (f : ℕ → Bool) (e : ℕ) → e ≤ M → f e ≡ true → some_number M f ≡ true
 some_to M f e h k = any_to f (universe M) e (in_universe M e h) k

@@ -1,7 +1,7 @@
 -- The lemmas that other crates may cite, by their subjects. All else in proofs/ is this crate's own.
 -- What is ahead of branches of which some may not be consistent, goal by goal.
 pub use Rattle.machine_relation.proofs.Ahead.{ahead_any, ahead_drop, ahead_fault, ahead_fewer, ahead_last, ahead_taken, ahead_none, ahead_sought, ahead_spent, last_behind}
--- New cells for new variables, and a clause's instance on them.
+-- New cells for new variables.
 pub use Rattle.machine_relation.proofs.Cells.{place_above, place_from}
 -- Variables that are forgotten: other equations that say the same of those that stay.
 pub use Rattle.machine_relation.proofs.Forgetting.{same_model, stored_forget, stored_more}
@@ -20,7 +20,7 @@ pub use Rattle.machine_relation.proofs.Labels.{row_by}
 pub use Rattle.machine_relation.proofs.Listing.{label_in}
 -- Models under fewer equations, and under the integers that they give.
 pub use Rattle.machine_relation.proofs.Models.{front, ungrown}
--- From the machine's steps to its events, and what falls with each step.
+-- What is still to come behind an event.
 pub use Rattle.machine_relation.proofs.Next.{behind_other}
 -- Linked cells that take integers, as one unification.
 pub use Rattle.machine_relation.proofs.Numbering.{AreConsecutive, bindings, each_found, number_touches, numbered, without, same_var, int_no_var}
@@ -40,10 +40,10 @@ pub use Rattle.machine_relation.proofs.Renaming.{of_all, of_below, range_twice}
 pub use Rattle.machine_relation.proofs.Scoping.{seen_by_variable, seen_of, variables_on}
 -- Each linked cell whose set has one value is bound to it, and then the store is at rest.
 pub use Rattle.machine_relation.proofs.SingleValues.{fixed_rest}
--- A new machine stands for the run of its query.
+-- What a new heap and a new store stand for.
 pub use Rattle.machine_relation.proofs.Starting.{first_model, nothing_stored}
--- The steps of any machine over what is still to come: from a goal, from an answer, and back to a choice point.
-pub use Rattle.machine_relation.proofs.Steps.{Back, Live, GivesAll, KeepsAll, Speaks, live_one, live_none, live_choice, live_two, live_cut, live_sought, live_fault, back_empty, back_gone, back_last, back_next, behind_level, either_gives, if_gives, negation_gives, old_level, test_level}
+-- What a goal gives in a branch, what it says and keeps, and the level of a test's cut.
+pub use Rattle.machine_relation.proofs.Steps.{GivesAll, KeepsAll, Speaks, test_level}
 -- Choice points and the branches for which they stand, level by level.
 pub use Rattle.machine_relation.proofs.Levels.{IsBelow, level_above, level_stays, level_top, oldest_all, oldest_fewer, wait_below, wait_length, wait_top}
 -- What follows for a heap and a store that stand for a branch.
@@ -55,5 +55,5 @@ pub use Rattle.machine_relation.proofs.Touching.{as_equations, as_posts, set_ter
 pub use Rattle.machine_relation.proofs.Views.{view_kind}
 -- A fit branch without a model is not consistent.
 pub use Rattle.machine_relation.proofs.Walking.{gone_by}
--- A constraint by the heap's terms and the store's links.
+-- A constraint's row under other names of its variables.
 pub use Rattle.machine_relation.proofs.Constraints.{was_row}

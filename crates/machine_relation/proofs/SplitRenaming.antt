@@ -16,7 +16,7 @@ use Rattle.fd_language.specs.Family.{has}
 use Rattle.fd_language.specs.Variables.{variables_of, variables_of_all}
 use Rattle.fd_language.specs.Range.{Indexical}
 use Rattle.fd_language.specs.RangeRenaming.{rename_indexical}
-use Rattle.fd_model.specs.Linear.{Linear, Comparison, IsEqual, IsOther, IsAtMost, comparison, scaled, turned, nonzero, with_product, in_integers, of_one, of_both, collect, normal, normal_form}
+use Rattle.fd_model.specs.Linear.{Linear, Comparison, IsEqual, IsOther, IsAtMost, scaled, turned, nonzero, with_product, in_integers, of_one, of_both, collect, normal, normal_form}
 use Rattle.fd_model.specs.LinearRows.{Expansion, rows_behind}
 use Rattle.fd_model.specs.Members.{Member, Open, Known, as_member, place_of, after, equated_from, fresh_after}
 use Rattle.fd_model.specs.ProductRows.{Product, factors, with_result, product_form, product_ranges}

@@ -4,7 +4,6 @@ use Rattle.fd_language.specs.Term.{Substitution}
 use Rattle.fd_language.specs.Family.{Family}
 use Rattle.fd_model.specs.Goal.{Goal, Program, Query, Branch, Event}
 use Rattle.fd_model.specs.Closed.{AllPosted}
-use Rattle.fd_model.specs.Seen.{IsConsistent}
 use Rattle.fd_language.specs.Monotonicity.{IsMonotone}
 use Rattle.fd_model.specs.Sound.{AreRunnable}
 use Rattle.fd_model.specs.Children.{Kept, Offer, offer, look_in, sets_in}
@@ -50,17 +49,7 @@ at_top (n ∷ ns) = n
 abbrev pub oldest : {X : Type 0} → ℕ → List X → List X
 oldest l xs = drop (length xs - l) xs
 
--- A machine at work on a consistent branch stands for these events and reductions. Here says that its heap, store and goals stand for a branch, where the choice points have such marks: a cut to a level of the machine is one that keeps so many branches as there are at that level.
-pub record IsLive (M N : ℕ) (prog : Program) (q : Query) (C : Type 0) (Waits : List ℕ → C → List Branch → Type 0) (Here : List ℕ → Branch → Type 0) (cs : List C) (n : ℕ) (k : Option ℕ) (es : List Event) (r : ℕ) : Type 0 where
-  pub branch : Branch
-  pub others : List Branch
-  pub marks : List ℕ
-  pub here : Here marks branch
-  pub consistent : IsConsistent M N branch.equations branch.posted
-  pub wait : AllWait M N C Waits cs others marks
-  pub ahead : Ahead M N prog q n k (branch ∷ others) es r
-
--- and one that goes back to its newest choice point
+-- A machine that goes back to its newest choice point stands for these events and reductions.
 pub record IsBack (M N : ℕ) (prog : Program) (q : Query) (C : Type 0) (Waits : List ℕ → C → List Branch → Type 0) (cs : List C) (n : ℕ) (k : Option ℕ) (es : List Event) (r : ℕ) : Type 0 where
   pub others : List Branch
   pub marks : List ℕ

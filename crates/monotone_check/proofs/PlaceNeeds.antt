@@ -1,5 +1,6 @@
 -- What is told of the places of parameters as they are added, raised and made divisors.
 use Rattle.std.proofs.Common.{◌≡◌, ℕ, zero, suc, ◌+◌, ◌-◌, ◌<◌, ◌≤◌, Bool, true, false, cond, not, ◌||◌, nat_lt, min, List, [], ◌∷◌, ◌++◌, length, get_or, refl, sym, ◌∙◌, ap, arith}
+use Rattle.std.proofs.Math.Bool.{or_assoc}
 use Rattle.std.specs.Prelude.{slice_set}
 use Rattle.std.proofs.lemmas.Bool.{true≢false}
 use Rattle.fd_language.specs.declared.range_node.Need.{Need}
@@ -26,13 +27,9 @@ raise_twice Divisor = refl
 last_reaches : (i a f : ℕ) → (not (nat_lt i (min a f)) || false) ≡ ((not (nat_lt i a) || false) || not (nat_lt i f))
 last_reaches i a f = grind arith
 
-or_assoc : (a b c : Bool) → (a || (b || c)) ≡ ((a || b) || c)
-or_assoc true b c = refl
-or_assoc false b c = refl
-
 lowered_reaches : (i f : ℕ) (e : Asked) (es : List Asked) → reaches i (lowered f (e ∷ es)) ≡ (reaches i (e ∷ es) || not (nat_lt i f))
 lowered_reaches i f e [] = last_reaches i e.floor f
-lowered_reaches i f e (d ∷ es) = ap (λ b. not (nat_lt i e.floor) || b) (lowered_reaches i f d es) ∙ or_assoc (not (nat_lt i e.floor)) (reaches i (d ∷ es)) (not (nat_lt i f))
+lowered_reaches i f e (d ∷ es) = ap (λ b. not (nat_lt i e.floor) || b) (lowered_reaches i f d es) ∙ sym (or_assoc (not (nat_lt i e.floor)) (reaches i (d ∷ es)) (not (nat_lt i f)))
 
 either_raise : (r l : Bool) (n : Need) → cond (r || not l) (raise n) n ≡ cond l (cond r (raise n) n) (raise (cond r (raise n) n))
 either_raise true true n = refl

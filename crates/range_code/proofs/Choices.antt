@@ -1,5 +1,6 @@
 -- How the nodes of a range are read as a choice, and how numbers are chosen.
 use Rattle.std.proofs.Common.{◌≡◌, ℕ, ◌*◌, ◌≤◌, length, Bool, true, false, ◌&&◌, ◌||◌, ◌==◌, eqb-true, eq-eqb, ℤ, pos, ◌+ℤ◌, ◌*ℤ◌, List, [], ◌∷◌, ◌++◌, filter, sym, ◌∙◌, ap, subst, arith}
+use Rattle.fd_language.proofs.Lemmas.{some_from}
 use Rattle.std.specs.List.{All}
 use Rattle.std.specs.List.Sorted.{IsPermutation}
 use Rattle.std.specs.Ordering.{int_eq}
@@ -18,7 +19,7 @@ use Rattle.fd_language.specs.declared.range_node.RangeNode.TheVariants as node
 use Rattle.fd_language.specs.Family.{Family, has, universe}
 use Rattle.fd_language.specs.Range.{Range, Union, some_number}
 use Rattle.fd_language.specs.Flat.{nodes_of, range_nodes, built, builds_range}
-use Rattle.domain_ranges.proofs.Lemmas.{set_same, some_has, some_from, int_same, same_int, pos_same, times_zero}
+use Rattle.domain_ranges.proofs.Lemmas.{set_same, some_has, int_same, same_int, pos_same, times_zero}
 use Rattle.range_code.specs.declared.frame.Arg.{Arg}
 use Rattle.range_code.specs.declared.choice.Choice.{Choice}
 use Rattle.range_code.specs.declared.choice.Part.{Part}
