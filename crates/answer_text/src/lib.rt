@@ -28,7 +28,7 @@ use term_pool::{AtomId, Pool};
 
 /// The line that refused words have.
 pub const USAGE: &[u8] =
-    b"usage: clpfd [--steps N] [--answers K] [--agenda fifo|cheapest] [--gen N]\n";
+    b"usage: clpfd [--steps N] [--answers K] [--agenda fifo|cheapest] [--infinity M] [--gen N]\n";
 
 /// The line of a refusal: its place in bytes of the text, and its reason. Names in the reason are atoms of the pool.
 pub fn refusal_text(

@@ -19,8 +19,9 @@ use Rattle.clap.specs.Walk.{Held, Step, Walk, after_step, at_row, default_rows, 
 use Rattle.clap.specs.Words.{Row, Rule, Text, built, first_of, matches_of, takes}
 use Rattle.clap.specs.declared.builder.value_parser.ValueParser.TheVariants as vp
 use Rattle.clap.specs.declared.parser.matches.ValueSource.TheVariants.{CommandLine}
+use Rattle.fd_language.specs.declared.TheConstants.{INFINITY}
 use Rattle.fd_model.specs.Output.{default_options}
-use Rattle.command_words.specs.Words.{agenda_in, command_app, found_value, has_form, is_choice, limit_in, options_by, options_of, size_in, value_behind}
+use Rattle.command_words.specs.Words.{agenda_in, command_app, found_value, has_form, infinity_in, is_choice, limit_in, options_by, options_of, size_in, value_behind}
 
 abbrev top : Shape
 top = (built command_app).top
@@ -95,6 +96,18 @@ agenda_read = record {
   keeps = λ rows v. refl;
 }
 
+infinity_read : IsRead (codes "infinity")
+unfolding clap_on_literals
+infinity_read = record {
+  named = λ h. refl;
+  valued = λ h x xs e. ap (λ (p : Held × Step). after_step top.rules (x ∷ xs) (waiting_for h (codes "infinity")) p.0 p.1)
+      (value_met top.rules (codes "infinity") 1 (waiting_for h (codes "infinity")).held x xs e);
+  name_passes = λ h. refl;
+  value_passes = λ h x xs e. rw (not_dashes x xs e, not_long x xs e, not_short x xs e) refl;
+  settles = λ rows v skip e. rw e refl;
+  keeps = λ rows v. refl;
+}
+
 gen_read : IsRead (codes "gen")
 unfolding clap_on_literals
 gen_read = record {
@@ -144,7 +157,8 @@ choice n v e =
     one_choice (codes "steps") steps_read (λ t. is_some (limit_in t)) refl (λ rest. refl) n v _
     (λ e2. one_choice (codes "answers") answers_read (λ t. is_some (limit_in t)) refl (λ rest. refl) n v _
     (λ e3. one_choice (codes "agenda") agenda_read (λ t. is_some (agenda_in t)) refl (λ rest. refl) n v _
-    (λ e4. one_choice (codes "gen") gen_read (λ t. is_some (size_in t)) refl (λ rest. refl) n v false (λ e5. absurd (true≢false (sym e5))) e4) e3) e2) e
+    (λ e4. one_choice (codes "infinity") infinity_read (λ t. is_some (infinity_in t)) refl (λ rest. refl) n v _
+    (λ e5. one_choice (codes "gen") gen_read (λ t. is_some (size_in t)) refl (λ rest. refl) n v false (λ e6. absurd (true≢false (sym e6))) e5) e4) e3) e2) e
 
 -- ---- rows
 
@@ -322,7 +336,7 @@ value_as_written words form id = ap (first_of id) (matches_are words form) ∙ f
 
 -- options are the same by the same values
 pub options_same : (f g : Text → Option Text) → ((id : Text) → f id ≡ g id) → options_by f ≡ options_by g
-options_same f g same = rw (same (codes "steps"), same (codes "answers"), same (codes "gen")) refl
+options_same f g same = rw (same (codes "steps"), same (codes "answers"), same (codes "infinity"), same (codes "gen")) refl
 
 -- words of the form ask for what is written in them, whatever clap is
 pub asked_as_written : (words : List Text) → options_of words ≡ cond (has_form words) (Some (options_by (λ id. value_behind (45 ∷ 45 ∷ id) words))) None
@@ -339,9 +353,9 @@ pub accepts : (words : List Text) → has_form words ≡ true → options_of wor
 accepts words form = rw (form, form_is_taken words form) refl
 
 -- no words ask for what is usual
-pub none_asked : options_of [] ≡ Some default_options
+pub none_asked : options_of [] ≡ Some (default_options INFINITY)
 none_asked = asked_as_written []
 
-pub accepts_none : {S : Type 0} (text : S → Text) (words : List S) → true ≡ (length words == 0) → options_of (map text words) ≡ Some default_options
+pub accepts_none : {S : Type 0} (text : S → Text) (words : List S) → true ≡ (length words == 0) → options_of (map text words) ≡ Some (default_options INFINITY)
 accepts_none text [] none = none_asked
 accepts_none text (w ∷ ws) none = let more : 0 < length (w ∷ ws) = omega arith in absurd (omega (arith, eqb-true (length (w ∷ ws)) 0 (sym none)))

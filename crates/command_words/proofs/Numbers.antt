@@ -1,6 +1,6 @@
 -- The numbers that words mean: std's `parse` reads them, and they lie in their ranges.
 use Rattle.std.proofs.Common.{◌≡◌, ◌∙◌, ◌&&◌, ◌≤◌, ◌<◌, ◌^◌, ℕ, Bool, cond, not, refl, sym, ap, subst, true, false, arith, codes, List, [], ◌∷◌, length, get_or, Option, Some, None, Result, Ok, Err}
-use Rattle.std.specs.Prelude.{◌==◌, IfSome, nat_le, option_and_then}
+use Rattle.std.specs.Prelude.{◌==◌, IfSome, nat_le, option_and_then, unwrap_or}
 use Rattle.std.specs.Bool.{then_some}
 use Rattle.std.specs.Result.{OkIff, result_ok}
 use Rattle.std.specs.Str.{all_ascii_digits}
@@ -8,6 +8,7 @@ use Rattle.std.specs.Str.Parse.{ParsesUnsigned, digits_value}
 use Rattle.std.proofs.lemmas.Bool.{eqb-true, leb-true}
 use Rattle.std.proofs.lemmas.Str.Parse.{IsNumeralModel, numerals_by_value, parse_plain, tells_all_ascii_digits}
 use Rattle.clap.proofs.WalkLemmas.{both}
+use Rattle.fd_language.specs.declared.TheConstants.{INFINITY}
 use Rattle.fd_model.specs.Output.{Options}
 use Rattle.clap.specs.Words.{Text}
 use Rattle.command_words.specs.Words.{number_in, options_by}
@@ -92,3 +93,12 @@ generate_within o given is = subst (λ m. IfSome m (λ n. (4 ≤ n) × (n ≤ 12
 pub answers_within : (o : Options) (given : Text → Option Text) → o ≡ options_by given → IfSome o.answers (λ n. (1 ≤ n) × (n ≤ 1000000000000))
 answers_within o given is = subst (λ m. IfSome m (λ n. (1 ≤ n) × (n ≤ 1000000000000))) (sym (ap (λ (p : Options). p.answers) is))
     (given_within 1 1000000000000 (given (codes "answers")))
+
+either_within : (low high usual : ℕ) → low ≤ usual → usual ≤ high → (o : Option ℕ) → IfSome o (λ n. (low ≤ n) × (n ≤ high)) → (low ≤ unwrap_or o usual) × (unwrap_or o usual ≤ high)
+either_within low high usual least most None h = (least, most)
+either_within low high usual least most (Some n) h = h
+
+-- so does the greatest number that a variable may have
+pub infinity_within : (o : Options) (given : Text → Option Text) → o ≡ options_by given → (1 ≤ o.infinity) × (o.infinity ≤ INFINITY)
+infinity_within o given is = subst (λ (n : ℕ). (1 ≤ n) × (n ≤ INFINITY)) (sym (ap (λ (p : Options). p.infinity) is))
+    (either_within 1 INFINITY INFINITY (omega arith) (omega arith) _ (given_within 1 INFINITY (given (codes "infinity"))))

@@ -8,6 +8,7 @@ use Rattle.clap.specs.Words.{App, Rule, Text, first_of, matches_of, new_app, new
 use Rattle.clap.specs.Words.{with_rule}
 use Rattle.clap.specs.Simple.{on_top}
 use Rattle.clap.specs.declared.builder.action.ArgAction.TheVariants.{Set}
+use Rattle.fd_language.specs.declared.TheConstants.{INFINITY}
 use Rattle.fd_model.specs.Output.{Options}
 use Rattle.command_words.specs.declared.Options as out
 use Rattle.command_words.specs.declared.AgendaName.{AgendaName}
@@ -23,9 +24,12 @@ number_in low high (d ∷ ds) =
     && (nat_le low (digits_value 10 (d ∷ ds)) && nat_le (digits_value 10 (d ∷ ds)) high))
     then Some (digits_value 10 (d ∷ ds)) else None
 
--- the numbers of reductions and of answers that may be asked for, and the sizes of generated texts
+-- the numbers of reductions and of answers that may be asked for, the greatest numbers that a variable may have, and the sizes of generated texts
 abbrev pub limit_in : Text → Option ℕ
 limit_in = number_in 1 1000000000000
+
+abbrev pub infinity_in : Text → Option ℕ
+infinity_in = number_in 1 INFINITY
 
 abbrev pub size_in : Text → Option ℕ
 size_in = number_in 4 12
@@ -41,7 +45,8 @@ is_choice name value =
     if bytes_eq name (codes "--steps") then is_some (limit_in value)
     else (if bytes_eq name (codes "--answers") then is_some (limit_in value)
     else (if bytes_eq name (codes "--agenda") then is_some (agenda_in value)
-    else (if bytes_eq name (codes "--gen") then is_some (size_in value) else false)))
+    else (if bytes_eq name (codes "--infinity") then is_some (infinity_in value)
+    else (if bytes_eq name (codes "--gen") then is_some (size_in value) else false))))
 
 -- in words that stand in pairs, the value behind the first such name
 abbrev pub value_behind : Text → List Text → Option Text
@@ -71,8 +76,8 @@ bare_app = on_top (λ s. record s {
 }) (new_app (codes "clpfd"))
 
 abbrev pub command_app : App
-command_app = with_rule (with_rule (with_rule (with_rule bare_app (option_rule (codes "steps")))
-    (option_rule (codes "answers"))) (option_rule (codes "agenda"))) (option_rule (codes "gen"))
+command_app = with_rule (with_rule (with_rule (with_rule (with_rule bare_app (option_rule (codes "steps")))
+    (option_rule (codes "answers"))) (option_rule (codes "agenda"))) (option_rule (codes "infinity"))) (option_rule (codes "gen"))
 
 -- ---- what is asked for
 
@@ -81,6 +86,7 @@ abbrev pub options_by : (Text → Option Text) → Options
 options_by given = record {
   steps = unwrap_or (option_and_then limit_in (given (codes "steps"))) 1000000;
   answers = option_and_then limit_in (given (codes "answers"));
+  infinity = unwrap_or (option_and_then infinity_in (given (codes "infinity"))) INFINITY;
   generate = option_and_then size_in (given (codes "gen"));
 }
 
@@ -101,4 +107,4 @@ agenda_of words = agenda_by (found_value words)
 
 -- what is read, but for the agenda, which plays no part in an output
 abbrev pub asked : out.Options → Options
-asked o = record { steps = o.steps; answers = o.answers; generate = o.generate }
+asked o = record { steps = o.steps; answers = o.answers; infinity = o.infinity; generate = o.generate }

@@ -4,6 +4,7 @@ ghost use Rattle.std.specs.Prelude.{◌≡◌, is_some, map, string_bytes};
 ghost use Rattle.command_words.specs.Words as form;
 
 use crate::AgendaName;
+use fd_language::INFINITY;
 
 /// The number that decimal digits without a sign and without a leading zero write, where it lies in the range.
 pub(crate) fn number(text: &str, low: u64, high: u64) -> Option<u64>
@@ -21,6 +22,13 @@ pub(crate) fn limit(text: &str) -> Option<u64>
     ensures { result ≡ form.limit_in text.now }
 {
     number(text, 1, 1_000_000_000_000)
+}
+
+/// The greatest number that a variable may have.
+pub(crate) fn infinity(text: &str) -> Option<u32>
+    ensures { result ≡ form.infinity_in text.now }
+{
+    u32::try_from(number(text, 1, u64::from(INFINITY))?).ok()
 }
 
 /// The size of a generated text.
@@ -48,6 +56,7 @@ fn is_choice(name: &str, value: &str) -> bool
     match name {
         "--steps" | "--answers" => limit(value).is_some(),
         "--agenda" => agenda(value).is_some(),
+        "--infinity" => infinity(value).is_some(),
         "--gen" => size(value).is_some(),
         _ => false,
     }

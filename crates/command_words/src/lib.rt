@@ -3,15 +3,17 @@
 
 ghost use Rattle.std.specs.Prelude.{◌≡◌, ◌≤◌, Some, None, false, IfOk, IfSome, IfErr, map, string_bytes};
 ghost use Rattle.command_words.specs.Words.{agenda_by, agenda_of, asked, command_app, option_rule, options_by, options_of};
+ghost use Rattle.fd_language.specs.declared.TheConstants.{INFINITY as TOP};
 ghost use Rattle.clap.specs.Words.{app_of, first_value, found_of, kind_of, rule_of};
 ghost use Rattle.clap.specs.declared.error.kind.ErrorKind.TheVariants as kind;
 ghost use Rattle.command_words.specs.declared.WordsFault.TheVariants as fault;
 
 mod form;
 
-use crate::form::{agenda, has_form, limit, size};
+use crate::form::{agenda, has_form, infinity, limit, size};
 use clap::error::ErrorKind;
 use clap::{Arg, ArgAction, ArgMatches, Command, Error};
+use fd_language::INFINITY;
 use std::alloc::{AllocError, Global};
 
 /// What the words ask for.
@@ -23,6 +25,8 @@ pub struct Options {
     pub answers: Option<u64>,
     /// The order in which posted ranges are activated.
     pub agenda: AgendaName,
+    /// The greatest number that a variable may have.
+    pub infinity: u32,
     /// The size of the text that is made in place of the one that is read.
     pub generate: Option<u32>,
 }
@@ -71,6 +75,7 @@ const USUAL: Options = Options {
     steps: 1_000_000,
     answers: None,
     agenda: AgendaName::Fifo,
+    infinity: INFINITY,
     generate: None,
 };
 
@@ -93,6 +98,7 @@ fn command<'a>(alloc: Global) -> Result<Command<'a>, AllocError>
         .arg(option(alloc, "steps"))?
         .arg(option(alloc, "answers"))?
         .arg(option(alloc, "agenda"))?
+        .arg(option(alloc, "infinity"))?
         .arg(option(alloc, "gen"))
 }
 
@@ -111,6 +117,10 @@ fn found_options(matches: &ArgMatches<'_>) -> Options
             .get_str("agenda")
             .and_then(agenda)
             .unwrap_or(USUAL.agenda),
+        infinity: matches
+            .get_str("infinity")
+            .and_then(infinity)
+            .unwrap_or(USUAL.infinity),
         generate: matches.get_str("gen").and_then(size),
     }
 }
@@ -118,14 +128,15 @@ fn found_options(matches: &ArgMatches<'_>) -> Options
 /// Reads the words of the command line, without the program's own name.
 ///
 /// They are pairs of an option's name and its value, in any order; each option stands at most once, and one that is left out has
-/// its usual value. `--steps` and `--answers` have a number up to 1,000,000,000,000, `--gen` has one from 4 to 12, and `--agenda`
-/// is `fifo` or `cheapest`.
+/// its usual value. `--steps` and `--answers` have a number up to 1,000,000,000,000, `--infinity` has one up to the greatest of the
+/// universe, `--gen` has one from 4 to 12, and `--agenda` is `fifo` or `cheapest`.
 pub fn read_words(alloc: Global, words: &[String]) -> Result<Options, WordsFault>
     ensures accepted { IfOk result (λ o. options_of (map string_bytes words.now) ≡ Some (asked o)) }
     ensures agenda { IfOk result (λ o. o.agenda ≡ agenda_of (map string_bytes words.now)) }
     ensures refused { IfErr result (λ e.
         e ≡ fault.Usage → options_of (map string_bytes words.now) ≡ None) }
     ensures answers { IfOk result (λ o. IfSome o.answers (λ n. (1 ≤ n) × (n ≤ 1000000000000))) }
+    ensures infinity { IfOk result (λ o. (1 ≤ o.infinity) × (o.infinity ≤ TOP)) }
     ensures generate { IfOk result (λ o. IfSome o.generate (λ n. (4 ≤ n) × (n ≤ 12))) }
 {
     if words.is_empty() {

@@ -18,10 +18,10 @@ abbrev pub HasNames : Verdict → Type 0
 HasNames (Accepted p) = Unit {0}
 HasNames (Refused place reason pool) = IsReasonIn pool reason
 
--- the verdict on a text
-pub record IsVerdictOn (text : List ℕ) (v : Verdict) : Type 0 where
+-- the verdict on a text, where N is the greatest number that a variable may have
+pub record IsVerdictOn (N : ℕ) (text : List ℕ) (v : Verdict) : Type 0 where
   pub names : HasNames v
-  pub verdict : IsVerdict INFINITY INFINITY text (verdict_of v)
+  pub verdict : IsVerdict INFINITY N text (verdict_of v)
 
 -- the verdict is this one
 pub record Is (w : model.Verdict) (v : Verdict) : Type 0 where

@@ -2,6 +2,7 @@
 
 ghost use Rattle.std.specs.Prelude.{◌≡◌, ◌≤◌, ℕ, length, IfOk};
 ghost use Rattle.fd_language.specs.Reading as Reading;
+ghost use Rattle.fd_language.specs.declared.TheConstants.{INFINITY as TOP};
 ghost use Rattle.fd_model.specs.Verdict as Verdicts;
 ghost use Rattle.fd_model.specs.Verdict.{reading_verdict};
 ghost use Rattle.answer_text.specs.Reasons.{reason_text, IsReasonIn};
@@ -17,7 +18,7 @@ use answer_text::Reason;
 use byte_ports::MAX_TEXT;
 use char_tokens::{TokenCause, TokenFault};
 use clause_check::{Cause, Program, ProgramFault, check_program};
-use fd_language::{INFINITY, NoMemory};
+use fd_language::NoMemory;
 use monotone_check::CheckFault;
 use std::alloc::Global;
 use term_pool::Pool;
@@ -48,32 +49,34 @@ pub fn refused(alloc: Global, place: usize, reason: Reason) -> Result<Verdict, N
     })
 }
 
-/// What a text of bytes is.
-pub fn judge_text(alloc: Global, text: &[u8]) -> Result<Verdict, NoMemory>
-    requires { length text.now ≤ MAX_TEXT }
-    ensures { IfOk result (IsVerdictOn text.now) }
+/// What a text of bytes is. `infinity` is the number that the word is read as, the greatest that a variable may have.
+pub fn judge_text(alloc: Global, text: &[u8], infinity: u32) -> Result<Verdict, NoMemory>
+    requires size { length text.now ≤ MAX_TEXT }
+    requires infinity { (1 ≤ infinity) × (infinity ≤ TOP) }
+    ensures { IfOk result (IsVerdictOn infinity text.now) }
 {
     match std::str::from_utf8(text) {
-        Ok(text) => judge_characters(alloc, text),
+        Ok(text) => judge_characters(alloc, text, infinity),
         Err(error) => refused(alloc, error.valid_up_to(), Reason::NotUtf8),
     }
 }
 
 /// What a text of characters is.
-fn judge_characters(alloc: Global, text: &str) -> Result<Verdict, NoMemory>
-    requires { length text.now ≤ MAX_TEXT }
-    ensures { IfOk result (IsVerdictOn text.now) }
+fn judge_characters(alloc: Global, text: &str, infinity: u32) -> Result<Verdict, NoMemory>
+    requires size { length text.now ≤ MAX_TEXT }
+    requires infinity { (1 ≤ infinity) × (infinity ≤ TOP) }
+    ensures { IfOk result (IsVerdictOn infinity text.now) }
 {
     match read_sentences(alloc, text) {
-        Ok(sentences) => judge_sentences(alloc, sentences),
+        Ok(sentences) => judge_sentences(alloc, sentences, infinity),
         Err(fault) => judge_fault(alloc, fault),
     }
 }
 
 /// What a text is that has no sentences.
 fn judge_fault(alloc: Global, fault: ReaderFault) -> Result<Verdict, NoMemory>
-    ensures { (r : Reading.Reading) → IsFaultFor r fault → IfOk result (Is (reading_verdict INFINITY
-        INFINITY r)) }
+    ensures { (N : ℕ) (r : Reading.Reading) → IsFaultFor r fault → IfOk result (Is (reading_verdict
+        TOP N r)) }
 {
     match fault {
         ReaderFault::Token(TokenFault::At { place, cause }) => {
@@ -102,14 +105,15 @@ fn token_reason(cause: TokenCause) -> Reason
 }
 
 /// What a text of sentences is.
-fn judge_sentences(alloc: Global, sentences: Sentences) -> Result<Verdict, NoMemory>
+fn judge_sentences(alloc: Global, sentences: Sentences, infinity: u32) -> Result<Verdict, NoMemory>
+    requires infinity { (1 ≤ infinity) × (infinity ≤ TOP) }
     requires own { AreOwn sentences }
     requires names { HaveNames sentences }
     requires parts { HaveParts sentences }
-    ensures { IfOk result (Is (reading_verdict INFINITY INFINITY (Reading.sentences
+    ensures { IfOk result (Is (reading_verdict TOP infinity (Reading.sentences
         (sentences_of sentences)))) }
 {
-    match check_program(alloc, sentences, INFINITY) {
+    match check_program(alloc, sentences, infinity) {
         Ok(program) => Ok(Verdict::Accepted(program)),
         Err(ProgramFault::At { place, cause, pool }) => Ok(Verdict::Refused {
             place,

@@ -8,7 +8,7 @@ use Rattle.command_words.specs.declared.AgendaName.TheVariants.{Fifo}
 use Rattle.command_words.specs.declared.WordsFault.{WordsFault}
 use Rattle.command_words.specs.declared.WordsFault.TheVariants as fault
 use Rattle.command_words.proofs.Law.{accepts, accepts_none, form_is_taken, options_same}
-use Rattle.command_words.proofs.Numbers.{answers_within, generate_within}
+use Rattle.command_words.proofs.Numbers.{answers_within, generate_within, infinity_within}
 use Rattle.command_words.proofs.read_words.Goals as goal
 
 only_memory : {T : Type 0} (r : Result T WordsFault) (K Q : Type 0) → IsErrAnd r (λ e. K → e ≡ fault.NoMemory) → K → IfErr r (λ e. e ≡ fault.Usage → Q)
@@ -38,6 +38,9 @@ returns-clause-agenda c = c.found_options.ensures.agenda ∙ ap (λ o. unwrap_or
 
 pub returns-clause-answers : goal.returns-clause-answers
 returns-clause-answers c = answers_within (asked c.found_options.result) (first_value (found_of c.in_ok-matches.matches)) c.found_options.ensures.asked
+
+pub returns-clause-infinity : goal.returns-clause-infinity
+returns-clause-infinity c = infinity_within (asked c.found_options.result) (first_value (found_of c.in_ok-matches.matches)) c.found_options.ensures.asked
 
 pub returns-clause-generate : goal.returns-clause-generate
 returns-clause-generate c = generate_within (asked c.found_options.result) (first_value (found_of c.in_ok-matches.matches)) c.found_options.ensures.asked
