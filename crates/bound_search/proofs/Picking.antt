@@ -13,6 +13,7 @@ use Rattle.fd_model.proofs.Lemmas.{some_only, among_picked}
 use Rattle.range_code.specs.Frames.{family_of}
 use Rattle.label_search.specs.declared.Member.{Member}
 use Rattle.label_search.specs.declared.Member.TheVariants.{Fixed, Var, Free}
+use Rattle.fd_language.specs.declared.TheConstants.{INFINITY}
 use Rattle.label_search.specs.Picks.{member_at, IsThere, AreThere, IsSeenAs, AreSeenAs, IsPlaceOf, IsPicked}
 use Rattle.bound_search.specs.Members.{IsOwn, AreOwn, member_of, members_of}
 
@@ -31,16 +32,16 @@ no_only (x ∷ []) n h e = absurd (let b : ⊥ = cc in b)
 no_only (x ∷ y ∷ ys) n h e = omega arith
 
 module _ (sets : List (List ℕ)) (some : (x : ℕ) → (n : ℕ) × (has (family_of sets x) n ≡ true)) where
-  seen_variable : (k : ℕ) (o : Option ℕ) → only (family_of sets k) ≡ o → IsSeenAs sets (family_of sets) (Var k) (open_unless k o)
+  seen_variable : (k : ℕ) (o : Option ℕ) → only (family_of sets k) ≡ o → IsSeenAs INFINITY sets (family_of sets) (Var k) (open_unless k o)
   seen_variable k None e = (no_only (family_of sets k) (some k).0 (some k).1 e, refl)
   seen_variable k (Some n) e = let f : length (family_of sets k) ≡ 1 = ap (λ (xs : List ℕ). length xs) (some_only (family_of sets k) n e) in omega arith
 
-  seen_member : (count : ℕ) (m : Member) → IsOwn count m → IsSeenAs sets (family_of sets) m (seen_in (family_of sets) (member_of m))
+  seen_member : (count : ℕ) (m : Member) → IsOwn count m → IsSeenAs INFINITY sets (family_of sets) m (seen_in (family_of sets) (member_of m))
   seen_member count (Fixed z) h = omega arith
   seen_member count (Var k) h = seen_variable k (only (family_of sets k)) refl
   seen_member count Free h = absurd h
 
-  seen_members : (count : ℕ) (ms : List Member) → AreOwn count ms → AreSeenAs sets (family_of sets) ms (map (seen_in (family_of sets)) (members_of ms))
+  seen_members : (count : ℕ) (ms : List Member) → AreOwn count ms → AreSeenAs INFINITY sets (family_of sets) ms (map (seen_in (family_of sets)) (members_of ms))
   seen_members count [] h = tt
   seen_members count (m ∷ ms) h = (seen_member count m (h 0 m (omega arith)), seen_members count ms (λ k d l. h (suc k) d (omega arith)))
 
@@ -59,7 +60,7 @@ module _ (sets : List (List ℕ)) (some : (x : ℕ) → (n : ℕ) × (has (famil
   place_at (m ∷ ms) (suc i) x e = place_at ms i x e
 
   -- where none is picked, the definition picks none
-  pub none_there : (o : Order) (count : ℕ) (ms : List Member) → AreOwn count ms → IsPicked o sets ms None → picked_in o (family_of sets) (members_of ms) ≡ None
+  pub none_there : (o : Order) (count : ℕ) (ms : List Member) → AreOwn count ms → IsPicked INFINITY o sets ms None → picked_in o (family_of sets) (members_of ms) ≡ None
   none_there o count ms own p = by_place (picked_in o (family_of sets) (members_of ms)) (p (family_of sets) (map (seen_in (family_of sets)) (members_of ms)) (seen_members count ms own))
     where
       by_place : (r : Option ℕ) → IsPlaceOf (map (seen_in (family_of sets)) (members_of ms)) r None → r ≡ None
@@ -72,7 +73,7 @@ module _ (sets : List (List ℕ)) (some : (x : ℕ) → (n : ℕ) × (has (famil
     pub picked : picked_in o (family_of sets) (members_of ms) ≡ Some variable
     pub here : member_at ms i ≡ Var variable
 
-  pub some_there : (o : Order) (count : ℕ) (ms : List Member) (i : ℕ) → AreOwn count ms → IsPicked o sets ms (Some i) → IsVariableAt o ms i
+  pub some_there : (o : Order) (count : ℕ) (ms : List Member) (i : ℕ) → AreOwn count ms → IsPicked INFINITY o sets ms (Some i) → IsVariableAt o ms i
   some_there o count ms i own p = by_place (picked_in o (family_of sets) (members_of ms)) refl (p (family_of sets) (map (seen_in (family_of sets)) (members_of ms)) (seen_members count ms own))
     where
       by_place : (r : Option ℕ) → picked_in o (family_of sets) (members_of ms) ≡ r → IsPlaceOf (map (seen_in (family_of sets)) (members_of ms)) r (Some i) → IsVariableAt o ms i

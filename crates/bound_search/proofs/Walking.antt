@@ -54,24 +54,24 @@ module _ (list : List Member) (aim : Aim) where
     abbrev D : ℕ → List ℕ
     D = family_of s.current.sets
 
-    at_place : (place : ℕ) → IsPicked aim.order s.current.sets list (Some place) → IsVariableAt s.current.sets (node_some s.current.posted s.current.sets node.domains) aim.order list place
+    at_place : (place : ℕ) → IsPicked INFINITY aim.order s.current.sets list (Some place) → IsVariableAt s.current.sets (node_some s.current.posted s.current.sets node.domains) aim.order list place
     at_place place p = some_there s.current.sets (node_some s.current.posted s.current.sets node.domains) aim.order (length s.current.sets) list place ok.list p
 
-    pub picked_at : (place variable : ℕ) → IsPicked aim.order s.current.sets list (Some place) → member_at list place ≡ Var variable → picked_in aim.order D (members_of list) ≡ Some variable
+    pub picked_at : (place variable : ℕ) → IsPicked INFINITY aim.order s.current.sets list (Some place) → member_at list place ≡ Var variable → picked_in aim.order D (members_of list) ≡ Some variable
     picked_at place variable p e =
         let v = at_place place p in
         let f : Var v.variable ≡ Var variable = sym v.here ∙ e in
         let g : v.variable ≡ variable = cc in
         v.picked ∙ ap Some g
 
-    pub look_opens : (place variable : ℕ) (more : List Node) (best : SoFar) → IsPicked aim.order s.current.sets list (Some place) → member_at list place ≡ Var variable → more ≡ nodes ++ record { variable = variable; from = 0 } ∷ []
+    pub look_opens : (place variable : ℕ) (more : List Node) (best : SoFar) → IsPicked INFINITY aim.order s.current.sets list (Some place) → member_at list place ≡ Var variable → more ≡ nodes ++ record { variable = variable; from = 0 } ∷ []
         → Continues w (length s.current.sets) (progress s.below nodes best) (s.current.posted ∷ []) (progress (all_levels s) more best)
     look_opens place variable more best p e f root base h =
         moved w (length s.current.sets) root base (record { levels = s.current ∷ s.below; nodes = record { variable = variable; from = 0 } ∷ reverse nodes; best = best }) (progress (all_levels s) more best) []
         (same_progress (s.current ∷ s.below) (s.current ∷ s.below) (record { variable = variable; from = 0 } ∷ reverse nodes) (reverse more) best refl (sym (newest_first nodes more (record { variable = variable; from = 0 }) f)))
         (opened w ok.member (length s.current.sets) root base s.current node s.below (reverse nodes) best variable (picked_at place variable p e) h)
 
-    pub look_opens_work : (place variable : ℕ) (more : List Node) → IsPicked aim.order s.current.sets list (Some place) → member_at list place ≡ Var variable → more ≡ nodes ++ record { variable = variable; from = 0 } ∷ []
+    pub look_opens_work : (place variable : ℕ) (more : List Node) → IsPicked INFINITY aim.order s.current.sets list (Some place) → member_at list place ≡ Var variable → more ≡ nodes ++ record { variable = variable; from = 0 } ∷ []
         → work (members_of list) (reverse more) (all_levels s) < work (members_of list) (reverse nodes) s.below + tree_size (open_count (members_of list) s.current)
     look_opens_work place variable more p e f =
         subst (λ (ns : List Node). work (members_of list) ns (all_levels s) < work (members_of list) (reverse nodes) s.below + tree_size (open_count (members_of list) s.current)) (sym (newest_first nodes more (record { variable = variable; from = 0 }) f))
@@ -81,7 +81,7 @@ module _ (list : List Member) (aim : Aim) where
       back : (best : SoFar) → ◌≡◌ {A = Progress} (record { levels = s.below; nodes = reverse nodes; best = best }) (progress (all_levels t) nodes best)
       back best = same_progress s.below (t.current ∷ t.below) (reverse nodes) (reverse nodes) best given refl
 
-      pub look_keeps : (old new : SoFar) (z : ℤ) → IsPicked aim.order s.current.sets list None → z ≡ bound aim.least D (member_of aim.cost) → Improves aim.least z old.cost → new.cost ≡ Some z → new.values.items ≡ map (λ x. least (D x)) (open_ones (members_of list))
+      pub look_keeps : (old new : SoFar) (z : ℤ) → IsPicked INFINITY aim.order s.current.sets list None → z ≡ bound aim.least D (member_of aim.cost) → Improves aim.least z old.cost → new.cost ≡ Some z → new.values.items ≡ map (λ x. least (D x)) (open_ones (members_of list))
           → Continues w (length s.current.sets) (progress s.below nodes old) (s.current.posted ∷ []) (progress (all_levels t) nodes new)
       look_keeps old new z p e i c v root base h =
           moved w (length s.current.sets) root base (record { levels = s.below; nodes = reverse nodes; best = new }) (progress (all_levels t) nodes new) [] (back new)

@@ -10,7 +10,7 @@ ghost use Rattle.bound_search.specs.Posting.{exact_range};
 
 use crate::posting::{exact_code, post_value};
 use crate::so_far::{SoFar, bound_of, improves, keep_leaf};
-use fd_language::NoMemory;
+use fd_language::{INFINITY, NoMemory};
 use fd_model::kinds::Order;
 use label_search::{Member, pick};
 use propagate_queue::{Agenda, Store};
@@ -72,7 +72,7 @@ fn look<A: Agenda + Drop>(
 {
     let bound = bound_of(store, aim.cost, aim.least);
     if improves(bound, aim.least, best) {
-        match pick(aim.order, list, store) {
+        match pick(aim.order, list, store, INFINITY) {
             Some(place) => {
                 let variable = variable_at(list, place);
                 return Ok(nodes.push(Node { variable, from: 0 })?);

@@ -1,7 +1,6 @@
 -- What a labelling takes.
-use Rattle.std.proofs.Common.{◌≡◌, ℕ, zero, suc, ◌<◌, false, List, [], ◌∷◌, length, get_or, Option, Some, None, Result, Ok, Err, refl, ap, sym, ◌∙◌, subst, arith}
+use Rattle.std.proofs.Common.{◌≡◌, ℕ, zero, suc, ◌<◌, ◌≤◌, false, List, [], ◌∷◌, length, get_or, Option, Some, None, Result, Ok, Err, refl, ap, sym, ◌∙◌, subst, arith}
 use Rattle.std.specs.Prelude.{slice_get}
-use Rattle.fd_language.specs.declared.TheConstants.{INFINITY}
 use Rattle.fd_language.specs.Family.{Family, universe}
 use Rattle.fd_language.specs.Term.{Term, Var, Int, Atom, Comp}
 use Rattle.fd_model.specs.declared.kinds.Order.{Order}
@@ -61,7 +60,7 @@ variable_member (Int z) x e = absurd (cc)
 variable_member (Atom a) x e = absurd (cc)
 variable_member (Comp f ts) x e = absurd (cc)
 
-module _ (name : Naming) (s : State) (o : Order) (c : Cell) where
+module _ (name : Naming) (s : State) (several : 1 ≤ s.infinity) (o : Order) (c : Cell) where
   abbrev h : Cells
   h = s.heaps.now
 
@@ -73,7 +72,7 @@ module _ (name : Naming) (s : State) (o : Order) (c : Cell) where
 
   -- as the labelling has them
   abbrev values : ℕ → List ℕ
-  values d = values_by INFINITY (cell_set G ((fixed_frame (frame_of name h s.levels.current.posted) G).link d))
+  values d = values_by s.infinity (cell_set G ((fixed_frame (frame_of name h s.levels.current.posted) G).link d))
 
   kept_link : (xs : List ℕ) (k : ℕ) → 1 < length xs → held.open_link xs k ≡ Some k
   kept_link [] k l = absurd (omega (arith, l))
@@ -82,24 +81,24 @@ module _ (name : Naming) (s : State) (o : Order) (c : Cell) where
 
   values_linked : (i k : ℕ) → link_in h i ≡ Some k → 1 < length (G k) → (values i ≡ G k) × (values_of s i ≡ G k)
   values_linked i k e l = (
-    ap (λ v. values_by INFINITY (cell_set G (link_at v G))) e ∙ ap (λ v. values_by INFINITY (cell_set G v)) (kept_link (G k) k l),
-    ap (λ v. values_by INFINITY (cell_set G v)) e,
+    ap (λ v. values_by s.infinity (cell_set G (link_at v G))) e ∙ ap (λ v. values_by s.infinity (cell_set G v)) (kept_link (G k) k l),
+    ap (λ v. values_by s.infinity (cell_set G v)) e,
   )
 
-  values_free : (i : ℕ) → link_in h i ≡ None → (values i ≡ universe INFINITY) × (values_of s i ≡ universe INFINITY)
-  values_free i e = (ap (λ v. values_by INFINITY (cell_set G (link_at v G))) e, ap (λ v. values_by INFINITY (cell_set G v)) e)
+  values_free : (i : ℕ) → link_in h i ≡ None → (values i ≡ universe s.infinity) × (values_of s i ≡ universe s.infinity)
+  values_free i e = (ap (λ v. values_by s.infinity (cell_set G (link_at v G))) e, ap (λ v. values_by s.infinity (cell_set G v)) e)
 
-  seen_member : (m : Member) (x : seen.Member) → IsSeenMember h sets m x → IsSeenAs sets values m x
-  seen_member (member.Fixed z) x e = subst (IsSeenAs sets values (member.Fixed z)) (sym e) (omega arith)
+  seen_member : (m : Member) (x : seen.Member) → IsSeenMember h sets m x → IsSeenAs s.infinity sets values m x
+  seen_member (member.Fixed z) x e = subst (IsSeenAs s.infinity sets values (member.Fixed z)) (sym e) (omega arith)
   seen_member (member.Var k) x e =
       let v = values_linked e.0 k e.2 e.4 in
-      subst (IsSeenAs sets values (member.Var k)) (sym e.1) (e.4, ap length v.0)
+      subst (IsSeenAs s.infinity sets values (member.Var k)) (sym e.1) (e.4, ap length v.0)
   seen_member member.Free x e =
       let v = values_free e.0 e.2 in
-      let l = length-universe INFINITY in
-      subst (IsSeenAs sets values member.Free) (sym e.1) (omega (arith, l), ap length v.0)
+      let l = length-universe s.infinity in
+      subst (IsSeenAs s.infinity sets values member.Free) (sym e.1) (omega (arith, l, several), ap length v.0)
 
-  seen_members : (cs : List Cell) (ms : List Member) (ss : List seen.Member) → AreMembersAt name h sets cs ms ss → AreSeenAs sets values ms ss
+  seen_members : (cs : List Cell) (ms : List Member) (ss : List seen.Member) → AreMembersAt name h sets cs ms ss → AreSeenAs s.infinity sets values ms ss
   seen_members [] [] [] a = tt
   seen_members [] [] (x ∷ ss) a = absurd a
   seen_members [] (m ∷ ms) ss a = absurd a
@@ -138,14 +137,14 @@ module _ (name : Naming) (s : State) (o : Order) (c : Cell) where
     abbrev ss : List seen.Member
     ss = l.0
 
-    are_seen : AreSeenAs sets values r.members.items ss
+    are_seen : AreSeenAs s.infinity sets values r.members.items ss
     are_seen = seen_members r.cells.items r.members.items ss l.2
 
     no_place : (q : Option ℕ) → IsPlaceOf ss q None → by_picked values q ≡ done
     no_place None i = refl
     no_place (Some x) i = absurd i
 
-    pub label_done : IsPicked o sets r.members.items None → Labels name s o c Done
+    pub label_done : IsPicked s.infinity o sets r.members.items None → Labels name s o c Done
     label_done p = ap (by_listing o values) l.1 ∙ no_place (pick o values ss) (p values ss are_seen)
 
     a_place : (q : Option ℕ) (p : ℕ) → IsPlaceOf ss q (Some p) → (x : ℕ) × (q ≡ Some x) × (slice_get ss p ≡ Some (seen.Open x))
@@ -153,13 +152,13 @@ module _ (name : Naming) (s : State) (o : Order) (c : Cell) where
     a_place (Some x) p i = (x, refl, i)
 
     -- the place of the picked member is one of the list
-    pub place_there : (p : ℕ) (d : Cell) → IsPicked o sets r.members.items (Some p) → (p < length r.cells.items) × IsOf h (get_or r.cells.items p d)
+    pub place_there : (p : ℕ) (d : Cell) → IsPicked s.infinity o sets r.members.items (Some p) → (p < length r.cells.items) × IsOf h (get_or r.cells.items p d)
     place_there p d k =
         let a = a_place (pick o values ss) p (k values ss are_seen) in
         let m = at_place r.cells.items r.members.items ss l.2 p d (seen.Open a.0) a.2 in
         (m.1, m.2)
 
-    pub label_takes : (p : ℕ) (d : Cell) (i : ℕ) → IsPicked o sets r.members.items (Some p) → IsVariableOf name h (get_or r.cells.items p d) i → Labels name s o c (Takes i)
+    pub label_takes : (p : ℕ) (d : Cell) (i : ℕ) → IsPicked s.infinity o sets r.members.items (Some p) → IsVariableOf name h (get_or r.cells.items p d) i → Labels name s o c (Takes i)
     label_takes p d i k v =
         let a = a_place (pick o values ss) p (k values ss are_seen) in
         let m = at_place r.cells.items r.members.items ss l.2 p d (seen.Open a.0) a.2 in
@@ -177,5 +176,5 @@ read_by s hs ls e f c r read x g name names =
     subst (λ y. IsListRead name s.heaps.now s.levels.current.sets c y) g
     (subst (λ (l : Levels). IsListRead name s.heaps.now l.current.sets c r) f (subst (λ (h : Heaps). IsListRead name h.now ls.current.sets c r) e (read name names)))
 
-pub picked_by : (s : State) (ls : Levels) → ls ≡ s.levels → (xs ms : List Member) → xs ≡ ms → (o : Order) (p : Option ℕ) → IsPicked o ls.current.sets xs p → IsPicked o s.levels.current.sets ms p
-picked_by s ls f xs ms g o p k = subst (λ (l : Levels). IsPicked o l.current.sets ms p) f (subst (λ ys. IsPicked o ls.current.sets ys p) g k)
+pub picked_by : (s : State) (n : ℕ) → n ≡ s.infinity → (ls : Levels) → ls ≡ s.levels → (xs ms : List Member) → xs ≡ ms → (o : Order) (p : Option ℕ) → IsPicked n o ls.current.sets xs p → IsPicked s.infinity o s.levels.current.sets ms p
+picked_by s n e ls f xs ms g o p k = subst (λ (l : Levels). IsPicked s.infinity o l.current.sets ms p) f (subst (λ ys. IsPicked s.infinity o ls.current.sets ys p) g (subst (λ m. IsPicked m o ls.current.sets xs p) e k))

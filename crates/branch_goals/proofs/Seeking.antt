@@ -7,11 +7,13 @@ use Rattle.std.proofs.lemmas.Option.{none-some}
 use Rattle.fd_language.specs.declared.TheConstants.{INFINITY}
 use Rattle.fd_language.specs.Family.{has}
 use Rattle.fd_language.specs.Monotonicity.{IsMonotone}
+use Rattle.fd_language.specs.Range.{Indexical}
 use Rattle.fd_language.specs.Term.{Term, Var, Int, Atom, Comp}
 use Rattle.fd_language.proofs.Lemmas.{has_map}
 use Rattle.fd_model.specs.declared.kinds.Order.{Order}
 use Rattle.fd_model.specs.declared.kinds.QueryFault.{QueryFault}
 use Rattle.fd_model.specs.declared.kinds.QueryFault.TheVariants.{BadType, Parameter}
+use Rattle.fd_model.specs.Bounds.{bound}
 use Rattle.fd_model.specs.BestPosted.{IsCostOf, SoughtValues}
 use Rattle.fd_model.specs.Children.{cost_fault}
 use Rattle.fd_model.specs.Closed.{AllPosted, constrained}
@@ -26,11 +28,13 @@ use Rattle.heap_cells.specs.SeenTerms.{seen_term}
 use Rattle.range_code.specs.Frames.{family_of}
 use Rattle.machine_frames.specs.Frames.{link_in}
 use Rattle.machine_frames.proofs.Lemmas.{unsettled}
-use Rattle.sought_leaves.specs.Seeking.{owned}
+use Rattle.sought_leaves.specs.Seeking.{owned, IsBegun}
 use Rattle.bound_search.specs.Members.{AreOwn, member_of, members_of}
 use Rattle.label_search.specs.declared.Member.{Member}
 use Rattle.label_search.specs.declared.Member.TheVariants as member
+use Rattle.branch_state.specs.Bounding.{new_bounds}
 use Rattle.branch_state.specs.States.{State, IsSound}
+use Rattle.branch_state.proofs.Lemmas.{are_bounds, new_bounded, somewhere_right}
 use Rattle.branch_goals.specs.declared.searches.Named.{Named}
 use Rattle.branch_goals.specs.declared.searches.Prepared.{Prepared}
 use Rattle.branch_goals.specs.Labels.{IsVariableOf}
@@ -231,32 +235,54 @@ module _ (name : Naming) (s : State) (o : IsSound s) (list cost : Cell) (p : Pre
     | inr n ↦ n
   ]
 
-  search_is : AllPosted (λ q. IsMonotone INFINITY q.range) s.levels.current.posted → IsSearch name s list cost ms g.3.0 own
-  search_is mono = record {
-    members = g.1;
-    costs = g.3.1;
-    among = g.3.2;
-    owned = record { linked = a.linked; new = new_unnamed; apart = a.apart };
-    cells = a.cells;
-    monotone = mono;
-  }
+  -- what it begins with, where so many variables were added
+  module _ (added : ℕ) (count : added ≡ p.named.next - length s.levels.current.sets) where
+    abbrev pub begins : List Indexical
+    begins = s.levels.current.posted ++ new_bounds s.infinity (length s.levels.current.sets) added
 
-  pub sought_is : AllPosted (λ q. IsMonotone INFINITY q.range) s.levels.current.posted → (order : Order) (least : Bool) (found : Option (List ℕ))
-      → SoughtValues INFINITY order (members_of p.named.members.items) (member_of p.cost) least s.levels.current.posted found → IsSought name s order least list cost ms found
-  sought_is mono order least found v = record {
-    cost_member = g.3.0;
-    own = own;
-    search = search_is mono;
-    values = subst (λ l. SoughtValues INFINITY order l (owned own g.3.0) least s.levels.current.posted found) a.members
-        (subst (λ c. SoughtValues INFINITY order (members_of p.named.members.items) c least s.levels.current.posted found) g.3.3 v);
-  }
+    begun_is : IsBegun INFINITY s.infinity (link_in s.heaps.now) s.levels.current.posted own (open_ones ms) begins
+    begun_is = record {
+      bounds = new_bounds s.infinity (length s.levels.current.sets) added;
+      are = are_bounds s.infinity (length s.levels.current.sets) added;
+      behind = refl;
+      each = λ x c other. o.now.bounded x (o.now.posted x c) other;
+      new = λ c e i other. (
+          let l = a.new c e i in
+          let low = l.0 in
+          let high = l.1 in
+          somewhere_right (λ q. q ≡ bound s.infinity (own c)) s.levels.current.posted (new_bounds s.infinity (length s.levels.current.sets) added)
+          (new_bounded s.infinity (length s.levels.current.sets) added (own c) low (omega (arith, low, high, count)) other)
+          );
+    }
+
+    search_is : AllPosted (λ q. IsMonotone INFINITY q.range) s.levels.current.posted → IsSearch name s list cost ms g.3.0 own begins
+    search_is mono = record {
+      members = g.1;
+      costs = g.3.1;
+      among = g.3.2;
+      owned = record { linked = a.linked; new = new_unnamed; apart = a.apart };
+      begun = begun_is;
+      cells = a.cells;
+      monotone = mono;
+    }
+
+    pub sought_is : AllPosted (λ q. IsMonotone INFINITY q.range) s.levels.current.posted → (order : Order) (least : Bool) (found : Option (List ℕ))
+        → SoughtValues INFINITY order (members_of p.named.members.items) (member_of p.cost) least begins found → IsSought name s order least list cost ms found
+    sought_is mono order least found v = record {
+      cost_member = g.3.0;
+      own = own;
+      ranges = begins;
+      search = search_is mono;
+      values = subst (λ l. SoughtValues INFINITY order l (owned own g.3.0) least begins found) a.members
+          (subst (λ c. SoughtValues INFINITY order (members_of p.named.members.items) c least begins found) g.3.3 v);
+    }
 
   pub open_is : firsts p.named.open_ones.items ≡ open_ones ms
   open_is = a.open_are
 
   -- as many values as open members
-  pub as_many : (order : Order) (least : Bool) (ns : List ℕ) → SoughtValues INFINITY order (members_of p.named.members.items) (member_of p.cost) least s.levels.current.posted (Some ns) → length p.named.open_ones.items ≡ length ns
-  as_many order least ns v =
+  pub as_many : (order : Order) (least : Bool) (ls : List Indexical) (ns : List ℕ) → SoughtValues INFINITY order (members_of p.named.members.items) (member_of p.cost) least ls (Some ns) → length p.named.open_ones.items ≡ length ns
+  as_many order least ls ns v =
       let w = v.best.3 in
       sym (length-map p.named.open_ones.items (λ q. q.0)) ∙ ap length a.open_are
       ∙ sym (ap length (ap open_ones a.members ∙ owned_open own ms) ∙ length-map (open_ones ms) own)

@@ -22,12 +22,12 @@ use Rattle.branch_state.specs.States.{State}
 abbrev pub labelled_in : Naming → State → Order → Cell → Labelled
 labelled_in name s o c =
     let G = family_of s.levels.current.sets in
-    heap_label INFINITY INFINITY name s.heaps.now s.levels.current.posted G o
+    heap_label INFINITY s.infinity name s.heaps.now s.levels.current.posted G o
     (seen_term name s.heaps.now G c)
 
--- the values of a variable of the heap: those of its set, and all where the store doesn't have it
+-- the values of a variable of the heap: those of its set, and all that a variable may have where the store doesn't have it
 abbrev pub values_of : State → ℕ → List ℕ
-values_of s i = values_by INFINITY
+values_of s i = values_by s.infinity
     (cell_set (family_of s.levels.current.sets) (link_in s.heaps.now i))
 
 -- The variable that is taken is an open one of the heap, with its values.

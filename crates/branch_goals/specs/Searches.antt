@@ -3,6 +3,7 @@ use Rattle.std.specs.Prelude.{◌≡◌, ◌⊎◌, ℕ, suc, ◌<◌, ◌≤◌
 use Rattle.fd_language.specs.declared.TheConstants.{INFINITY}
 use Rattle.fd_language.specs.Family.{has}
 use Rattle.fd_language.specs.Monotonicity.{IsMonotone}
+use Rattle.fd_language.specs.Range.{Indexical}
 use Rattle.fd_language.specs.Term as language
 use Rattle.fd_language.specs.Term.{Term}
 use Rattle.fd_model.specs.declared.kinds.Order.{Order}
@@ -21,7 +22,7 @@ use Rattle.heap_cells.specs.SeenTerms.{seen_term}
 use Rattle.range_code.specs.Frames.{family_of}
 use Rattle.machine_frames.specs.Frames.{link_in}
 pub use Rattle.sought_leaves.specs.Seeking.{search_fault}
-use Rattle.sought_leaves.specs.Seeking.{owned, AreOwned}
+use Rattle.sought_leaves.specs.Seeking.{owned, AreOwned, IsBegun}
 use Rattle.bound_search.specs.Members.{AreOwn, member_of, members_of}
 use Rattle.label_search.specs.declared.Member.{Member}
 use Rattle.label_search.specs.declared.Member.TheVariants.{Fixed, Var, Free}
@@ -35,14 +36,16 @@ use Rattle.branch_goals.specs.declared.searches.Sought.TheVariants.{Nothing, Lea
 abbrev pub IsOpenCell : Naming → Cells → ℕ → Type 0
 IsOpenCell name h c = (c < length h.slots) × (term_of name h (cell.Ref c) ≡ language.Var c)
 
--- The list in a cell has the members ms, and the cost in another one is c, an integer or an open member. own gives each open member a variable of the store.
+-- The list in a cell has the members ms, and the cost in another one is c, an integer or an open member. own gives each open member a variable of the store. The search begins with the ranges ls.
 pub record IsSearch (name : Naming) (s : State) (list cost : Cell) (ms : List seen.Member)
-    (c : seen.Member) (own : ℕ → ℕ) : Type 0 where
+    (c : seen.Member) (own : ℕ → ℕ) (ls : List Indexical) : Type 0 where
   pub members : read_list (seen_term name s.heaps.now (family_of s.levels.current.sets) list)
       ≡ Ok ms
   pub costs : as_member (seen_term name s.heaps.now (family_of s.levels.current.sets) cost) ≡ Ok c
   pub among : IsCostOf ms c
   pub owned : AreOwned (link_in s.heaps.now) s.levels.current.posted own (open_ones ms)
+  pub begun : IsBegun INFINITY s.infinity (link_in s.heaps.now) s.levels.current.posted own
+      (open_ones ms) ls
   pub cells : (d : ℕ) → has (open_ones ms) d ≡ true → IsOpenCell name s.heaps.now d
   pub monotone : AllPosted (λ p. IsMonotone INFINITY p.range) s.levels.current.posted
 
@@ -51,9 +54,10 @@ pub record IsSought (name : Naming) (s : State) (o : Order) (least : Bool) (list
     (ms : List seen.Member) (found : Option (List ℕ)) : Type 0 where
   pub cost_member : seen.Member
   pub own : ℕ → ℕ
-  pub search : IsSearch name s list cost ms cost_member own
-  pub values : SoughtValues INFINITY o (map (owned own) ms) (owned own cost_member) least
-      s.levels.current.posted found
+  pub ranges : List Indexical
+  pub search : IsSearch name s list cost ms cost_member own ranges
+  pub values : SoughtValues INFINITY o (map (owned own) ms) (owned own cost_member) least ranges
+      found
 
 abbrev pub firsts : {B : Type 0} → List (ℕ × B) → List ℕ
 firsts ps = map (λ p. p.0) ps

@@ -41,7 +41,7 @@ pub(crate) fn variable_of(heap: &Heap, c: Cell) -> usize
 
 /// What the labelling of the list in a cell does: by `Leftmost` it takes the first open member, by `FirstFail` the first of those
 /// with the fewest values. A variable of the store with one value counts as that integer, and a variable that the store doesn't have
-/// has all values from 0 to `INFINITY`. The error is want of memory.
+/// has all values from 0 to the greatest. The error is want of memory.
 pub fn label<A: Agenda + Drop>(
     alloc: Global,
     branch: &BranchState<A>,
@@ -58,7 +58,7 @@ pub fn label<A: Agenda + Drop>(
     store.known();
     match read_members(alloc, heap, store, list)? {
         Err(fault) => Ok(Labelling::Fault(fault)),
-        Ok(list) => match pick(order, &list.members, store) {
+        Ok(list) => match pick(order, &list.members, store, branch.infinity()) {
             Some(place) => Ok(Labelling::Takes(variable_of(heap, list.cells[place]))),
             None => Ok(Labelling::Done),
         },

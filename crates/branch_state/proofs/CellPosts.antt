@@ -1,5 +1,5 @@
 -- A goal's range whose cells are made ready: how it is linked, and that it may be posted.
-use Rattle.std.proofs.Common.{◌≡◌, ℕ, ◌<◌, ◌≤◌, Bool, true, false, cond, ℤ, List, [], ◌∷◌, ◌++◌, length, map, filter, Option, Some, None, Ok, refl, ap, sym, ◌∙◌, subst, inl, inr, arith, append_assoc}
+use Rattle.std.proofs.Common.{◌≡◌, ℕ, ◌-◌, ◌<◌, ◌≤◌, Bool, true, false, cond, ℤ, List, [], ◌∷◌, ◌++◌, length, map, filter, Option, Some, None, Ok, refl, ap, sym, ◌∙◌, subst, inl, inr, arith, append_assoc}
 use Rattle.std.proofs.lemmas.Bool.{cases_Bool}
 use Rattle.std.proofs.lemmas.List.Elements.{All-nil, All-cons}
 use Rattle.std.specs.Prelude.{All}
@@ -15,6 +15,7 @@ use Rattle.fd_language.specs.Unifier.{Unifies}
 use Rattle.fd_language.proofs.Lemmas.{two}
 use Rattle.fd_model.specs.Closed.{constrained}
 use Rattle.fd_model.specs.Levels.{Level, Levels}
+use Rattle.fd_model.proofs.Lemmas.{constrained_either}
 use Rattle.fd_model.specs.Posting.{integer_of, or_later}
 use Rattle.fd_model.specs.declared.kinds.QueryFault.{QueryFault}
 use Rattle.heap_cells.specs.declared.Cell.{Cell}
@@ -33,12 +34,14 @@ use Rattle.machine_relation.proofs.Lemmas.{plain, range_plain}
 use Rattle.machine_frames.specs.CellRanges.{target_offence, cells_offence, filled, cells_range, Names, AreNumbers, IsTermsLinked}
 use Rattle.machine_frames.specs.Frames.{link_in, store_touches}
 use Rattle.branch_state.specs.declared.look.Look.{Look}
+use Rattle.branch_state.specs.Bounding.{new_bounds}
 use Rattle.branch_state.specs.CellNaming.{shown_slots, slots_offence, IsFineGoal, slots_open, NamedBy, slot_in, AreTold, IsTold, IsTermNaming, AreCellsReady, IsPrepared}
 use Rattle.branch_state.specs.CellPosts.{term_in, slots_in, IsCellsPosted, PostsNamed}
 use Rattle.branch_state.specs.Naming.{LooksAs, IsKind, offence, first_in, goal_ranges, or_zero, with_level_sets}
 use Rattle.branch_state.specs.Ranges.{kept_step}
-use Rattle.branch_state.specs.States.{State, IsPair, ArePairs, IsSound, IsSettled, HasNoModel, IsCell}
+use Rattle.branch_state.specs.States.{State, HasBounds, IsGreatest, IsPair, ArePairs, IsSound, IsSettled, HasNoModel, IsCell}
 use Rattle.branch_state.specs.Steps.{IsTouchBelow, AreTouchesBelow}
+use Rattle.branch_state.proofs.Bounding.{level_bounded, level_settled, new_low, none_before}
 use Rattle.branch_state.proofs.Arguments.{posted_is, are_args, none_both}
 use Rattle.branch_state.proofs.Gathering.{is_open, plain_slots, offence_of_range}
 use Rattle.branch_state.proofs.Looking.{look_kind}
@@ -81,7 +84,7 @@ touches_unify u k z (touch.Value j w ∷ fs) i h = elim i [ inl a ↦ same a | i
   same e = let f : j ≡ k = cc in let g : w ≡ z = cc in ap u (sym f) ∙ h.0 ∙ ap Int g
 touches_unify u k z (touch.Same i j ∷ fs) m h = elim m [ inl a ↦ absurd (cc) | inr a ↦ touches_unify u k z fs a h.1 ]
 
-module _ (name : Naming) (old : State) (pair : IsPair old.atoms old.heaps.now old.levels.current) (target : Cell) (cells : List Cell) (r : Range) (accepted : is_accepted INFINITY r ≡ true) where
+module _ (name : Naming) (old : State) (pair : IsPair old.atoms old.infinity old.heaps.now old.levels.current) (target : Cell) (cells : List Cell) (r : Range) (accepted : is_accepted INFINITY r ≡ true) where
   abbrev h : Cells
   h = old.heaps.now
 
@@ -204,45 +207,71 @@ module _ (name : Naming) (old : State) (pair : IsPair old.atoms old.heaps.now ol
     cells_touches_low = told_low fs w.told
 
     -- the pair once the ranges are posted
-    cells_pair : (next : Level) → length next.sets ≡ length S → next.posted ≡ qs ++ goal_ranges r k as' fs → (next.failed ≡ false) × IsSettled next → IsPair old.atoms now next
-    cells_pair next e f v = record {
+    abbrev I : ℕ
+    I = old.infinity
+
+    abbrev After : List Indexical
+    After = qs ++ goal_ranges r k as' fs
+
+    cells_pair : IsGreatest I → (next : Level) → length next.sets ≡ length S → next.posted ≡ After ++ new_bounds I (length sets) (length S - length sets) → (next.failed ≡ false) × IsSettled INFINITY next → IsPair old.atoms I now next
+    cells_pair g next e f v = record {
       valid = w.links.valid;
       names = w.atoms old.atoms pair.names;
       linked = λ c j i. subst (λ m. j < m) (sym e) (w.below c j i);
       one = w.links.one;
-      posted = λ j i. subst (λ m. j < m) (sym e) (goal_low (length S) qs r k as' fs (λ j i. (let a = pair.posted j i in let b = w.longer in omega (arith, a, b))) cells_target_low accepted cells_frame cells_touches_low j (subst (λ ps. has (constrained ps) j ≡ true) f i));
+      posted = named;
+      bounded = bounded;
       live = v.0;
-      settled = v.1;
-    }
+      settled = level_settled I g next bounded named v.1;
+    } where
+      bounded : HasBounds I next
+      bounded = level_bounded I qs (goal_ranges r k as' fs) (length sets) pair.bounded next (subst (λ m. next.posted ≡ After ++ new_bounds I (length sets) (m - length sets)) (sym e) f)
+
+      named : (j : ℕ) → has (constrained next.posted) j ≡ true → j < length next.sets
+      named j i = subst (λ m. j < m) (sym e) (elim (constrained_either After (new_bounds I (length sets) (length S - length sets)) j (subst (λ ps. has (constrained ps) j ≡ true) f i)) [
+        | inl a ↦ goal_low (length S) qs r k as' fs (λ j i. (let a = pair.posted j i in let b = w.longer in omega (arith, a, b))) cells_target_low accepted cells_frame cells_touches_low j a
+        | inr a ↦ new_low I (length sets) (length S) j w.longer a
+      ])
+
+    all_same : (st : Levels) → st ≡ with_level_sets old.levels S → (first : ℕ) → first ≡ length sets
+        → (st.current.posted ++ goal_ranges r k as' fs) ++ new_bounds I first (length st.current.sets - first) ≡ After ++ new_bounds I (length sets) (length S - length sets)
+    all_same st g first start =
+        ap (λ (l : Levels). (l.current.posted ++ goal_ranges r k as' fs) ++ new_bounds I first (length l.current.sets - first)) g
+        ∙ ap (λ n. After ++ new_bounds I n (length S - n)) start
 
     -- whether all has a model then
-    pub cells_step : IsSound old → (hs : Heaps) → hs.now ≡ now → hs.below ≡ old.heaps.below → (st ls : Levels) → st ≡ with_level_sets old.levels S → ls.below ≡ st.below → ls.spent ≡ false → length ls.current.sets ≡ length S → (kept : Bool)
-        → IfTrue {E = NoMemory} (Ok kept) (ls.current.posted ≡ st.current.posted ++ goal_ranges r k as' fs) → IfTrue {E = NoMemory} (Ok kept) ((ls.current.failed ≡ false) × IsSettled ls.current) → IfFalse {E = NoMemory} (Ok kept) (HasNoModel (st.current.posted ++ goal_ranges r k as' fs))
-        → PostsNamed name old target cells r (record { atoms = old.atoms; heaps = hs; levels = ls }) (kept_step kept)
-    cells_step o hs e f st ls g b u len true p v none =
-        let same : st.current.posted ≡ qs = ap (λ (l : Levels). l.current.posted) g in
-        let q : ls.current.posted ≡ qs ++ goal_ranges r k as' fs = p ∙ ap (λ (l : List Indexical). l ++ goal_ranges r k as' fs) same in (
-          subst (λ (c : Cells). IsCellsPosted name old target cells r c ls.current.posted) (sym e) (subst (IsCellsPosted name old target cells r now) (sym q) cells_posted),
-          record {
-            unspent = u;
-            marked = subst (λ (l : List Cells). 0 < length l) (sym f) o.marked;
-            below = subst (λ (l : List Level). ArePairs old.atoms hs.below l) (sym (b ∙ ap (λ (l : Levels). l.below) g)) (subst (λ (l : List Cells). ArePairs old.atoms l old.levels.below) (sym f) o.below);
-            now = subst (λ (c : Cells). IsPair old.atoms c ls.current) (sym e) (cells_pair ls.current len q v);
-          },
-        )
-    cells_step o hs e f st ls g b u len false p v none =
-        let same : st.current.posted ≡ qs = ap (λ (l : Levels). l.current.posted) g in (
+    pub cells_step : IsSound old → (hs : Heaps) → hs.now ≡ now → hs.below ≡ old.heaps.below → (st ls : Levels) → st ≡ with_level_sets old.levels S → ls.below ≡ st.below → ls.spent ≡ false → length ls.current.sets ≡ length st.current.sets → (first : ℕ) → first ≡ length sets → (kept : Bool)
+        → IfTrue {E = NoMemory} (Ok kept) (ls.current.posted ≡ (st.current.posted ++ goal_ranges r k as' fs) ++ new_bounds I first (length st.current.sets - first)) → IfTrue {E = NoMemory} (Ok kept) ((ls.current.failed ≡ false) × IsSettled INFINITY ls.current)
+        → IfFalse {E = NoMemory} (Ok kept) (HasNoModel INFINITY ((st.current.posted ++ goal_ranges r k as' fs) ++ new_bounds I first (length st.current.sets - first)))
+        → PostsNamed name old target cells r (record { atoms = old.atoms; infinity = old.infinity; heaps = hs; levels = ls }) (kept_step kept)
+    cells_step o hs e f st ls g b u len first start true p v none =
+        let q : ls.current.posted ≡ After ++ new_bounds I (length sets) (length S - length sets) = p ∙ all_same st g first start in (
           (
-            qs ++ goal_ranges r k as' fs,
-            subst (λ (c : Cells). IsCellsPosted name old target cells r c (qs ++ goal_ranges r k as' fs)) (sym e) cells_posted,
-            subst HasNoModel (ap (λ (l : List Indexical). l ++ goal_ranges r k as' fs) same) none,
+            After,
+            subst (λ (c : Cells). IsCellsPosted name old target cells r c After) (sym e) cells_posted,
+            subst (λ m. ls.current.posted ≡ After ++ new_bounds I (length sets) (m - length sets)) (sym (len ∙ ap (λ (l : Levels). length l.current.sets) g)) q,
           ),
           record {
+            greatest = o.greatest;
             unspent = u;
             marked = subst (λ (l : List Cells). 0 < length l) (sym f) o.marked;
-            below = subst (λ (l : List Level). ArePairs old.atoms hs.below l) (sym (b ∙ ap (λ (l : Levels). l.below) g)) (subst (λ (l : List Cells). ArePairs old.atoms l old.levels.below) (sym f) o.below);
+            below = subst (λ (l : List Level). ArePairs old.atoms I hs.below l) (sym (b ∙ ap (λ (l : Levels). l.below) g)) (subst (λ (l : List Cells). ArePairs old.atoms I l old.levels.below) (sym f) o.below);
+            now = subst (λ (c : Cells). IsPair old.atoms I c ls.current) (sym e) (cells_pair o.greatest ls.current (len ∙ ap (λ (l : Levels). length l.current.sets) g) q v);
           },
         )
+    cells_step o hs e f st ls g b u len first start false p v none = (
+      (
+        After,
+        subst (λ (c : Cells). IsCellsPosted name old target cells r c After) (sym e) cells_posted,
+        none_before I o.greatest After (length sets) (length S - length sets) (subst (HasNoModel INFINITY) (all_same st g first start) none),
+      ),
+      record {
+        greatest = o.greatest;
+        unspent = u;
+        marked = subst (λ (l : List Cells). 0 < length l) (sym f) o.marked;
+        below = subst (λ (l : List Level). ArePairs old.atoms I hs.below l) (sym (b ∙ ap (λ (l : Levels). l.below) g)) (subst (λ (l : List Cells). ArePairs old.atoms I l old.levels.below) (sym f) o.below);
+      },
+    )
 
 -- ---- what a method needs
 

@@ -66,7 +66,7 @@ module _ (s : State) (o : IsSound s) (f : AtomId) (args : List Cell) (low : f.nu
   pub made_sound : IsSound (record s { heaps = h })
   made_sound =
       heaps_sound s o h (ap (λ (x : Heaps). x.below) added)
-      (pair_fewer s.atoms old h.now s.levels.current o.now valid
+      (pair_fewer s.atoms s.infinity old h.now s.levels.current o.now valid
       (subst (HasAtomsBelow s.atoms) (sym now_is) (compound_below s.atoms old o.now.names new low (λ k d l. (cells k d l).1)))
       (λ d k e. ap link_of (sym (ap (λ (x : List Slot). get_or x d free) slots_are)) ∙ e))
 

@@ -1,9 +1,10 @@
 -- A constraint's row that is linked and listed: what becomes of the heap, and what is posted.
-use Rattle.std.proofs.Common.{◌≡◌, ℕ, suc, ◌+◌, ◌-◌, ◌<◌, ◌≤◌, true, false, cond, nat_lt, ◌==◌, ℤ, List, [], ◌∷◌, ◌++◌, length, map, Option, Some, None, refl, ap, sym, ◌∙◌, subst, inl, inr, arith, eq-eqb, eqb-true}
+use Rattle.std.proofs.Common.{◌≡◌, ℕ, suc, ◌+◌, ◌-◌, ◌<◌, ◌≤◌, true, false, cond, nat_lt, ◌==◌, ℤ, List, [], ◌∷◌, ◌++◌, length, map, append_assoc, Option, Some, None, refl, ap, sym, ◌∙◌, subst, inl, inr, arith, eq-eqb, eqb-true}
 use Rattle.std.specs.Prelude.{All}
 use Rattle.std.proofs.lemmas.Bool.{cases_Bool, or_cases, or_left, or_right, true≢false}
 use Rattle.std.proofs.lemmas.Bool.Decides.{nat_tests}
 use Rattle.std.proofs.lemmas.List.Elements.{All-nil, All-cons}
+use Rattle.fd_language.specs.declared.TheConstants.{INFINITY}
 use Rattle.fd_language.specs.declared.range_node.Need.{Need}
 use Rattle.fd_language.specs.Family.{has}
 use Rattle.fd_language.specs.Lists.{Each}
@@ -30,6 +31,7 @@ use Rattle.machine_relation.specs.Rows.{AreJoined}
 use Rattle.machine_relation.specs.Store as store
 use Rattle.machine_relation.specs.Store.{IsUnified, posts}
 use Rattle.machine_relation.proofs.Lemmas.{bindings, without, number_touches, AreConsecutive, each_found, numbered, functions}
+use Rattle.machine_frames.specs.Bounding.{IsBounded}
 use Rattle.machine_frames.specs.Frames.{link_of, link_in, store_touches, IsGrown}
 use Rattle.machine_frames.specs.Posting.{IsRowLinked}
 use Rattle.machine_frames.proofs.Lemmas.{slot_behind}
@@ -45,9 +47,11 @@ use Rattle.unify_core.specs.declared.Touch.TheVariants.{Value}
 use Rattle.branch_state.specs.Constraints.{variables_in, store_variable, row_posting, row_touches, with_variables, AreFrom, AreOpen, AreLinked, firsts, IsUnbound, AreUnbound, IsRowOf}
 use Rattle.branch_state.specs.LinkedRows.{IsRowReady}
 use Rattle.branch_state.specs.Naming.{or_zero, IsNaming, StandsIn, AllStand, OwnLinks}
-use Rattle.branch_state.specs.States.{IsPair, IsSettled}
+use Rattle.branch_state.specs.Bounding.{new_bounds}
+use Rattle.branch_state.specs.States.{HasBounds, IsGreatest, IsPair, IsSettled}
 use Rattle.branch_state.specs.Steps.{IsTouchBelow, AreTouchesBelow}
 use Rattle.branch_state.proofs.Arguments.{posted_is}
+use Rattle.branch_state.proofs.Bounding.{level_bounded, level_settled, new_low}
 use Rattle.branch_state.proofs.Constraining.{all_joined}
 use Rattle.branch_state.proofs.ConstrainingHeaps.{added_valid, added_grown, added_size, added_parts, added_atoms, bound_size, bound_parts, bound_valid, bound_terms, bound_links, bound_atoms, unbound_by, unbound_kept}
 use Rattle.branch_state.proofs.ConstrainingSteps.{linked_slot}
@@ -329,18 +333,32 @@ module _ (h : Cells) (sets : List (List ℕ)) (o : OwnLinks (length sets) h) (qs
   After = (qs ++ posted_by list) ++ posts (store_touches fixed)
 
   -- the pair once the ranges are posted
-  pub row_pair : (atoms : ℕ) → HasAtomsBelow atoms h → (next : Level) → length next.sets ≡ length S → next.posted ≡ After → (next.failed ≡ false) × IsSettled next → IsPair atoms now next
-  row_pair atoms names next e f v = record {
+  pub row_pair : (atoms N : ℕ) → IsGreatest N → HasAtomsBelow atoms h → ((k : ℕ) → k < length sets → (N ≡ INFINITY → ⊥) → IsBounded N qs k) → (next : Level) → length next.sets ≡ length S → next.posted ≡ After ++ new_bounds N (length sets) (length S - length sets)
+      → (next.failed ≡ false) × IsSettled INFINITY next → IsPair atoms N now next
+  row_pair atoms N g names old next e f v = record {
     valid = subst IsHeap (sym r.bound_now) (bound_valid H y.equated r.middle w.links.valid row.equated opens);
     names = subst (HasAtomsBelow atoms) (sym r.bound_now) (bound_atoms atoms H y.equated r.middle row.equated opens (w.atoms atoms (added_atoms atoms h (y.fresh - H) names)));
     linked = λ c k i. subst (λ m. k < m) (sym e) (w.below c k (before c k i));
     one = λ c d k i j. w.links.one c d k (before c k i) (before d k j);
-    posted = λ k i. subst (λ m. k < m) (sym e) (names_low k (subst (λ ps. has (constrained ps) k ≡ true) f i));
+    posted = named;
+    bounded = bounded;
     live = v.0;
-    settled = v.1;
+    settled = level_settled N g next bounded named v.1;
   } where
     before : (c k : ℕ) → link_in now c ≡ Some k → link_in r.middle c ≡ Some k
     before c k i = (unified.still c k i).0
+
+    all : next.posted ≡ (qs ++ (posted_by list ++ posts (store_touches fixed))) ++ new_bounds N (length sets) (length next.sets - length sets)
+    all = subst (λ m. next.posted ≡ After ++ new_bounds N (length sets) (m - length sets)) (sym e) f ∙ ap (λ (l : List Indexical). l ++ new_bounds N (length sets) (length next.sets - length sets)) (append_assoc qs (posted_by list) (posts (store_touches fixed)))
+
+    bounded : HasBounds N next
+    bounded = level_bounded N qs (posted_by list ++ posts (store_touches fixed)) (length sets) old next all
+
+    named : (k : ℕ) → has (constrained next.posted) k ≡ true → k < length next.sets
+    named k i = subst (λ m. k < m) (sym e) (elim (constrained_either After (new_bounds N (length sets) (length S - length sets)) k (subst (λ ps. has (constrained ps) k ≡ true) f i)) [
+      | inl a ↦ names_low k a
+      | inr a ↦ new_low N (length sets) (length S) k w.longer a
+    ])
 
   -- the row as it is linked, and the ranges then
   pub row_linked : (link : ℕ → Option ℕ) × (ranges : List Indexical) × (ts : List store.Touch) × IsRowLinked h now qs y link ranges (bindings y.equated) ts × (After ≡ ranges ++ posts ts)

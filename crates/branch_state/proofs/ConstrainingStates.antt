@@ -1,5 +1,5 @@
 -- What a constraint does to a branch.
-use Rattle.std.proofs.Common.{◌≡◌, ℕ, ◌<◌, Bool, true, false, List, [], ◌∷◌, ◌++◌, length, Option, Some, None, Result, Ok, Err, ap, sym, ◌∙◌, subst, inl, inr}
+use Rattle.std.proofs.Common.{◌≡◌, ℕ, ◌-◌, ◌<◌, Bool, true, false, List, [], ◌∷◌, ◌++◌, length, Option, Some, None, Result, Ok, Err, ap, sym, ◌∙◌, subst, inl, inr}
 use Rattle.std.specs.Prelude.{All, MatchOption}
 use Rattle.fd_language.specs.declared.TheConstants.{INFINITY}
 use Rattle.fd_language.specs.declared.NoMemory as memory
@@ -30,12 +30,14 @@ use Rattle.propagate_queue.specs.declared.instance.Instance.{Instance}
 use Rattle.propagate_queue.specs.Instances.{posted_by, IsInstance}
 use Rattle.unify_core.specs.declared.Touch.{Touch}
 use Rattle.unify_core.specs.Outcome.{IfTrue, IfFalse}
+use Rattle.branch_state.specs.Bounding.{new_bounds}
 use Rattle.branch_state.specs.Constraints.{row_of, IsConstrained, Constrains, IsRowOf}
 use Rattle.branch_state.specs.LinkedRows.{IsRowReady}
 use Rattle.branch_state.specs.Naming.{OwnLinks, with_level_sets}
 use Rattle.branch_state.specs.Ranges.{kept_step}
 use Rattle.branch_state.specs.States.{State, IsPair, ArePairs, IsSound, IsSettled, HasNoModel, IsCell}
 use Rattle.branch_state.specs.Steps.{AreTouchesBelow}
+use Rattle.branch_state.proofs.Bounding.{none_before}
 use Rattle.branch_state.proofs.ConstrainingHeaps.{arguments_unbound}
 use Rattle.branch_state.proofs.ConstrainingPosts.{row_pair, row_linked, rows_fit, touches_fit}
 use Rattle.branch_state.proofs.SplitRows.{equated_next}
@@ -63,34 +65,53 @@ module _ (names : List Name) (old : State) (o : IsSound old) (kind : ConstraintK
   pub fixed_fits : AreTouchesBelow (length S) fixed
   fixed_fits = touches_fit old.heaps.now old.levels.current.sets (own_links old o) qs o.now.posted y row now S list fixed r
 
+  abbrev I : ℕ
+  I = old.infinity
+
+  abbrev sets : List (List ℕ)
+  sets = old.levels.current.sets
+
+  all_same : (st : Levels) → st ≡ with_level_sets old.levels S → (first : ℕ) → first ≡ length sets
+      → ((st.current.posted ++ posted_by list) ++ posts (store_touches fixed)) ++ new_bounds I first (length st.current.sets - first) ≡ After' ++ new_bounds I (length sets) (length S - length sets)
+  all_same st g first start =
+      ap (λ (l : Levels). ((l.current.posted ++ posted_by list) ++ posts (store_touches fixed)) ++ new_bounds I first (length l.current.sets - first)) g
+      ∙ ap (λ n. After' ++ new_bounds I n (length S - n)) start
+
   -- whether all has a model then
-  pub constraint_step : (hs : Heaps) → hs.now ≡ now → hs.below ≡ old.heaps.below → (st ls : Levels) → st ≡ with_level_sets old.levels S → ls.below ≡ st.below → ls.spent ≡ false → length ls.current.sets ≡ length S → (kept : Bool)
-      → IfTrue {E = memory.NoMemory} (Ok kept) (ls.current.posted ≡ (st.current.posted ++ posted_by list) ++ posts (store_touches fixed)) → IfTrue {E = memory.NoMemory} (Ok kept) ((ls.current.failed ≡ false) × IsSettled ls.current) → IfFalse {E = memory.NoMemory} (Ok kept) (HasNoModel ((st.current.posted ++ posted_by list) ++ posts (store_touches fixed)))
-      → Constrains names old kind c (record { atoms = old.atoms; heaps = hs; levels = ls }) (kept_step kept)
-  constraint_step hs e f st ls g b u len true p v none =
-      let same : st.current.posted ≡ qs = ap (λ (l : Levels). l.current.posted) g in
-      let q : ls.current.posted ≡ After' = p ∙ ap (λ (l : List Indexical). (l ++ posted_by list) ++ posts (store_touches fixed)) same in (
-        subst (λ (x : Cells). IsConstrained names old kind c x ls.current.posted) (sym e) (subst (IsConstrained names old kind c now) (sym q) constrained_row),
-        record {
-          unspent = u;
-          marked = subst (λ (l : List Cells). 0 < length l) (sym f) o.marked;
-          below = subst (λ (l : List Level). ArePairs old.atoms hs.below l) (sym (b ∙ ap (λ (l : Levels). l.below) g)) (subst (λ (l : List Cells). ArePairs old.atoms l old.levels.below) (sym f) o.below);
-          now = subst (λ (x : Cells). IsPair old.atoms x ls.current) (sym e) (row_pair old.heaps.now old.levels.current.sets (own_links old o) qs o.now.posted y row now S list fixed r old.atoms o.now.names ls.current len q v);
-        },
-      )
-  constraint_step hs e f st ls g b u len false p v none =
-      let same : st.current.posted ≡ qs = ap (λ (l : Levels). l.current.posted) g in (
+  pub constraint_step : (hs : Heaps) → hs.now ≡ now → hs.below ≡ old.heaps.below → (st ls : Levels) → st ≡ with_level_sets old.levels S → ls.below ≡ st.below → ls.spent ≡ false → length ls.current.sets ≡ length st.current.sets → (first : ℕ) → first ≡ length sets → (kept : Bool)
+      → IfTrue {E = memory.NoMemory} (Ok kept) (ls.current.posted ≡ ((st.current.posted ++ posted_by list) ++ posts (store_touches fixed)) ++ new_bounds I first (length st.current.sets - first))
+      → IfTrue {E = memory.NoMemory} (Ok kept) ((ls.current.failed ≡ false) × IsSettled INFINITY ls.current)
+      → IfFalse {E = memory.NoMemory} (Ok kept) (HasNoModel INFINITY (((st.current.posted ++ posted_by list) ++ posts (store_touches fixed)) ++ new_bounds I first (length st.current.sets - first)))
+      → Constrains names old kind c (record { atoms = old.atoms; infinity = old.infinity; heaps = hs; levels = ls }) (kept_step kept)
+  constraint_step hs e f st ls g b u len first start true p v none =
+      let q : ls.current.posted ≡ After' ++ new_bounds I (length sets) (length S - length sets) = p ∙ all_same st g first start in (
         (
           After',
           subst (λ (x : Cells). IsConstrained names old kind c x After') (sym e) constrained_row,
-          subst HasNoModel (ap (λ (l : List Indexical). (l ++ posted_by list) ++ posts (store_touches fixed)) same) none,
+          subst (λ m. ls.current.posted ≡ After' ++ new_bounds I (length sets) (m - length sets)) (sym (len ∙ ap (λ (l : Levels). length l.current.sets) g)) q,
         ),
         record {
+          greatest = o.greatest;
           unspent = u;
           marked = subst (λ (l : List Cells). 0 < length l) (sym f) o.marked;
-          below = subst (λ (l : List Level). ArePairs old.atoms hs.below l) (sym (b ∙ ap (λ (l : Levels). l.below) g)) (subst (λ (l : List Cells). ArePairs old.atoms l old.levels.below) (sym f) o.below);
+          below = subst (λ (l : List Level). ArePairs old.atoms I hs.below l) (sym (b ∙ ap (λ (l : Levels). l.below) g)) (subst (λ (l : List Cells). ArePairs old.atoms I l old.levels.below) (sym f) o.below);
+          now = subst (λ (x : Cells). IsPair old.atoms I x ls.current) (sym e)
+              (row_pair old.heaps.now sets (own_links old o) qs o.now.posted y row now S list fixed r old.atoms I o.greatest o.now.names o.now.bounded ls.current (len ∙ ap (λ (l : Levels). length l.current.sets) g) q v);
         },
       )
+  constraint_step hs e f st ls g b u len first start false p v none = (
+    (
+      After',
+      subst (λ (x : Cells). IsConstrained names old kind c x After') (sym e) constrained_row,
+      none_before I o.greatest After' (length sets) (length S - length sets) (subst (HasNoModel INFINITY) (all_same st g first start) none),
+    ),
+    record {
+      greatest = o.greatest;
+      unspent = u;
+      marked = subst (λ (l : List Cells). 0 < length l) (sym f) o.marked;
+      below = subst (λ (l : List Level). ArePairs old.atoms I hs.below l) (sym (b ∙ ap (λ (l : Levels). l.below) g)) (subst (λ (l : List Cells). ArePairs old.atoms I l old.levels.below) (sym f) o.below);
+    },
+  )
 
 -- ---- the row
 

@@ -71,12 +71,12 @@ module _ (M : ℕ) (ps : List Indexical) (x : ℕ) (T : Family) (m : IsModel M M
 pub failed_none : (ps : List Indexical) (count : ℕ) → HasNone ps count → (T : Family) → IsModel INFINITY INFINITY [] ps T → ⊥
 failed_none ps count h T m = let w = some_value INFINITY ps h.0 T m in h.2 w.0 w.1
 
-pub settled : (l : Level) → AreDomains l.posted l.sets → IsSettled l
+pub settled : (l : Level) → AreDomains l.posted l.sets → IsSettled INFINITY l
 settled l d = record { model = settled_model l.posted l.sets d; most = settled_most l.posted l.sets d }
 
 -- how a post ends
-pub kept_settled : (l : Level) → IsPosted Kept l → (l.failed ≡ false) × IsSettled l
+pub kept_settled : (l : Level) → IsPosted Kept l → (l.failed ≡ false) × IsSettled INFINITY l
 kept_settled l p = (p.0, settled l p.1)
 
-pub failed_no_model : (l : Level) → IsPosted Failed l → HasNoModel l.posted
+pub failed_no_model : (l : Level) → IsPosted Failed l → HasNoModel INFINITY l.posted
 failed_no_model l p = failed_none l.posted (length l.sets) p.1

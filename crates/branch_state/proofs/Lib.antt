@@ -13,6 +13,7 @@ mod PostingLists
 mod ConstrainingPosts
 mod ConstrainingStates
 mod Touches
+mod Bounding
 mod Lists
 mod Occurrences
 mod Gathering
@@ -25,3 +26,4 @@ mod CellsReady
 mod CellPosts
 mod Showing
 mod OpenSets
+pub mod Lemmas

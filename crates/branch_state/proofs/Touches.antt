@@ -62,7 +62,7 @@ all_instances count [] ps e a = All-nil (IsInstance count)
 all_instances count (i ∷ is) [] e a = absurd (cc)
 all_instances count (i ∷ is) (p ∷ ps) e a = All-cons (IsInstance count) i is (subst (IsPosting count) (sym (cons_head (posting i) p (map posting is) ps e)) a.0) (all_instances count is ps (cons_tail (posting i) p (map posting is) ps e) a.1)
 
-natural_whole : (z : ℤ) → meets Natural z ≡ true → IsTrue (meets Whole z)
+pub natural_whole : (z : ℤ) → meets Natural z ≡ true → IsTrue (meets Whole z)
 natural_whole z e = (and_parts _ _ e).0
 
 each_fits : (count : ℕ) (ts : List Touch) → AreTouchesBelow count ts → list_all is_natural ts ≡ true → EachPosting count (postings ts)
@@ -108,7 +108,7 @@ posted_low count qs ts known low k e = elim (constrained_either qs (posts (store
 small : (low M w : ℕ) → IsRising low M (w ∷ []) → w ≤ M
 small low M w r = r.1
 
-natural_number : (n : ℕ) → n ≤ INFINITY → meets Natural (pos n) ≡ true
+pub natural_number : (n : ℕ) → n ≤ INFINITY → meets Natural (pos n) ≡ true
 natural_number n l = grind (arith, nat_tests)
 
 some_outside : (T : Family) → ((k : ℕ) → IsRising 0 INFINITY (T k)) → (ts : List Touch) → list_all is_natural ts ≡ false → Unifies (λ k. set_term (T k)) (touched (store_touches ts)) → ⊥
@@ -119,7 +119,7 @@ some_outside T rising (Value k z ∷ ts) e u =
     some_outside T rising ts (sym (ap (λ b. b && list_all is_natural ts) fits) ∙ e) u.1
 some_outside T rising (Same k j ∷ ts) e u = some_outside T rising ts e u.1
 
-pub outside_none : (qs : List Indexical) (ts : List Touch) → list_all is_natural ts ≡ false → HasNoModel (qs ++ posts (store_touches ts))
+pub outside_none : (qs : List Indexical) (ts : List Touch) → list_all is_natural ts ≡ false → HasNoModel INFINITY (qs ++ posts (store_touches ts))
 outside_none qs ts e T m =
     some_outside T m.closed.family.rising ts e
     (as_equations INFINITY T m.closed.family (store_touches ts) (λ k c. m.full k (named_right qs (posts (store_touches ts)) k c)) (posted_right (λ p. IsSubset (T p.target) (set_of INFINITY T p.range)) qs (posts (store_touches ts)) m.closed.posted))
@@ -145,8 +145,8 @@ goal_posted is r v as' ts e = map_twice is ∙ ap (map ranged) e ∙ ap (λ (l :
 pub goal_fits : (count : ℕ) (is : List Instance) (r : Range) (v : ℕ) (as' : List Arg) (ts : List Touch) → map posting is ≡ record { range = r; target = v; args = as' } ∷ postings ts → v < count → IsFrame count r as' → AreTouchesBelow count ts → list_all is_natural ts ≡ true → All (IsInstance count) is
 goal_fits count is r v as' ts e low frame touches natural = all_instances count is (record { range = r; target = v; args = as' } ∷ postings ts) e ((low, frame), each_fits count ts touches natural)
 
-pub goal_outside : (qs : List Indexical) (r : Range) (v : ℕ) (as' : List Arg) (ts : List Touch) → list_all is_natural ts ≡ false → HasNoModel (qs ++ goal_ranges r v as' ts)
-goal_outside qs r v as' ts e = subst HasNoModel (append_assoc qs (record { target = v; range = posted r as' } ∷ []) (posts (store_touches ts))) (outside_none (qs ++ record { target = v; range = posted r as' } ∷ []) ts e)
+pub goal_outside : (qs : List Indexical) (r : Range) (v : ℕ) (as' : List Arg) (ts : List Touch) → list_all is_natural ts ≡ false → HasNoModel INFINITY (qs ++ goal_ranges r v as' ts)
+goal_outside qs r v as' ts e = subst (HasNoModel INFINITY) (append_assoc qs (record { target = v; range = posted r as' } ∷ []) (posts (store_touches ts))) (outside_none (qs ++ record { target = v; range = posted r as' } ∷ []) ts e)
 
 -- and what they name
 pub goal_low : (count : ℕ) (qs : List Indexical) (r : Range) (v : ℕ) (as' : List Arg) (ts : List Touch) → ((k : ℕ) → has (constrained qs) k ≡ true → k < count) → v < count → is_accepted INFINITY r ≡ true → IsFrame count r as' → AreTouchesBelow count ts → (k : ℕ) → has (constrained (qs ++ goal_ranges r v as' ts)) k ≡ true → k < count
@@ -167,11 +167,11 @@ goal_low count qs r v as' ts known low accepted frame touches k e = elim (constr
 pub rows_posted : (is list : List Instance) (ts : List Touch) → map posting is ≡ map posting list ++ postings ts → posted_by is ≡ posted_by list ++ posts (store_touches ts)
 rows_posted is list ts e = map_twice is ∙ ap (map ranged) e ∙ map-append ranged (map posting list) (postings ts) ∙ ap (λ l. l ++ map ranged (postings ts)) (sym (map_twice list)) ∙ ap (λ l. posted_by list ++ l) (ranges_are ts)
 
-each_both : (count : ℕ) (ps qs : List Posting) → EachPosting count ps → EachPosting count qs → EachPosting count (ps ++ qs)
+pub each_both : (count : ℕ) (ps qs : List Posting) → EachPosting count ps → EachPosting count qs → EachPosting count (ps ++ qs)
 each_both count [] qs a b = b
 each_both count (p ∷ ps) qs a b = (a.0, each_both count ps qs a.1 b)
 
-each_listed : (count : ℕ) (is : List Instance) → All (IsInstance count) is → EachPosting count (map posting is)
+pub each_listed : (count : ℕ) (is : List Instance) → All (IsInstance count) is → EachPosting count (map posting is)
 each_listed count [] a = tt
 each_listed count (i ∷ is) a = (head_of (IsInstance count) i is a, each_listed count is (tail_of (IsInstance count) i is a))
 

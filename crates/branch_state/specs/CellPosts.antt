@@ -10,6 +10,7 @@ use Rattle.machine_frames.specs.CellRanges.{cells_offence, cells_range, Names, I
 use Rattle.heap_cells.specs.SeenTerms.{seen_term}
 use Rattle.range_code.specs.Frames.{family_of}
 use Rattle.branch_state.specs.CellNaming.{shown_slots}
+use Rattle.branch_state.specs.Bounding.{PostsBounds}
 use Rattle.branch_state.specs.States.{State, HasNoModel, IsSound, IsSoundBelow}
 use Rattle.branch_state.specs.declared.step.Step.{Step}
 use Rattle.branch_state.specs.declared.step.Step.TheVariants.{Kept, Failed, Fault}
@@ -22,7 +23,7 @@ term_in name s c = seen_term name s.heaps.now (family_of s.levels.current.sets) 
 abbrev pub slots_in : Naming → State → Range → List Cell → Substitution
 slots_in name s r cells = shown_slots name s.heaps.now s.levels.current.sets r cells
 
--- The goal has no offence, and its range is linked on the heap now. The store's ranges are to be qs then.
+-- The goal has no offence, and its range is linked on the heap now. The store's ranges are to be qs then, before the bounds of new variables.
 pub record IsCellsPosted (name : Naming) (old : State) (target : Cell) (cells : List Cell)
     (r : Range) (now : Cells) (qs : List Indexical) : Type 0 where
   pub fine : cells_offence (term_in name old target) (slots_in name old r cells) r ≡ None
@@ -36,10 +37,12 @@ pub record IsCellsPosted (name : Naming) (old : State) (target : Cell) (cells : 
 
 -- what the goal did, by these names of atoms
 abbrev pub PostsNamed : Naming → State → Cell → List Cell → Range → State → Step → Type 0
-PostsNamed name old target cells r new Kept = IsCellsPosted name old target cells r new.heaps.now
-    new.levels.current.posted × IsSound new
+PostsNamed name old target cells r new Kept = ((qs : List Indexical)
+    × IsCellsPosted name old target cells r new.heaps.now qs
+    × PostsBounds old.infinity old.levels.current qs new.levels.current) × IsSound new
 PostsNamed name old target cells r new Failed = ((qs : List Indexical)
-    × IsCellsPosted name old target cells r new.heaps.now qs × HasNoModel qs) × IsSoundBelow new
+    × IsCellsPosted name old target cells r new.heaps.now qs × HasNoModel old.infinity qs)
+    × IsSoundBelow new
 PostsNamed name old target cells r new (Fault f) = (cells_offence (term_in name old target)
     (slots_in name old r cells) r ≡ Some f) × (new ≡ old)
 

@@ -1,5 +1,6 @@
--- The ranges by which touches are posted.
-use Rattle.fd_language.specs.Range.{Range, Span, Dom, Param}
+-- The ranges by which touches and bounds are posted.
+use Rattle.std.specs.Prelude.{pos}
+use Rattle.fd_language.specs.Range.{Range, Span, Dom, Number, Param}
 
 -- a variable gets the integer of the parameter
 abbrev pub exact_range : Range
@@ -8,3 +9,7 @@ exact_range = Span (Param 0) (Param 0)
 -- a variable gets the values of another one
 abbrev pub same_range : Range
 same_range = Dom 0
+
+-- a variable gets the integer of the parameter as its greatest number
+abbrev pub bound_range : Range
+bound_range = Span (Number (pos 0)) (Param 0)

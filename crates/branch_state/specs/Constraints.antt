@@ -29,6 +29,7 @@ use Rattle.machine_frames.specs.SeenHeap.{heap_row}
 use Rattle.branch_state.specs.declared.step.Step.{Step}
 use Rattle.branch_state.specs.declared.step.Step.TheVariants.{Kept, Failed, Fault}
 use Rattle.branch_state.specs.Naming.{or_zero}
+use Rattle.branch_state.specs.Bounding.{PostsBounds}
 use Rattle.branch_state.specs.States.{State, HasNoModel, IsSound, IsSoundBelow}
 
 -- the row of the constraint, by the branch's heap and sets
@@ -36,7 +37,7 @@ abbrev pub row_of : List Name → State → ConstraintKind → Cell → Result E
 row_of names s kind c = heap_row INFINITY s.heaps.now (family_of s.levels.current.sets) kind
     (term_of (full names) s.heaps.now c)
 
--- The constraint's row is linked on the heap now. The store's ranges are to be qs then.
+-- The constraint's row is linked on the heap now. The store's ranges are to be qs then, before the bounds of new variables.
 pub record IsConstrained (names : List Name) (old : State) (kind : ConstraintKind) (c : Cell)
     (now : Cells) (qs : List Indexical) : Type 0 where
   pub row : Expansion
@@ -50,10 +51,12 @@ pub record IsConstrained (names : List Name) (old : State) (kind : ConstraintKin
 
 -- what the constraint did
 abbrev pub Constrains : List Name → State → ConstraintKind → Cell → State → Step → Type 0
-Constrains names old kind c new Kept = IsConstrained names old kind c new.heaps.now
-    new.levels.current.posted × IsSound new
+Constrains names old kind c new Kept = ((qs : List Indexical)
+    × IsConstrained names old kind c new.heaps.now qs
+    × PostsBounds old.infinity old.levels.current qs new.levels.current) × IsSound new
 Constrains names old kind c new Failed = ((qs : List Indexical)
-    × IsConstrained names old kind c new.heaps.now qs × HasNoModel qs) × IsSoundBelow new
+    × IsConstrained names old kind c new.heaps.now qs × HasNoModel old.infinity qs)
+    × IsSoundBelow new
 Constrains names old kind c new (Fault f) = (row_of names old kind c ≡ Err f) × (new ≡ old)
 
 -- the variables that ranges name

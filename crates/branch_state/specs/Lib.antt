@@ -12,3 +12,4 @@ pub mod LinkedRows
 pub mod CellNaming
 pub mod CellPosts
 pub mod OpenSets
+pub mod Bounding

@@ -1,5 +1,5 @@
 -- A branch as callers see it: heaps of cells with levels of a store, in pairs.
-use Rattle.std.specs.Prelude.{◌≡◌, ℕ, ◌<◌, true, false, List, [], ◌∷◌, length, drop, Option, Some}
+use Rattle.std.specs.Prelude.{◌≡◌, ℕ, ◌<◌, ◌≤◌, true, false, List, [], ◌∷◌, length, drop, Option, Some}
 use Rattle.fd_language.specs.declared.TheConstants.{INFINITY}
 use Rattle.fd_language.specs.Family.{Family, has, IsInside}
 use Rattle.fd_language.specs.Range.{Indexical}
@@ -11,50 +11,63 @@ use Rattle.heap_cells.specs.Atoms.{IsAtomBelow, HasAtomsBelow}
 use Rattle.heap_cells.specs.Cells.{Cells, no_cells, Heaps, with_mark, IsOf}
 use Rattle.heap_cells.specs.Valid.{IsHeap}
 use Rattle.range_code.specs.Frames.{family_of}
+use Rattle.machine_frames.specs.Bounding.{IsBounded}
 use Rattle.machine_frames.specs.Environments.{cell_at}
 use Rattle.machine_frames.specs.Frames.{link_in}
 
--- how many atoms cells may name, the heaps, and the levels of the store
+-- how many atoms cells may name, the greatest number that a variable may have, the heaps, and the levels of the store
 pub record State : Type 0 where
   pub atoms : ℕ
+  pub infinity : ℕ
   pub heaps : Heaps
   pub levels : Levels
 
--- The sets are the greatest model of what is posted.
-pub record IsSettled (l : Level) : Type 0 where
-  pub model : IsModel INFINITY INFINITY [] l.posted (family_of l.sets)
-  pub most : (R : Family) → IsModel INFINITY INFINITY [] l.posted R → IsInside R (family_of l.sets)
+-- Where no variable has a number beyond N, the sets are the greatest model of what is posted.
+pub record IsSettled (N : ℕ) (l : Level) : Type 0 where
+  pub model : IsModel INFINITY N [] l.posted (family_of l.sets)
+  pub most : (R : Family) → IsModel INFINITY N [] l.posted R → IsInside R (family_of l.sets)
 
-abbrev pub HasNoModel : List Indexical → Type 0
-HasNoModel ps = (T : Family) → IsModel INFINITY INFINITY [] ps T → ⊥
+abbrev pub HasNoModel : ℕ → List Indexical → Type 0
+HasNoModel N ps = (T : Family) → IsModel INFINITY N [] ps T → ⊥
 
--- A heap and a level of the store belong together: each variable of the store that the heap has is the level's, and that of one heap's variable alone. What is posted names only the level's variables, and it holds.
-pub record IsPair (atoms : ℕ) (h : Cells) (l : Level) : Type 0 where
+-- Unless a variable may have each number of the universe, N is posted as the bound of each variable of the level.
+abbrev pub HasBounds : ℕ → Level → Type 0
+HasBounds N l = (k : ℕ) → k < length l.sets → (N ≡ INFINITY → ⊥) → IsBounded N l.posted k
+
+-- A heap and a level of the store belong together: each variable of the store that the heap has is the level's, and that of one heap's variable alone. What is posted names only the level's variables, bounds each of them, and it holds.
+pub record IsPair (atoms N : ℕ) (h : Cells) (l : Level) : Type 0 where
   pub valid : IsHeap h
   pub names : HasAtomsBelow atoms h
   pub linked : (c k : ℕ) → link_in h c ≡ Some k → k < length l.sets
   pub one : (c d k : ℕ) → link_in h c ≡ Some k → link_in h d ≡ Some k → c ≡ d
   pub posted : (k : ℕ) → has (constrained l.posted) k ≡ true → k < length l.sets
+  pub bounded : HasBounds N l
   pub live : l.failed ≡ false
-  pub settled : IsSettled l
+  pub settled : IsSettled N l
 
-abbrev pub ArePairs : ℕ → List Cells → List Level → Type 0
-ArePairs atoms [] [] = Unit {0}
-ArePairs atoms (h ∷ hs) (l ∷ ls) = IsPair atoms h l × ArePairs atoms hs ls
-ArePairs atoms _ _ = ⊥
+abbrev pub ArePairs : ℕ → ℕ → List Cells → List Level → Type 0
+ArePairs atoms N [] [] = Unit {0}
+ArePairs atoms N (h ∷ hs) (l ∷ ls) = IsPair atoms N h l × ArePairs atoms N hs ls
+ArePairs atoms N _ _ = ⊥
+
+-- a variable may have several numbers, and none beyond those of the universe
+abbrev pub IsGreatest : ℕ → Type 0
+IsGreatest N = (1 ≤ N) × (N ≤ INFINITY)
 
 -- what can be given back is in order, and memory wasn't wanting
 pub record IsSoundBelow (s : State) : Type 0 where
+  pub greatest : IsGreatest s.infinity
   pub unspent : s.levels.spent ≡ false
   pub marked : 0 < length s.heaps.below
-  pub below : ArePairs s.atoms s.heaps.below s.levels.below
+  pub below : ArePairs s.atoms s.infinity s.heaps.below s.levels.below
 
 -- and so is the current pair
 pub record IsSound (s : State) : Type 0 where
+  pub greatest : IsGreatest s.infinity
   pub unspent : s.levels.spent ≡ false
   pub marked : 0 < length s.heaps.below
-  pub below : ArePairs s.atoms s.heaps.below s.levels.below
-  pub now : IsPair s.atoms s.heaps.now s.levels.current
+  pub below : ArePairs s.atoms s.infinity s.heaps.below s.levels.below
+  pub now : IsPair s.atoms s.infinity s.heaps.now s.levels.current
 
 -- no variables, and nothing is posted
 abbrev pub no_level : Level
@@ -69,8 +82,8 @@ abbrev pub first_levels : Levels
 first_levels = record { current = no_level; below = no_level ∷ []; spent = false }
 
 -- a new branch, with an empty pair below it
-abbrev pub first_state : ℕ → State
-first_state atoms = record { atoms = atoms; heaps = first_heaps; levels = first_levels }
+abbrev pub first_state : ℕ → ℕ → State
+first_state atoms infinity = record { atoms = atoms; infinity = infinity; heaps = first_heaps; levels = first_levels }
 
 -- another current heap
 abbrev pub with_heap : State → Cells → State
@@ -93,12 +106,14 @@ without_pairs s n = record s {
 -- the pair below is the current one now
 pub record IsUndone (old new : State) : Type 0 where
   pub atoms : new.atoms ≡ old.atoms
+  pub infinity : new.infinity ≡ old.infinity
   pub heaps : old.heaps.below ≡ new.heaps.now ∷ new.heaps.below
   pub levels : old.levels.below ≡ new.levels.current ∷ new.levels.below
 
 -- nothing but the current pair is another one
 pub record IsSameBelow (old new : State) : Type 0 where
   pub atoms : new.atoms ≡ old.atoms
+  pub infinity : new.infinity ≡ old.infinity
   pub heaps : new.heaps.below ≡ old.heaps.below
   pub levels : new.levels.below ≡ old.levels.below
 

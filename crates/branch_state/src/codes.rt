@@ -1,9 +1,9 @@
-//! The ranges by which touches are posted.
+//! The ranges by which touches and bounds are posted.
 
 ghost use Rattle.std.specs.Prelude.{◌≡◌, IfOk, IsTrue};
 ghost use Rattle.fd_language.specs.declared.TheConstants.{INFINITY};
 ghost use Rattle.fd_language.specs.RangeVerdict.{is_accepted};
-ghost use Rattle.branch_state.specs.Codes.{exact_range, same_range};
+ghost use Rattle.branch_state.specs.Codes.{exact_range, same_range, bound_range};
 
 use fd_language::{FlatRange, NoMemory, RangeNode};
 use monotone_check::Checked;
@@ -26,6 +26,16 @@ pub(crate) fn same_code(alloc: Global) -> Result<Rc<RangeCode>, NoMemory>
     ensures { IfOk result (λ code. code.value ≡ same_range) }
 {
     let nodes = vec![in alloc; RangeNode::Dom(0)]?;
+    let range = FlatRange::from_nodes(nodes).unwrap();
+    let checked = Checked::from_accepted(range);
+    Ok(Rc::new(alloc, compile_range(alloc, &checked)?)?)
+}
+
+/// The code of the range `0..P`, by which a variable of the store gets its greatest number.
+pub(crate) fn bound_code(alloc: Global) -> Result<Rc<RangeCode>, NoMemory>
+    ensures { IfOk result (λ code. code.value ≡ bound_range) }
+{
+    let nodes = vec![in alloc; RangeNode::Int(0), RangeNode::Param(0), RangeNode::Span]?;
     let range = FlatRange::from_nodes(nodes).unwrap();
     let checked = Checked::from_accepted(range);
     Ok(Rc::new(alloc, compile_range(alloc, &checked)?)?)

@@ -1,6 +1,7 @@
 //! A branch of a search: a heap of cells and a store of domains, marked and taken back together.
 #![tactic(auto)]
 
+mod bounds;
 mod cells;
 mod codes;
 mod constraints;

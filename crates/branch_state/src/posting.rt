@@ -1,10 +1,12 @@
 //! What is posted for touches.
 
-ghost use Rattle.std.specs.Prelude.{◌≡◌, ◌<◌, ◌++◌, ◌∷◌, [], false, map, length, All, IfOk, OnOk};
+ghost use Rattle.std.specs.Prelude.{◌≡◌, ◌<◌, ◌≤◌, ◌-◌, ◌++◌, ◌∷◌, [], false, map, length, All, IfOk, OnOk};
 ghost use Rattle.std.specs.List.{list_all};
 ghost use Rattle.propagate_queue.specs.Instances.{posting, posted_by, IsInstance};
 ghost use Rattle.unify_core.specs.Outcome.{IfTrue, IfFalse};
-ghost use Rattle.branch_state.specs.Codes.{exact_range, same_range};
+ghost use Rattle.fd_language.specs.declared.TheConstants.{INFINITY};
+ghost use Rattle.branch_state.specs.Bounding.{new_bounds};
+ghost use Rattle.branch_state.specs.Codes.{exact_range, same_range, bound_range};
 ghost use Rattle.range_code.specs.Frames.{IsFrame};
 ghost use Rattle.branch_state.specs.Naming.{goal_ranges};
 ghost use Rattle.branch_state.specs.Posting.{is_natural as natural, touch_postings, postings};
@@ -13,6 +15,7 @@ ghost use Rattle.branch_state.specs.Steps.{AreTouchesBelow};
 ghost use Rattle.machine_relation.specs.Store.{posts};
 ghost use Rattle.machine_frames.specs.Frames.{store_touches};
 
+use crate::bounds::{NewVars, add_new_bounds};
 use crate::constraints::Listed;
 use crate::naming::Prepared;
 use fd_language::NoMemory;
@@ -40,7 +43,7 @@ fn are_natural(touches: &[Touch]) -> bool
 }
 
 /// The range with one argument, on a target.
-fn instance(
+pub(crate) fn instance(
     alloc: Global,
     code: &Rc<RangeCode>,
     target: usize,
@@ -108,8 +111,8 @@ pub(crate) fn post_list<A: Agenda + Drop>(
     ensures posted { OnOk result (store.new.current.posted
         ≡ store.old.current.posted ++ posted_by list.items) }
     ensures kept { IfTrue result ((store.new.current.failed ≡ false)
-        × IsSettled store.new.current) }
-    ensures none { IfFalse result (HasNoModel store.new.current.posted) }
+        × IsSettled INFINITY store.new.current) }
+    ensures none { IfFalse result (HasNoModel INFINITY store.new.current.posted) }
     ensures vars { OnOk result (length store.new.current.sets ≡ length store.old.current.sets) }
     ensures below { store.new.below ≡ store.old.below }
     ensures unspent { OnOk result (store.new.spent ≡ false) }
@@ -118,6 +121,33 @@ pub(crate) fn post_list<A: Agenda + Drop>(
         Posted::Kept => Ok(true),
         Posted::Failed => Ok(false),
     }
+}
+
+/// Posts the list, and behind it the bounds of new variables. Whether all that is posted has a model.
+pub(crate) fn post_bounded<A: Agenda + Drop>(
+    alloc: Global,
+    store: &mut Store<A>,
+    list: Vec<Instance>,
+    n: &mut Activations,
+    bound: &Rc<RangeCode>,
+    made: NewVars,
+) -> Result<bool, NoMemory>
+    requires bound { bound.now.value ≡ bound_range }
+    requires list { All (IsInstance (length store.old.current.sets)) list.items }
+    requires greatest { made.infinity ≤ INFINITY }
+    ensures posted { OnOk result (store.new.current.posted
+        ≡ (store.old.current.posted ++ posted_by list.items)
+        ++ new_bounds made.infinity made.first (length store.old.current.sets - made.first)) }
+    ensures kept { IfTrue result ((store.new.current.failed ≡ false)
+        × IsSettled INFINITY store.new.current) }
+    ensures none { IfFalse result (HasNoModel INFINITY store.new.current.posted) }
+    ensures vars { OnOk result (length store.new.current.sets ≡ length store.old.current.sets) }
+    ensures below { store.new.below ≡ store.old.below }
+    ensures unspent { OnOk result (store.new.spent ≡ false) }
+{
+    let mut list = list;
+    add_new_bounds(alloc, bound, made, store.vars(), &mut list)?;
+    post_list(store, list, n)
 }
 
 /// Posts what touches say. Whether all that is posted then has a model.
@@ -137,8 +167,8 @@ pub(crate) fn post_all<A: Agenda + Drop>(
     ensures posted { IfTrue result (store.new.current.posted
         ≡ store.old.current.posted ++ posts (store_touches touches.now)) }
     ensures kept { IfTrue result ((store.new.current.failed ≡ false)
-        × IsSettled store.new.current) }
-    ensures none { IfFalse result (HasNoModel
+        × IsSettled INFINITY store.new.current) }
+    ensures none { IfFalse result (HasNoModel INFINITY
         (store.old.current.posted ++ posts (store_touches touches.now))) }
     ensures vars { OnOk result (length store.new.current.sets ≡ length store.old.current.sets) }
     ensures below { store.new.below ≡ store.old.below }
@@ -152,27 +182,33 @@ pub(crate) fn post_all<A: Agenda + Drop>(
     post_list(store, list, n)
 }
 
-/// Posts the range of a goal that is prepared, and gives fresh variables their integers. Whether all that is posted then has a model.
+/// Posts the range of a goal that is prepared, gives fresh variables their integers, and bounds new ones. Whether all that is posted then
+/// has a model.
 pub(crate) fn post_prepared<A: Agenda + Drop>(
     alloc: Global,
     store: &mut Store<A>,
     n: &mut Activations,
-    codes: (&Rc<RangeCode>, &Rc<RangeCode>),
+    codes: (&Rc<RangeCode>, &Rc<RangeCode>, &Rc<RangeCode>),
     code: &Rc<RangeCode>,
     prepared: Prepared,
+    made: NewVars,
 ) -> Result<bool, NoMemory>
     requires exact { codes.0.now.value ≡ exact_range }
     requires same { codes.1.now.value ≡ same_range }
+    requires bound { codes.2.now.value ≡ bound_range }
+    requires greatest { made.infinity ≤ INFINITY }
     requires target { prepared.target < length store.old.current.sets }
     requires frame { IsFrame (length store.old.current.sets) code.now.value prepared.args.items }
     requires fixed { AreTouchesBelow (length store.old.current.sets) prepared.fixed.items }
     requires unspent { store.old.spent ≡ false }
-    ensures posted { IfTrue result (store.new.current.posted ≡ store.old.current.posted
-        ++ goal_ranges code.now.value prepared.target prepared.args.items prepared.fixed.items) }
+    ensures posted { IfTrue result (store.new.current.posted ≡ (store.old.current.posted
+        ++ goal_ranges code.now.value prepared.target prepared.args.items prepared.fixed.items)
+        ++ new_bounds made.infinity made.first (length store.old.current.sets - made.first)) }
     ensures kept { IfTrue result ((store.new.current.failed ≡ false)
-        × IsSettled store.new.current) }
-    ensures none { IfFalse result (HasNoModel (store.old.current.posted
-        ++ goal_ranges code.now.value prepared.target prepared.args.items prepared.fixed.items)) }
+        × IsSettled INFINITY store.new.current) }
+    ensures none { IfFalse result (HasNoModel INFINITY ((store.old.current.posted
+        ++ goal_ranges code.now.value prepared.target prepared.args.items prepared.fixed.items)
+        ++ new_bounds made.infinity made.first (length store.old.current.sets - made.first))) }
     ensures vars { OnOk result (length store.new.current.sets ≡ length store.old.current.sets) }
     ensures below { store.new.below ≡ store.old.below }
     ensures unspent { OnOk result (store.new.spent ≡ false) }
@@ -192,28 +228,33 @@ pub(crate) fn post_prepared<A: Agenda + Drop>(
         args,
     })?;
     add_touches(alloc, codes.0, codes.1, &fixed, &mut list)?;
-    post_list(store, list, n)
+    post_bounded(alloc, store, list, n, codes.2, made)
 }
 
-/// Posts the ranges of a constraint, and gives variables their integers. Whether all that is posted then has a model.
+/// Posts the ranges of a constraint, gives variables their integers, and bounds new ones. Whether all that is posted then has a model.
 pub(crate) fn post_rows<A: Agenda + Drop>(
     alloc: Global,
     store: &mut Store<A>,
     n: &mut Activations,
-    codes: (&Rc<RangeCode>, &Rc<RangeCode>),
+    codes: (&Rc<RangeCode>, &Rc<RangeCode>, &Rc<RangeCode>),
     listed: Listed,
+    made: NewVars,
 ) -> Result<bool, NoMemory>
     requires exact { codes.0.now.value ≡ exact_range }
     requires same { codes.1.now.value ≡ same_range }
+    requires bound { codes.2.now.value ≡ bound_range }
+    requires greatest { made.infinity ≤ INFINITY }
     requires list { All (IsInstance (length store.old.current.sets)) listed.list.items }
     requires fixed { AreTouchesBelow (length store.old.current.sets) listed.fixed.items }
     requires unspent { store.old.spent ≡ false }
-    ensures posted { IfTrue result (store.new.current.posted ≡ (store.old.current.posted
-        ++ posted_by listed.list.items) ++ posts (store_touches listed.fixed.items)) }
+    ensures posted { IfTrue result (store.new.current.posted ≡ ((store.old.current.posted
+        ++ posted_by listed.list.items) ++ posts (store_touches listed.fixed.items))
+        ++ new_bounds made.infinity made.first (length store.old.current.sets - made.first)) }
     ensures kept { IfTrue result ((store.new.current.failed ≡ false)
-        × IsSettled store.new.current) }
-    ensures none { IfFalse result (HasNoModel ((store.old.current.posted
-        ++ posted_by listed.list.items) ++ posts (store_touches listed.fixed.items))) }
+        × IsSettled INFINITY store.new.current) }
+    ensures none { IfFalse result (HasNoModel INFINITY (((store.old.current.posted
+        ++ posted_by listed.list.items) ++ posts (store_touches listed.fixed.items))
+        ++ new_bounds made.infinity made.first (length store.old.current.sets - made.first))) }
     ensures vars { OnOk result (length store.new.current.sets ≡ length store.old.current.sets) }
     ensures below { store.new.below ≡ store.old.below }
     ensures unspent { OnOk result (store.new.spent ≡ false) }
@@ -224,5 +265,5 @@ pub(crate) fn post_rows<A: Agenda + Drop>(
     }
     let mut list = list;
     add_touches(alloc, codes.0, codes.1, &fixed, &mut list)?;
-    post_list(store, list, n)
+    post_bounded(alloc, store, list, n, codes.2, made)
 }

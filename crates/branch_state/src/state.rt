@@ -1,6 +1,6 @@
 //! A branch: the current heap and level of the store, and the pairs below.
 
-ghost use Rattle.std.specs.Prelude.{◌≡◌, ◌<◌, ◌≤◌, ◌+◌, All, IfOk, OnOk, MatchOption, Some, None, length};
+ghost use Rattle.std.specs.Prelude.{◌≡◌, ◌<◌, ◌≤◌, ◌+◌, ◌++◌, All, IfOk, OnOk, MatchOption, Some, None, length};
 ghost use Rattle.fd_language.specs.declared.TheConstants.{INFINITY};
 ghost use Rattle.fd_model.specs.BestPosted.{IsCostOf, SoughtValues};
 ghost use Rattle.bound_search.specs.Members.{AreOwn, member_of, members_of};
@@ -8,7 +8,8 @@ ghost use Rattle.heap_cells.specs.declared.Cell.TheVariants as cell;
 ghost use Rattle.heap_cells.specs.Cells.{free, slot_at, with_new_slot};
 ghost use Rattle.unify_core.specs.Outcome.{IfTrue, IfFalse};
 ghost use Rattle.unify_core.specs.Unifications.{CannotUnify, IsEqualled};
-ghost use Rattle.branch_state.specs.States.{first_heaps, first_levels, first_state, with_heap, with_pair, without_pairs, HasNoModel, IsSound, IsSoundBelow, IsSameBelow, IsUndone, IsCell};
+ghost use Rattle.branch_state.specs.States.{first_heaps, first_levels, first_state, with_heap, with_pair, without_pairs, HasNoModel, IsGreatest, IsSound, IsSoundBelow, IsSameBelow, IsUndone, IsCell};
+ghost use Rattle.branch_state.specs.Bounding.{new_bounds};
 ghost use Rattle.branch_state.specs.Steps.{AreTouchesBelow, AreTouchesOf, posted_with};
 ghost use Rattle.branch_state.specs.Compounds.{IsMade, IsCompoundOf, BindsCompound};
 ghost use Rattle.branch_state.specs.Constraints.{Constrains};
@@ -16,12 +17,13 @@ ghost use Rattle.branch_state.specs.Showing.{IsShown};
 ghost use Rattle.branch_state.specs.CellPosts.{PostsCells};
 ghost use Rattle.range_code.specs.Slots.{slots_of};
 
+use crate::bounds::NewVars;
 use crate::cells::prepare_cells;
-use crate::codes::{exact_code, know_code, same_code};
+use crate::codes::{bound_code, exact_code, know_code, same_code};
 use crate::constraints::{count_variables, expand_goal, fault_of, prepare_row};
 use crate::heap_facts::know;
 use crate::look::{find_cells_offence, look_cell};
-use crate::open_vars::add_open;
+use crate::open_vars::add_bounded;
 use crate::posting::{post_all, post_prepared, post_rows};
 use crate::shown::show_cells;
 use crate::step::{Step, step_of};
@@ -47,11 +49,13 @@ use unify_core::{Touch, are_others, unify_into};
 pub struct BranchState<A: Agenda + Drop> {
     alloc: Global,
     atoms: usize,
+    infinity: u32,
     heap: Heap,
     store: Store<A>,
     activations: Activations,
     exact: Rc<RangeCode>,
     same: Rc<RangeCode>,
+    bound: Rc<RangeCode>,
 }
 
 impl<A: Agenda + Drop> Model for BranchState<A> {
@@ -65,11 +69,17 @@ impl<A: Agenda + Drop> Model for BranchState<A> {
     ghost coded = { Prim.hlevel (codes, levels_coded) };
 
     ghost use Rattle.std.specs.Prelude.{◌≡◌};
-    ghost use Rattle.branch_state.specs.Codes.{exact_range, same_range};
+    ghost use Rattle.branch_state.specs.Codes.{exact_range, same_range, bound_range};
 
-    ghost view = { λ s. record { atoms = s.atoms; heaps = s.heap; levels = s.store } };
+    ghost view = { λ s. record {
+      atoms = s.atoms;
+      infinity = s.infinity;
+      heaps = s.heap;
+      levels = s.store;
+    } };
 
-    ghost invariant = { λ s. (s.exact.value ≡ exact_range) × (s.same.value ≡ same_range) };
+    ghost invariant = { λ s. (s.exact.value ≡ exact_range) × (s.same.value ≡ same_range)
+        × (s.bound.value ≡ bound_range) };
 }
 
 /// An empty heap, and an equal one below it.
@@ -91,10 +101,16 @@ fn first_store<A: Agenda + Drop>(alloc: Global, agenda: A) -> Result<Store<A>, N
 }
 
 impl<A: Agenda + Drop> BranchState<A> {
-    /// A branch with no variables, whose cells name the first `atoms` atoms of a pool, and an equal one below it. The error is want of
-    /// memory; the agenda is gone then.
-    pub fn new(alloc: Global, agenda: A, atoms: usize) -> Result<BranchState<A>, NoMemory>
-        ensures first { IfOk result (λ s. s ≡ first_state atoms) }
+    /// A branch with no variables, whose cells name the first `atoms` atoms of a pool, and an equal one below it. No variable of the store
+    /// may have a number beyond `infinity`. The error is want of memory; the agenda is gone then.
+    pub fn new(
+        alloc: Global,
+        agenda: A,
+        atoms: usize,
+        infinity: u32,
+    ) -> Result<BranchState<A>, NoMemory>
+        requires { IsGreatest infinity }
+        ensures first { IfOk result (λ s. s ≡ first_state atoms infinity) }
         ensures sound { IfOk result IsSound }
     {
         let heap = first_heap(alloc)?;
@@ -103,11 +119,13 @@ impl<A: Agenda + Drop> BranchState<A> {
         Ok(BranchState {
             alloc,
             atoms,
+            infinity,
             heap,
             store,
             activations: Activations::new(),
             exact: exact_code(alloc)?,
             same: same_code(alloc)?,
+            bound: bound_code(alloc)?,
         })
     }
 
@@ -117,6 +135,14 @@ impl<A: Agenda + Drop> BranchState<A> {
         ensures { result.now ≡ self.now.heaps }
     {
         &self.heap
+    }
+
+    /// The greatest number that a variable of the store may have. No memory.
+    #[inline]
+    pub fn infinity(&self) -> u32
+        ensures { result ≡ self.now.infinity }
+    {
+        self.infinity
     }
 
     /// The store. No memory.
@@ -273,7 +299,8 @@ impl<A: Agenda + Drop> BranchState<A> {
         requires touches { AreTouchesBelow (length self.old.levels.current.sets) touches.now }
         ensures posted { IfTrue result (self.new.levels.current.posted
             ≡ posted_with self.old touches.now) }
-        ensures none { IfFalse result (HasNoModel (posted_with self.old touches.now)) }
+        ensures none { IfFalse result (HasNoModel INFINITY
+            (posted_with self.old touches.now)) }
         ensures heap { self.new.heaps ≡ self.old.heaps }
         ensures same { IsSameBelow self.old self.new }
         ensures sound { IfTrue result (IsSound self.new) }
@@ -313,6 +340,10 @@ impl<A: Agenda + Drop> BranchState<A> {
         if let Some(fault) = offence {
             return Ok(Step::Fault(fault));
         }
+        let made = NewVars {
+            first: self.store.vars(),
+            infinity: self.infinity,
+        };
         let prepared = prepare_cells(
             self.alloc,
             &mut self.heap,
@@ -325,9 +356,10 @@ impl<A: Agenda + Drop> BranchState<A> {
             self.alloc,
             &mut self.store,
             &mut self.activations,
-            (&self.exact, &self.same),
+            (&self.exact, &self.same, &self.bound),
             code,
             prepared,
+            made,
         )?;
         Ok(step_of(kept))
     }
@@ -352,6 +384,10 @@ impl<A: Agenda + Drop> BranchState<A> {
             Ok(expansion) => expansion,
             Err(fault) => return Ok(Step::Fault(fault_of(fault)?)),
         };
+        let made = NewVars {
+            first: self.store.vars(),
+            infinity: self.infinity,
+        };
         let listed = prepare_row(
             self.alloc,
             &mut self.heap,
@@ -364,13 +400,14 @@ impl<A: Agenda + Drop> BranchState<A> {
             self.alloc,
             &mut self.store,
             &mut self.activations,
-            (&self.exact, &self.same),
+            (&self.exact, &self.same, &self.bound),
             listed,
+            made,
         )?;
         Ok(step_of(kept))
     }
 
-    /// What `bound_search::best` finds for these members, of which so many are variables behind the store's own, which may have any value:
+    /// What `bound_search::best` finds for these members, of which so many are variables behind the store's own, which are bounded alone:
     /// the values of the list's variables in the first best leaf of its labelling, and `None` where there is no leaf. All is then as
     /// before. After an error the branch isn't used any more.
     pub fn best_leaf(
@@ -386,13 +423,26 @@ impl<A: Agenda + Drop> BranchState<A> {
         requires cost { IsCostOf (members_of list.now) (member_of cost) }
         ensures found { IfOk result (λ found. MatchOption found
             (SoughtValues INFINITY order (members_of list.now) (member_of cost) least
-            self.old.levels.current.posted None)
+            (self.old.levels.current.posted ++ new_bounds self.old.infinity
+            (length self.old.levels.current.sets) added) None)
             (λ values. SoughtValues INFINITY order (members_of list.now) (member_of cost) least
-            self.old.levels.current.posted (Some values.items))) }
+            (self.old.levels.current.posted ++ new_bounds self.old.infinity
+            (length self.old.levels.current.sets) added) (Some values.items))) }
         ensures same { OnOk result (self.new ≡ self.old) }
     {
         self.store.push_mark()?;
-        add_open(&mut self.store, added)?;
+        let kept = add_bounded(
+            self.alloc,
+            &mut self.store,
+            &mut self.activations,
+            &self.bound,
+            self.infinity,
+            added,
+        )?;
+        if !kept {
+            self.store.pop_mark();
+            return Ok(None);
+        }
         let found = best(
             self.alloc,
             &mut self.store,

@@ -166,9 +166,9 @@ module _ (area : Area) (s : branch.State) (at : ℕ) (c : Contents) (safe : IsSa
 
     pub term_runs : KeepsRunning area s at c s place c
     term_runs = tries area s at c (SwitchOnTerm v k i t) tt f place (λ marks task naming e b kids m.
-        subst (λ to. IsTrying INFINITY INFINITY marks area task.query.shown task.name s.heaps.now s.levels.current.posted to e (registers_of c) (stack_of c) b kids)
+        subst (λ to. IsTrying INFINITY s.infinity marks area task.query.shown task.name s.heaps.now s.levels.current.posted to e (registers_of c) (stack_of c) b kids)
         (ap (λ sh. by_shape sh v k i t) (shape_is task.name m.shape m.shows) ∙ by_seen task.name x v k i t)
-        (step_switch INFINITY INFINITY marks area task.query.shown task.name s.heaps.now s.levels.current.posted at e (registers_of c) (stack_of c) b kids m v k i t f))
+        (step_switch INFINITY s.infinity marks area task.query.shown task.name s.heaps.now s.levels.current.posted at e (registers_of c) (stack_of c) b kids m v k i t f))
 
   -- a table decides
   module _ (i : Code) (n : ℕ) (f : Holds area at i) (is : plain_effect area.entries i safe.here.reached.state ≡ when (has safe.here.reached.state.regs 1) safe.here.reached.state) (leads : named area i ≡ arms (table_at area n)) (low : n < length area.tables) where
@@ -188,7 +188,7 @@ module _ (area : Area) (s : branch.State) (at : ℕ) (c : Contents) (safe : IsSa
     table_query Back r = tt
 
     abbrev Trying : List ℕ → Task → ℕ → Entry → Branch → List Branch → Type 0
-    Trying marks task to e b kids = IsTrying INFINITY INFINITY marks area task.query.shown task.name s.heaps.now s.levels.current.posted to e (registers_of c) (stack_of c) b kids
+    Trying marks task to e b kids = IsTrying INFINITY s.infinity marks area task.query.shown task.name s.heaps.now s.levels.current.posted to e (registers_of c) (stack_of c) b kids
 
     own : All (λ row. IsKey area row.0) (table_at area n)
     own = safe.verified.keys n [] low
@@ -207,13 +207,13 @@ module _ (area : Area) (s : branch.State) (at : ℕ) (c : Contents) (safe : IsSa
   Switched rows w = IsSafeThen area s c w × RunsThen area s at c s c w × (work_then area c w < work_at area at c) × KeepsQueryThen area at c c w
 
   pub constant_switched : (t : ℕ) → Holds area at (SwitchOnConstant t) → (w : Went) → Finds x (table_at area t) w → Switched (table_at area t) w
-  constant_switched t holds w found = table_all (SwitchOnConstant t) t holds refl refl (safe.verified.there at (SwitchOnConstant t) holds).0 tt (λ marks task e b kids m. step_constants INFINITY INFINITY marks area task.query.shown task.name s.heaps.now s.levels.current.posted at e (registers_of c) (stack_of c) b kids m t holds) (table_at area t) refl w found
+  constant_switched t holds w found = table_all (SwitchOnConstant t) t holds refl refl (safe.verified.there at (SwitchOnConstant t) holds).0 tt (λ marks task e b kids m. step_constants INFINITY s.infinity marks area task.query.shown task.name s.heaps.now s.levels.current.posted at e (registers_of c) (stack_of c) b kids m t holds) (table_at area t) refl w found
 
   pub integer_switched : (t : ℕ) → Holds area at (SwitchOnInteger t) → (w : Went) → Finds x (table_at area t) w → Switched (table_at area t) w
-  integer_switched t holds w found = table_all (SwitchOnInteger t) t holds refl refl (safe.verified.there at (SwitchOnInteger t) holds).0 tt (λ marks task e b kids m. step_integers INFINITY INFINITY marks area task.query.shown task.name s.heaps.now s.levels.current.posted at e (registers_of c) (stack_of c) b kids m t holds) (table_at area t) refl w found
+  integer_switched t holds w found = table_all (SwitchOnInteger t) t holds refl refl (safe.verified.there at (SwitchOnInteger t) holds).0 tt (λ marks task e b kids m. step_integers INFINITY s.infinity marks area task.query.shown task.name s.heaps.now s.levels.current.posted at e (registers_of c) (stack_of c) b kids m t holds) (table_at area t) refl w found
 
   pub structure_switched : (t : ℕ) → Holds area at (SwitchOnStructure t) → (w : Went) → Finds x (table_at area t) w → Switched (table_at area t) w
-  structure_switched t holds w found = table_all (SwitchOnStructure t) t holds refl refl (safe.verified.there at (SwitchOnStructure t) holds).0 tt (λ marks task e b kids m. step_structures INFINITY INFINITY marks area task.query.shown task.name s.heaps.now s.levels.current.posted at e (registers_of c) (stack_of c) b kids m t holds) (table_at area t) refl w found
+  structure_switched t holds w found = table_all (SwitchOnStructure t) t holds refl refl (safe.verified.there at (SwitchOnStructure t) holds).0 tt (λ marks task e b kids m. step_structures INFINITY s.infinity marks area task.query.shown task.name s.heaps.now s.levels.current.posted at e (registers_of c) (stack_of c) b kids m t holds) (table_at area t) refl w found
 
 -- a switch finds something in the first register
 pub first_there : (area : Area) (s : branch.State) (at : ℕ) (c : Contents) (safe : IsSafe area s at 0 c) (i : Code) → Holds area at i → plain_effect area.entries i safe.here.reached.state ≡ when (has safe.here.reached.state.regs 1) safe.here.reached.state → IsSet c.registers 1

@@ -72,29 +72,29 @@ module _ (name : Naming) (apart : IsOneToOne name) (h : Cells) (valid : IsHeap h
 -- ---- a clause's branch
 
 -- at the place that asks
-module _ (area : Area) (s : branch.State) (at : ℕ) (c : Contents) (safe : IsSafe area s at 0 c) (d : Cell) (x : Seen) (e : IsSeen s.heaps.now d x) (marks : List ℕ) (shown : List ℕ) (name : Naming) (b : Branch) (naming : IsNaming area name) (m : StandsFor marks area shown name s at c b) where
-  asked_none : (a : ℕ) (k : Key) → AsksHere area at a k → cell_at c.registers a ≡ Some d → (Meets x k → ⊥) → HasNoModel b
+module _ (area : Area) (s : branch.State) (at : ℕ) (c : Contents) (safe : IsSafe area s at 0 c) (d : Cell) (x : Seen) (e : IsSeen s.heaps.now d x) (marks : List ℕ) (shown : List ℕ) (name : Naming) (b : Branch) (naming : IsNaming area name) (m : StandsFor s.infinity marks area shown name s at c b) where
+  asked_none : (a : ℕ) (k : Key) → AsksHere area at a k → cell_at c.registers a ≡ Some d → (Meets x k → ⊥) → HasNoModel s.infinity b
   asked_none a (key.Atom i) f there un =
       get_constant_stands area s at c safe i a f d there s false
       (inl (λ name' apart u k. absurd (no_atom name' apart s.heaps.now safe.sound.now.valid d u i x e un (k.0 ∙ ap (apply u) (term-Atom name' s.heaps.now safe.sound.now.valid i)))), sound_below s safe.sound)
-      marks shown name b naming m
+      s.infinity safe.sound.greatest.1 marks shown name b naming m
   asked_none a (key.Int z) f there un =
       get_integer_stands area s at c safe z a f d there s false
       (inl (λ name' apart u k. absurd (no_integer name' apart s.heaps.now safe.sound.now.valid d u z x e un (k.0 ∙ ap (apply u) (term-Int name' s.heaps.now safe.sound.now.valid z)))), sound_below s safe.sound)
-      marks shown name b naming m
+      s.infinity safe.sound.greatest.1 marks shown name b naming m
   asked_none a (key.Struct g n) f there un =
-      let k = step_get_structure INFINITY INFINITY marks area shown name s.heaps.now s.levels.current.posted at (registers_of c) (stack_of c) b m g n a f in
+      let k = step_get_structure INFINITY s.infinity marks area shown name s.heaps.now s.levels.current.posted at (registers_of c) (stack_of c) b m g n a f in
       let mine : k.0 ≡ d = same_Some k.0 d (sym k.1 ∙ there) in
       let named : name g ≡ name_of area g = naming.same g (safe.verified.there at (GetStructure g n a) f) in
       k.4 (λ u us size q. absurd (no_structure name naming.apart s.heaps.now safe.sound.now.valid d u g n us size x e un (ap (λ y. apply u (term_of name s.heaps.now y)) (sym mine) ∙ q ∙ ap (λ y. Comp y us) (sym named))))
 
 module _ (area : Area) (s : branch.State) (at : ℕ) (c : Contents) (safe : IsSafe area s at 0 c) (out : IsRuledOut area s at c) where
-  none_by : Asks area at out.argument out.wanted → (marks : List ℕ) (shown : List ℕ) (name : Naming) (b : Branch) → IsNaming area name → StandsFor marks area shown name s at c b → HasNoModel b
+  none_by : Asks area at out.argument out.wanted → (marks : List ℕ) (shown : List ℕ) (name : Naming) (b : Branch) → IsNaming area name → StandsFor s.infinity marks area shown name s at c b → HasNoModel s.infinity b
   none_by (inl f) marks shown name b naming m = asked_none area s at c safe out.so.cell out.so.shown out.so.is_seen marks shown name b naming m out.argument out.wanted f out.so.there out.so.so
   none_by (inr k) marks shown name b naming m =
       let framed : Contents = record c { slots = replicate k.0 nothing_held } in
       asked_none area s (suc at) framed (allocate_safe area s at c safe k.0 k.1) out.so.cell out.so.shown out.so.is_seen marks shown name b naming
-      (step_allocate INFINITY INFINITY marks area shown name s.heaps.now s.levels.current.posted at (registers_of c) (stack_of c) b m k.0 k.1 (registers_of framed) (λ n. refl) refl) out.argument out.wanted k.2 out.so.there out.so.so
+      (step_allocate INFINITY s.infinity marks area shown name s.heaps.now s.levels.current.posted at (registers_of c) (stack_of c) b m k.0 k.1 (registers_of framed) (λ n. refl) refl) out.argument out.wanted k.2 out.so.there out.so.so
 
   -- Each branch of the clause has no model.
   first_of : (a : ℕ) (k : Key) → AsksHere area at a k → (i : Code) × IsFirst i × Holds area at i
@@ -107,8 +107,8 @@ module _ (area : Area) (s : branch.State) (at : ℕ) (c : Contents) (safe : IsSa
   begins (inr k) = (Allocate k.0, tt, k.1)
 
   -- A clause that is ruled out has no branch with a model.
-  pub ruled_out_gone : (marks : List ℕ) (shown : List ℕ) (name : Naming) → IsNaming area name → (e : Entry) (b : Branch) (kids : List Branch) → TriesAt marks area shown name s at c e b kids → AreGone kids
+  pub ruled_out_gone : (marks : List ℕ) (shown : List ℕ) (name : Naming) → IsNaming area name → (e : Entry) (b : Branch) (kids : List Branch) → TriesAt marks area shown name s at c e b kids → AreGone s.infinity kids
   ruled_out_gone marks shown name naming e b kids m =
       let i = begins out.asks in
-      let k = step_enter INFINITY INFINITY marks area shown name s.heaps.now s.levels.current.posted at e (registers_of c) (stack_of c) b kids m i.0 i.1 i.2 (registers_of c) (λ n. refl) refl in
-      subst AreGone (sym k.1) (none_by out.asks marks shown name k.0 naming k.2, tt)
+      let k = step_enter INFINITY s.infinity marks area shown name s.heaps.now s.levels.current.posted at e (registers_of c) (stack_of c) b kids m i.0 i.1 i.2 (registers_of c) (λ n. refl) refl in
+      subst (AreGone s.infinity) (sym k.1) (none_by out.asks marks shown name k.0 naming k.2, tt)

@@ -44,16 +44,16 @@ fit_within M [] [] ys f = f
 fit_within M [] (b ∷ gone) ys f = fit_within M [] gone ys f.1
 fit_within M (x ∷ xs) gone ys f = (f.0, fit_within M xs gone ys f.1)
 
-kept_within : (xs gone ys cs : List Branch) → AreGone gone → AreFit INFINITY (xs ++ (gone ++ ys)) → Kept INFINITY INFINITY (xs ++ (gone ++ ys)) cs → Kept INFINITY INFINITY (xs ++ ys) cs
-kept_within [] [] ys cs g f k = k
-kept_within [] (b ∷ gone) ys cs g f (inl k) = absurd (gone_by INFINITY INFINITY b g.0 f.0 k.0)
-kept_within [] (b ∷ gone) ys cs g f (inr k) = kept_within [] gone ys cs g.1 f.1 k.1
-kept_within (x ∷ xs) gone ys cs g f (inl k) = inl (k.0, (k.1.0, k.1.1, kept_within xs gone ys k.1.0 g f.1 k.1.2))
-kept_within (x ∷ xs) gone ys cs g f (inr k) = inr (k.0, kept_within xs gone ys cs g f.1 k.1)
+kept_within : (N : ℕ) (xs gone ys cs : List Branch) → AreGone N gone → AreFit INFINITY (xs ++ (gone ++ ys)) → Kept INFINITY N (xs ++ (gone ++ ys)) cs → Kept INFINITY N (xs ++ ys) cs
+kept_within N [] [] ys cs g f k = k
+kept_within N [] (b ∷ gone) ys cs g f (inl k) = absurd (gone_by INFINITY N b g.0 f.0 k.0)
+kept_within N [] (b ∷ gone) ys cs g f (inr k) = kept_within N [] gone ys cs g.1 f.1 k.1
+kept_within N (x ∷ xs) gone ys cs g f (inl k) = inl (k.0, (k.1.0, k.1.1, kept_within N xs gone ys k.1.0 g f.1 k.1.2))
+kept_within N (x ∷ xs) gone ys cs g f (inr k) = inr (k.0, kept_within N xs gone ys cs g f.1 k.1)
 
 -- What is ahead stays so without them.
-ahead_within : (prog : Program) (q : Query) (n : ℕ) (k : Option ℕ) (xs gone ys : List Branch) (es : List Event) (r : ℕ) → AreGone gone → Ahead INFINITY INFINITY prog q n k (xs ++ (gone ++ ys)) es r → Ahead INFINITY INFINITY prog q n k (xs ++ ys) es r
-ahead_within prog q n k xs gone ys es r g a = record { fit = fit_within INFINITY xs gone ys a.fit; branches = a.branches; kept = kept_within xs gone ys a.branches g a.fit a.kept; run = a.run }
+ahead_within : (N : ℕ) (prog : Program) (q : Query) (n : ℕ) (k : Option ℕ) (xs gone ys : List Branch) (es : List Event) (r : ℕ) → AreGone N gone → Ahead INFINITY N prog q n k (xs ++ (gone ++ ys)) es r → Ahead INFINITY N prog q n k (xs ++ ys) es r
+ahead_within N prog q n k xs gone ys es r g a = record { fit = fit_within INFINITY xs gone ys a.fit; branches = a.branches; kept = kept_within N xs gone ys a.branches g a.fit a.kept; run = a.run }
 
 -- the kept ones of a list's later part
 later_kept : (M N : ℕ) (xs ys cs : List Branch) → Kept M N (xs ++ ys) cs → (ds : List Branch) × Kept M N ys ds
@@ -61,9 +61,9 @@ later_kept M N [] ys cs h = (cs, h)
 later_kept M N (x ∷ xs) ys cs (inl h) = later_kept M N xs ys h.1.0 h.1.2
 later_kept M N (x ∷ xs) ys cs (inr h) = later_kept M N xs ys cs h.1
 
-gone_both : (xs ys : List Branch) → AreGone xs → AreGone ys → AreGone (xs ++ ys)
-gone_both [] ys g h = h
-gone_both (x ∷ xs) ys g h = (g.0, gone_both xs ys g.1 h)
+gone_both : (N : ℕ) (xs ys : List Branch) → AreGone N xs → AreGone N ys → AreGone N (xs ++ ys)
+gone_both N [] ys g h = h
+gone_both N (x ∷ xs) ys g h = (g.0, gone_both N xs ys g.1 h)
 
 -- What tries something is a choice.
 pub choice_of : (i : Code) (at : ℕ) → (tried_by i at ≡ Other → ⊥) → IsStep i
@@ -118,17 +118,17 @@ module _ (area : Area) (s : branch.State) (at : ℕ) (c : Contents) where
   -- ---- clauses that a choice tries
 
   abbrev pub Tries : List ℕ → List ℕ → Naming → Entry → Branch → List Branch → Tried → Type 0
-  Tries marks shown name e b kids (Both to other) = TriesBoth INFINITY INFINITY marks area shown name h qs to other e regs stack b kids
+  Tries marks shown name e b kids (Both to other) = TriesBoth INFINITY s.infinity marks area shown name h qs to other e regs stack b kids
   Tries marks shown name e b kids (Last to) = TriesAt marks area shown name s to c e b kids
   Tries marks shown name e b kids Other = Unit {0}
 
   pub tries_of : (marks : List ℕ) (shown : List ℕ) (name : Naming) (e : Entry) (b : Branch) (kids : List Branch) → TriesAt marks area shown name s at c e b kids → (i : Code) → Holds area at i → Tries marks shown name e b kids (tried_by i at)
-  tries_of marks shown name e b kids m (TryMeElse o) f = step_try_me_else INFINITY INFINITY marks area shown name h qs at e regs stack b kids m o f
-  tries_of marks shown name e b kids m (RetryMeElse o) f = step_retry_me_else INFINITY INFINITY marks area shown name h qs at e regs stack b kids m o f
-  tries_of marks shown name e b kids m (Try to) f = step_try INFINITY INFINITY marks area shown name h qs at e regs stack b kids m to f
-  tries_of marks shown name e b kids m (Retry to) f = step_retry INFINITY INFINITY marks area shown name h qs at e regs stack b kids m to f
-  tries_of marks shown name e b kids m TrustMe f = step_trust_me INFINITY INFINITY marks area shown name h qs at e regs stack b kids m f
-  tries_of marks shown name e b kids m (Trust to) f = step_trust INFINITY INFINITY marks area shown name h qs at e regs stack b kids m to f
+  tries_of marks shown name e b kids m (TryMeElse o) f = step_try_me_else INFINITY s.infinity marks area shown name h qs at e regs stack b kids m o f
+  tries_of marks shown name e b kids m (RetryMeElse o) f = step_retry_me_else INFINITY s.infinity marks area shown name h qs at e regs stack b kids m o f
+  tries_of marks shown name e b kids m (Try to) f = step_try INFINITY s.infinity marks area shown name h qs at e regs stack b kids m to f
+  tries_of marks shown name e b kids m (Retry to) f = step_retry INFINITY s.infinity marks area shown name h qs at e regs stack b kids m to f
+  tries_of marks shown name e b kids m TrustMe f = step_trust_me INFINITY s.infinity marks area shown name h qs at e regs stack b kids m f
+  tries_of marks shown name e b kids m (Trust to) f = step_trust INFINITY s.infinity marks area shown name h qs at e regs stack b kids m to f
   tries_of marks shown name e b kids m _ f = tt
 
   -- ---- what is still to come
@@ -137,7 +137,7 @@ module _ (area : Area) (s : branch.State) (at : ℕ) (c : Contents) where
   module _ (i : Code) (choice : IsStep i) (f : Holds area at i) where
     pub skipped_runs : (to : ℕ) → LeavesOut area s at c (Some to) → KeepsRunning area s at c s to c
     skipped_runs to out t ls u naming m =
-        let now = goes_before INFINITY INFINITY m.marks area t.query.shown t.name h qs at regs stack m.first m.here i choice f in
+        let now = goes_before INFINITY s.infinity m.marks area t.query.shown t.name h qs at regs stack m.first m.here i choice f in
         let k = out m.marks t.query.shown t.name now.0 now.1 m.first naming now.2 in
         record {
           first = k.kept;
@@ -145,25 +145,25 @@ module _ (area : Area) (s : branch.State) (at : ℕ) (c : Contents) where
           marks = m.marks;
           here = inr (now.0, now.1, k.tries);
           wait = m.wait;
-          ahead = ahead_within t.program t.query u.budget u.answers [] k.gone (k.kept ++ m.others) u.events u.reductions k.none
-              (subst (λ l. Ahead INFINITY INFINITY t.program t.query u.budget u.answers l u.events u.reductions) (ap (λ l. l ++ m.others) k.both ∙ append_assoc k.gone k.kept m.others) m.ahead);
+          ahead = ahead_within s.infinity t.program t.query u.budget u.answers [] k.gone (k.kept ++ m.others) u.events u.reductions k.none
+              (subst (λ l. Ahead INFINITY s.infinity t.program t.query u.budget u.answers l u.events u.reductions) (ap (λ l. l ++ m.others) k.both ∙ append_assoc k.gone k.kept m.others) m.ahead);
         }
 
     pub skipped_back : LeavesOut area s at c None → GoesBack area s at c s c
     skipped_back out t ls u naming m =
-        let now = goes_before INFINITY INFINITY m.marks area t.query.shown t.name h qs at regs stack m.first m.here i choice f in
+        let now = goes_before INFINITY s.infinity m.marks area t.query.shown t.name h qs at regs stack m.first m.here i choice f in
         let k = out m.marks t.query.shown t.name now.0 now.1 m.first naming now.2 in
         record {
           others = m.others;
           marks = m.marks;
           wait = m.wait;
-          ahead = subst (λ l. Ahead INFINITY INFINITY t.program t.query u.budget u.answers (l ++ m.others) u.events u.reductions) k.tries (ahead_within t.program t.query u.budget u.answers [] k.gone (k.kept ++ m.others) u.events u.reductions k.none
-              (subst (λ l. Ahead INFINITY INFINITY t.program t.query u.budget u.answers l u.events u.reductions) (ap (λ l. l ++ m.others) k.both ∙ append_assoc k.gone k.kept m.others) m.ahead));
+          ahead = subst (λ l. Ahead INFINITY s.infinity t.program t.query u.budget u.answers (l ++ m.others) u.events u.reductions) k.tries (ahead_within s.infinity t.program t.query u.budget u.answers [] k.gone (k.kept ++ m.others) u.events u.reductions k.none
+              (subst (λ l. Ahead INFINITY s.infinity t.program t.query u.budget u.answers l u.events u.reductions) (ap (λ l. l ++ m.others) k.both ∙ append_assoc k.gone k.kept m.others) m.ahead));
         }
 
     -- the clauses at two places, some of the other one left out
     module _ (to other : ℕ) (is : Both to other ≡ tried_by i at) where
-      split_at : (marks : List ℕ) (shown : List ℕ) (name : Naming) (e : Entry) (b : Branch) (kids : List Branch) → TriesAt marks area shown name s at c e b kids → TriesBoth INFINITY INFINITY marks area shown name h qs to other e regs stack b kids
+      split_at : (marks : List ℕ) (shown : List ℕ) (name : Naming) (e : Entry) (b : Branch) (kids : List Branch) → TriesAt marks area shown name s at c e b kids → TriesBoth INFINITY s.infinity marks area shown name h qs to other e regs stack b kids
       split_at marks shown name e b kids m = subst (Tries marks shown name e b kids) (sym is) (tries_of marks shown name e b kids m i f)
 
       four : (xs gone kept ys all behind : List Branch) → all ≡ xs ++ behind → behind ≡ gone ++ kept → all ++ ys ≡ xs ++ (gone ++ (kept ++ ys))
@@ -171,24 +171,24 @@ module _ (area : Area) (s : branch.State) (at : ℕ) (c : Contents) where
 
       pub left_runs : (later : ℕ) → LeavesOut area s other c (Some later) → LeavesChoice area s at c (with_pair s) to (record c { points = point_of c later ∷ c.points }) later
       left_runs later out t ls u naming m =
-          let now = goes_before INFINITY INFINITY m.marks area t.query.shown t.name h qs at regs stack m.first m.here i choice f in
+          let now = goes_before INFINITY s.infinity m.marks area t.query.shown t.name h qs at regs stack m.first m.here i choice f in
           let two = split_at m.marks t.query.shown t.name now.0 now.1 m.first now.2 in
           let k = out m.marks t.query.shown t.name now.0 now.1 two.behind naming two.later in
-          let ahead = ahead_within t.program t.query u.budget u.answers two.before k.gone (k.kept ++ m.others) u.events u.reductions k.none
-          (subst (λ l. Ahead INFINITY INFINITY t.program t.query u.budget u.answers l u.events u.reductions) (four two.before k.gone k.kept m.others m.first two.behind two.both k.both) m.ahead) in
-          let behind = later_kept INFINITY INFINITY two.before (k.kept ++ m.others) ahead.branches ahead.kept in
+          let ahead = ahead_within s.infinity t.program t.query u.budget u.answers two.before k.gone (k.kept ++ m.others) u.events u.reductions k.none
+          (subst (λ l. Ahead INFINITY s.infinity t.program t.query u.budget u.answers l u.events u.reductions) (four two.before k.gone k.kept m.others m.first two.behind two.both k.both) m.ahead) in
+          let behind = later_kept INFINITY s.infinity two.before (k.kept ++ m.others) ahead.branches ahead.kept in
           record {
             first = two.before;
             others = k.kept ++ m.others;
             marks = length behind.0 ∷ m.marks;
-            here = inr (now.0, now.1, trying_pushed INFINITY INFINITY (length behind.0) m.marks area t.query.shown t.name h qs to now.0 regs stack now.1 two.before two.now);
+            here = inr (now.0, now.1, trying_pushed INFINITY s.infinity (length behind.0) m.marks area t.query.shown t.name h qs to now.0 regs stack now.1 two.before two.now);
             wait = (k.kept, m.others, m.marks, behind.0, inr (now.0, now.1, k.tries), m.wait, refl, behind.1, refl);
             ahead = ahead;
           }
 
       pub alone_runs : LeavesOut area s other c None → KeepsRunning area s at c s to c
       alone_runs out t ls u naming m =
-          let now = goes_before INFINITY INFINITY m.marks area t.query.shown t.name h qs at regs stack m.first m.here i choice f in
+          let now = goes_before INFINITY s.infinity m.marks area t.query.shown t.name h qs at regs stack m.first m.here i choice f in
           let two = split_at m.marks t.query.shown t.name now.0 now.1 m.first now.2 in
           let k = out m.marks t.query.shown t.name now.0 now.1 two.behind naming two.later in
           record {
@@ -197,13 +197,13 @@ module _ (area : Area) (s : branch.State) (at : ℕ) (c : Contents) where
             marks = m.marks;
             here = inr (now.0, now.1, two.now);
             wait = m.wait;
-            ahead = subst (λ l. Ahead INFINITY INFINITY t.program t.query u.budget u.answers (two.before ++ (l ++ m.others)) u.events u.reductions) k.tries (ahead_within t.program t.query u.budget u.answers two.before k.gone (k.kept ++ m.others) u.events u.reductions k.none
-                (subst (λ l. Ahead INFINITY INFINITY t.program t.query u.budget u.answers l u.events u.reductions) (four two.before k.gone k.kept m.others m.first two.behind two.both k.both) m.ahead));
+            ahead = subst (λ l. Ahead INFINITY s.infinity t.program t.query u.budget u.answers (two.before ++ (l ++ m.others)) u.events u.reductions) k.tries (ahead_within s.infinity t.program t.query u.budget u.answers two.before k.gone (k.kept ++ m.others) u.events u.reductions k.none
+                (subst (λ l. Ahead INFINITY s.infinity t.program t.query u.budget u.answers l u.events u.reductions) (four two.before k.gone k.kept m.others m.first two.behind two.both k.both) m.ahead));
           }
 
     pub last_runs : (to : ℕ) → Last to ≡ tried_by i at → KeepsRunning area s at c s to c
     last_runs to is t ls u naming m =
-        let now = goes_before INFINITY INFINITY m.marks area t.query.shown t.name h qs at regs stack m.first m.here i choice f in
+        let now = goes_before INFINITY s.infinity m.marks area t.query.shown t.name h qs at regs stack m.first m.here i choice f in
         record { first = m.first; others = m.others; marks = m.marks; here = inr (now.0, now.1, subst (Tries m.marks t.query.shown t.name now.0 now.1 m.first) (sym is) (tries_of m.marks t.query.shown t.name now.0 now.1 m.first now.2 i f)); wait = m.wait; ahead = m.ahead }
 
 -- ---- one choice after another
@@ -218,7 +218,7 @@ module _ (area : Area) (s : branch.State) (from at : ℕ) (c : Contents) (sofar 
         gone = k.gone ++ two.before;
         kept = two.behind;
         both = k.both ∙ ap (λ l. k.gone ++ l) two.both ∙ sym (append_assoc k.gone two.before two.behind);
-        none = gone_both k.gone two.before k.none (ruled_out_gone area s to c safe out marks shown name naming e b two.before two.now);
+        none = gone_both s.infinity k.gone two.before k.none (ruled_out_gone area s to c safe out marks shown name naming e b two.before two.now);
         tries = two.later;
       }
 
@@ -231,7 +231,7 @@ module _ (area : Area) (s : branch.State) (from at : ℕ) (c : Contents) (sofar 
         gone = k.gone ++ k.kept;
         kept = [];
         both = k.both ∙ sym (append-nil (k.gone ++ k.kept));
-        none = gone_both k.gone k.kept k.none (ruled_out_gone area s to c safe out marks shown name naming e b k.kept one);
+        none = gone_both s.infinity k.gone k.kept k.none (ruled_out_gone area s to c safe out marks shown name naming e b k.kept one);
         tries = refl;
       }
 
@@ -243,6 +243,6 @@ leaves_here area s from at c sofar safe out = λ marks shown name e b kids namin
       gone = k.gone ++ k.kept;
       kept = [];
       both = k.both ∙ sym (append-nil (k.gone ++ k.kept));
-      none = gone_both k.gone k.kept k.none (ruled_out_gone area s at c safe out marks shown name naming e b k.kept k.tries);
+      none = gone_both s.infinity k.gone k.kept k.none (ruled_out_gone area s at c safe out marks shown name naming e b k.kept k.tries);
       tries = refl;
     }

@@ -22,7 +22,7 @@ use Rattle.code_states.specs.Choices.{point_of}
 use Rattle.code_states.proofs.Lemmas.{points_marked, when_parts, some_is, fits_less, thread_kept, same_atoms, points_kept, behind_on as behind_next}
 
 pub sound_below : (s : branch.State) → IsSound s → IsSoundBelow s
-sound_below s o = record { unspent = o.unspent; marked = o.marked; below = o.below }
+sound_below s o = record { greatest = o.greatest; unspent = o.unspent; marked = o.marked; below = o.below }
 
 -- ---- places
 

@@ -106,13 +106,13 @@ MayMatchFrom area s at c = (t : Tried) × IsTried area at t × FirstMayMatch are
 
 -- ---- clauses left out
 
-abbrev pub AreGone : List Branch → Type 0
-AreGone [] = Unit {0}
-AreGone (b ∷ bs) = HasNoModel b × AreGone bs
+abbrev pub AreGone : ℕ → List Branch → Type 0
+AreGone N [] = Unit {0}
+AreGone N (b ∷ bs) = HasNoModel N b × AreGone N bs
 
 -- at the place of a choice the branch b tries clauses, whose branches are kids, where the choice points have such marks
 abbrev pub TriesAt : List ℕ → Area → List ℕ → Naming → branch.State → ℕ → Contents → Entry → Branch → List Branch → Type 0
-TriesAt marks area shown name s at c e b kids = IsTrying INFINITY INFINITY marks area shown name s.heaps.now s.levels.current.posted at e (registers_of c) (stack_of c) b kids
+TriesAt marks area shown name s at c e b kids = IsTrying INFINITY s.infinity marks area shown name s.heaps.now s.levels.current.posted at e (registers_of c) (stack_of c) b kids
 
 -- they are those of another place, or none
 abbrev pub TriesThen : List ℕ → Area → List ℕ → Naming → branch.State → Option ℕ → Contents → Entry → Branch → List Branch → Type 0
@@ -123,7 +123,7 @@ pub record LeavesSome (marks : List ℕ) (area : Area) (shown : List ℕ) (name 
   pub gone : List Branch
   pub kept : List Branch
   pub both : kids ≡ gone ++ kept
-  pub none : AreGone gone
+  pub none : AreGone s.infinity gone
   pub tries : TriesThen marks area shown name s to c e b kept
 
 -- What is tried at a place is tried at another one, or nowhere, but for branches without a model in front.

@@ -87,15 +87,15 @@ module _ (area : Area) (s : branch.State) (at : ℕ) (c : Contents) (safe : IsSa
     terms = λ other h. (shown_length area.pool.names s.heaps.now s.levels.current.sets cells x shown ∙ slots.0 ∙ ap (λ (p : Span). length p.names) (one_query area number span other has h), shown.own);
     last = λ prog q ls n es r asked m. (
         let pair = safe.sound.now in
-        let t = run_last INFINITY INFINITY area prog q (names_of area) s.heaps.now pair.valid s.levels.current.posted G pair.settled.model pair.settled.most at (registers_of c) (stack_of c) (choices_in s c ls) n es r holds cells slots.1 (counted q asked) m in
+        let t = run_last INFINITY s.infinity area prog q (names_of area) s.heaps.now pair.valid s.levels.current.posted G pair.settled.model pair.settled.most at (registers_of c) (stack_of c) (choices_in s c ls) n es r holds cells slots.1 (counted q asked) m in
         (t.0 ∙ ap (λ l. model.Answer l ∷ model.Limit ∷ []) (sym (line_is q)), t.1));
     fewer = λ prog q ls n j es r asked m. (
         let pair = safe.sound.now in
-        let t = run_fewer INFINITY INFINITY area prog q (names_of area) s.heaps.now pair.valid s.levels.current.posted G pair.settled.model pair.settled.most at (registers_of c) (stack_of c) (choices_in s c ls) n es r holds cells slots.1 (counted q asked) j m in
+        let t = run_fewer INFINITY s.infinity area prog q (names_of area) s.heaps.now pair.valid s.levels.current.posted G pair.settled.model pair.settled.most at (registers_of c) (stack_of c) (choices_in s c ls) n es r holds cells slots.1 (counted q asked) j m in
         (t.0, t.1 ∙ ap (λ l. model.Answer l ∷ t.0) (sym (line_is q)), t.2));
     any = λ prog q ls n es r asked m. (
         let pair = safe.sound.now in
-        let t = run_any INFINITY INFINITY area prog q (names_of area) s.heaps.now pair.valid s.levels.current.posted G pair.settled.model pair.settled.most at (registers_of c) (stack_of c) (choices_in s c ls) n es r holds cells slots.1 (counted q asked) m in
+        let t = run_any INFINITY s.infinity area prog q (names_of area) s.heaps.now pair.valid s.levels.current.posted G pair.settled.model pair.settled.most at (registers_of c) (stack_of c) (choices_in s c ls) n es r holds cells slots.1 (counted q asked) m in
         (t.0, t.1 ∙ ap (λ l. model.Answer l ∷ t.0) (sym (line_is q)), t.2));
   }
 

@@ -52,6 +52,7 @@ use Rattle.code_goals.specs.Builtins.{IsFound, IsSecond, ComesTo}
 use Rattle.code_goals.specs.Tasks.{names_of, task_of}
 use Rattle.code_goals.specs.GoalTexts.{text_at}
 use Rattle.code_goals.specs.Taking.{next_by, IsSafeNext, LeadsNext, RunsNext, Takes}
+use Rattle.machine_frames.proofs.Lemmas.{model_wider}
 use Rattle.code_goals.proofs.Moving.{runs_grown}
 use Rattle.code_goals.proofs.Safe.{choices_same, sound_below, grown_cells, arguments_there, moved_safe, on_safe, on_same, goes_back}
 
@@ -62,12 +63,12 @@ one_name area pool = full_one area.pool.names pool.distinct
 -- ---- two cells that are to be equal
 
 -- What is to come where they are, and where they can't be.
-module _ (area : Area) (pool : IsPool area.pool) (s : branch.State) (at : ℕ) (c : Contents) (x y : Cell) (prog : Program) (q : Query) (ls : List Left) (n : ℕ) (k : Option ℕ) (es : List Event) (r : ℕ) where
+module _ (area : Area) (pool : IsPool area.pool) (s : branch.State) (small : s.infinity ≤ INFINITY) (at : ℕ) (c : Contents) (x y : Cell) (prog : Program) (q : Query) (ls : List Left) (n : ℕ) (k : Option ℕ) (es : List Event) (r : ℕ) where
   abbrev With : List Choice → Cells → List Indexical → List Event → ℕ → Type 0
-  With cs now ps later j = Runs INFINITY INFINITY area prog q (names_of area) now ps (suc at) (registers_of c) (stack_of c) cs n k later j
+  With cs now ps later j = Runs INFINITY s.infinity area prog q (names_of area) now ps (suc at) (registers_of c) (stack_of c) cs n k later j
 
   abbrev Without : List Choice → List Event → ℕ → Type 0
-  Without cs later j = Returns INFINITY INFINITY area prog q (names_of area) cs n k later j
+  Without cs later j = Returns INFINITY s.infinity area prog q (names_of area) cs n k later j
 
   abbrev cs : List Choice
   cs = choices_in s c ls
@@ -75,15 +76,17 @@ module _ (area : Area) (pool : IsPool area.pool) (s : branch.State) (at : ℕ) (
   equated_next : ((now : Cells) (ts : List Touch) → IsUnified (names_of area) s.heaps.now x y now ts → IsSameSize s.heaps.now now → Spends (With cs now (s.levels.current.posted ++ posts (store_touches ts))) [] es r)
       → (IsRefuted s.heaps.now (cells_equal (names_of area) s.heaps.now x y) → Spends (Without cs) [] es r) → (s' : branch.State) → IsSameBelow s s' → (equal : Bool) → Equates s x y s' equal → RunsNext area (task_of area prog q) s' c ls n k es r (next_by at equal)
   equated_next so else s' below true e =
-      subst (λ xs. Spends (With xs s'.heaps.now s'.levels.current.posted) [] es r) (choices_same s s' c ls below) (subst (λ ps. Spends (With cs s'.heaps.now ps) [] es r) (sym e.posted) (so s'.heaps.now e.touches (e.unified (names_of area)) e.size))
+      subst (λ N. Spends (λ later j. Runs INFINITY N area prog q (names_of area) s'.heaps.now s'.levels.current.posted (suc at) (registers_of c) (stack_of c) (choices_in s' c ls) n k later j) [] es r) (sym below.infinity)
+      (subst (λ xs. Spends (With xs s'.heaps.now s'.levels.current.posted) [] es r) (choices_same s s' c ls below) (subst (λ ps. Spends (With cs s'.heaps.now ps) [] es r) (sym e.posted) (so s'.heaps.now e.touches (e.unified (names_of area)) e.size)))
   equated_next so else s' below false e =
       let gone_back : Spends (Without cs) [] es r = elim e.0 [
         | inl un ↦ else (un (names_of area) (one_name area pool))
         | inr gone ↦
             let ps = s.levels.current.posted ++ posts (store_touches gone.touches) in
-            spends_more (With cs gone.now ps) (Without cs) (λ later j w. run_fails INFINITY INFINITY area prog q (names_of area) gone.now ps (suc at) (registers_of c) (stack_of c) cs n k later j w gone.none) [] es r (so gone.now gone.touches (gone.unified (names_of area)) gone.size)
+            spends_more (With cs gone.now ps) (Without cs) (λ later j w. run_fails INFINITY s.infinity area prog q (names_of area) gone.now ps (suc at) (registers_of c) (stack_of c) cs n k later j w (λ T m. gone.none T (model_wider INFINITY s.infinity ps small T m))) [] es r (so gone.now gone.touches (gone.unified (names_of area)) gone.size)
       ] in
-      subst (λ xs. Spends (Without xs) [] es r) (choices_same s s' c ls below) gone_back
+      subst (λ N. Spends (λ later j. Returns INFINITY N area prog q (names_of area) (choices_in s' c ls) n k later j) [] es r) (sym below.infinity)
+      (subst (λ xs. Spends (Without xs) [] es r) (choices_same s s' c ls below) gone_back)
 
 -- ---- each goal
 
@@ -106,27 +109,27 @@ module _ (area : Area) (s : branch.State) (at : ℕ) (c : Contents) (safe : IsSa
   abbrev name : Naming
   name = names_of area
 
-  known : IsModel INFINITY INFINITY [] qs G
+  known : IsModel INFINITY s.infinity [] qs G
   known = safe.sound.now.settled.model
 
-  most : (R : Family) → IsModel INFINITY INFINITY [] qs R → IsInside R G
+  most : (R : Family) → IsModel INFINITY s.infinity [] qs R → IsInside R G
   most = safe.sound.now.settled.most
 
   -- true
   pub true_taken : Holds area at (step.Builtin kind.True) → Takes area s at c s (On (suc at))
-  true_taken f prog q ls n k es r runnable m = run_true INFINITY INFINITY area prog q name h qs at regs stack (choices_in s c ls) k es r runnable n (G, known) m f
+  true_taken f prog q ls n k es r runnable m = run_true INFINITY s.infinity area prog q name h qs at regs stack (choices_in s c ls) k es r runnable n (G, known) m f
 
   -- fail
   pub fail_taken : Holds area at (step.Builtin kind.Fail) → Takes area s at c s Back
-  fail_taken f prog q ls n k es r runnable m = run_fail INFINITY INFINITY area prog q name h qs at regs stack (choices_in s c ls) k es r runnable n (G, known) m f
+  fail_taken f prog q ls n k es r runnable m = run_fail INFINITY s.infinity area prog q name h qs at regs stack (choices_in s c ls) k es r runnable n (G, known) m f
 
   -- false
   pub false_taken : Holds area at (step.Builtin kind.False) → Takes area s at c s Back
-  false_taken f prog q ls n k es r runnable m = run_false INFINITY INFINITY area prog q name h qs at regs stack (choices_in s c ls) k es r runnable n (G, known) m f
+  false_taken f prog q ls n k es r runnable m = run_false INFINITY s.infinity area prog q name h qs at regs stack (choices_in s c ls) k es r runnable n (G, known) m f
 
   -- nl
   pub newline_taken : Holds area at (step.Builtin kind.Nl) → Takes area s at c s (Newline (suc at))
-  newline_taken f prog q ls n k es r runnable m = run_newline INFINITY INFINITY area prog q name h safe.sound.now.valid qs at regs stack (choices_in s c ls) k es r runnable n (G, known) m f
+  newline_taken f prog q ls n k es r runnable m = run_newline INFINITY s.infinity area prog q name h safe.sound.now.valid qs at regs stack (choices_in s c ls) k es r runnable n (G, known) m f
 
   -- its argument is in the first register
   first_set : Holds area at (step.Builtin kind.Write) → IsSet c.registers 1
@@ -137,8 +140,8 @@ module _ (area : Area) (s : branch.State) (at : ℕ) (c : Contents) (safe : IsSa
   write_taken f prog q ls n k es r runnable m =
       let d = (first_set f).0 in
       let at_d = (first_set f).1 in
-      subst (λ (o : Option Cell). Spends (λ later j. Runs INFINITY INFINITY area prog q name h qs (suc at) regs stack (choices_in s c ls) n k later j) (model.Wrote (text_at area s o) ∷ []) es r) (sym at_d)
-      (run_write INFINITY INFINITY area prog q name h safe.sound.now.valid qs at regs stack (choices_in s c ls) k es r runnable n G known most d at_d m f)
+      subst (λ (o : Option Cell). Spends (λ later j. Runs INFINITY s.infinity area prog q name h qs (suc at) regs stack (choices_in s c ls) n k later j) (model.Wrote (text_at area s o) ∷ []) es r) (sym at_d)
+      (run_write INFINITY s.infinity area prog q name h safe.sound.now.valid qs at regs stack (choices_in s c ls) k es r runnable n G known most d at_d m f)
 
   -- and it is safe to go on
   pub write_safe : Holds area at (step.Builtin kind.Write) → IsSafeNext area s c (Write (suc at))
@@ -147,7 +150,7 @@ module _ (area : Area) (s : branch.State) (at : ℕ) (c : Contents) (safe : IsSa
   -- two cells were made equal, or can't be
   pub unify_taken : IsPool area.pool → Holds area at (step.Builtin kind.Unify) → (d e : Cell) → cell_at c.registers 1 ≡ Some d → cell_at c.registers 2 ≡ Some e → (s' : branch.State) → IsSameBelow s s' → (equal : Bool) → Equates s d e s' equal → Takes area s at c s' (next_by at equal)
   unify_taken pool f d e at_d at_e s' below equal w prog q ls n k es r runnable m =
-      equated_next area pool s at c d e prog q ls n k es r (run_unify INFINITY INFINITY area prog q name h qs at regs stack (choices_in s c ls) k es r runnable n (G, known) m f d e at_d at_e) (run_refuted INFINITY INFINITY area prog q name h qs at regs stack (choices_in s c ls) k es r runnable n (G, known) m f d e at_d at_e) s' below equal w
+      equated_next area pool s safe.sound.greatest.1 at c d e prog q ls n k es r (run_unify INFINITY s.infinity area prog q name h qs at regs stack (choices_in s c ls) k es r runnable n (G, known) m f d e at_d at_e) (run_refuted INFINITY s.infinity area prog q name h qs at regs stack (choices_in s c ls) k es r runnable n (G, known) m f d e at_d at_e) s' below equal w
 
   -- safe where two cells were to be equal, or a goal holds or doesn't
   pub equal_safe : (b : BuiltinKind) → Holds area at (step.Builtin b) → (x y : Cell) (s' : branch.State) → IsSameBelow s s' → (equal : Bool) → Equates s x y s' equal → IsSafeNext area s' c (next_by at equal)
@@ -196,18 +199,18 @@ module _ (area : Area) (pool : IsPool area.pool) (s : branch.State) (at : ℕ) (
   pub found_fault : (e : QueryFault) → x ≡ finding.Fault e → (s' : branch.State) → Takes area s at c s' (Fault e)
   found_fault e i s' prog q ls n k es r runnable m =
       let pair = safe.sound.now in
-      run_found_fault INFINITY INFINITY area prog q (names_of area) s.heaps.now pair.valid s.levels.current.posted at (registers_of c) (stack_of c) (choices_in s c ls) k es r runnable n (family_of s.levels.current.sets) pair.settled.model pair.settled.most m b (found_quiet b plain) (found_named b plain)
+      run_found_fault INFINITY s.infinity area prog q (names_of area) s.heaps.now pair.valid s.levels.current.posted at (registers_of c) (stack_of c) (choices_in s c ls) k es r runnable n (family_of s.levels.current.sets) pair.settled.model pair.settled.most m b (found_quiet b plain) (found_named b plain)
       comes.first comes.second comes.at_first comes.at_second f e (subst (Finds (names_of area) s b comes.first comes.second) i is)
 
   -- it holds or doesn't
   pub found_decided : (holds : Bool) → x ≡ finding.Decided holds → Takes area s at c s (next_by at holds)
   found_decided true i prog q ls n k es r runnable m =
       let pair = safe.sound.now in
-      run_found_true INFINITY INFINITY area prog q (names_of area) s.heaps.now pair.valid s.levels.current.posted at (registers_of c) (stack_of c) (choices_in s c ls) k es r runnable n (family_of s.levels.current.sets) pair.settled.model pair.settled.most m b (found_quiet b plain) (found_named b plain)
+      run_found_true INFINITY s.infinity area prog q (names_of area) s.heaps.now pair.valid s.levels.current.posted at (registers_of c) (stack_of c) (choices_in s c ls) k es r runnable n (family_of s.levels.current.sets) pair.settled.model pair.settled.most m b (found_quiet b plain) (found_named b plain)
       comes.first comes.second comes.at_first comes.at_second f (subst (Finds (names_of area) s b comes.first comes.second) i is)
   found_decided false i prog q ls n k es r runnable m =
       let pair = safe.sound.now in
-      run_found_false INFINITY INFINITY area prog q (names_of area) s.heaps.now pair.valid s.levels.current.posted at (registers_of c) (stack_of c) (choices_in s c ls) k es r runnable n (family_of s.levels.current.sets) pair.settled.model pair.settled.most m b (found_quiet b plain) (found_named b plain)
+      run_found_false INFINITY s.infinity area prog q (names_of area) s.heaps.now pair.valid s.levels.current.posted at (registers_of c) (stack_of c) (choices_in s c ls) k es r runnable n (family_of s.levels.current.sets) pair.settled.model pair.settled.most m b (found_quiet b plain) (found_named b plain)
       comes.first comes.second comes.at_first comes.at_second f (subst (Finds (names_of area) s b comes.first comes.second) i is)
 
   module _ (l w : Cell) (i : x ≡ finding.Equal l w) where
@@ -222,10 +225,10 @@ module _ (area : Area) (pool : IsPool area.pool) (s : branch.State) (at : ℕ) (
     pub found_equal : (s' : branch.State) → IsSameBelow s s' → (equal : Bool) → Equates s l w s' equal → Takes area s at c s' (next_by at equal)
     found_equal s' below equal e prog q ls n k es r runnable m =
         let pair = safe.sound.now in
-        equated_next area pool s at c l w prog q ls n k es r
-        (run_found_equated INFINITY INFINITY area prog q (names_of area) s.heaps.now pair.valid s.levels.current.posted at (registers_of c) (stack_of c) (choices_in s c ls) k es r runnable n (family_of s.levels.current.sets) pair.settled.model pair.settled.most m b (found_quiet b plain) (found_named b plain)
+        equated_next area pool s safe.sound.greatest.1 at c l w prog q ls n k es r
+        (run_found_equated INFINITY s.infinity area prog q (names_of area) s.heaps.now pair.valid s.levels.current.posted at (registers_of c) (stack_of c) (choices_in s c ls) k es r runnable n (family_of s.levels.current.sets) pair.settled.model pair.settled.most m b (found_quiet b plain) (found_named b plain)
         comes.first comes.second comes.at_first comes.at_second f l w told.2)
-        (run_found_refuted INFINITY INFINITY area prog q (names_of area) s.heaps.now pair.valid s.levels.current.posted at (registers_of c) (stack_of c) (choices_in s c ls) k es r runnable n (family_of s.levels.current.sets) pair.settled.model pair.settled.most m b (found_quiet b plain) (found_named b plain)
+        (run_found_refuted INFINITY s.infinity area prog q (names_of area) s.heaps.now pair.valid s.levels.current.posted at (registers_of c) (stack_of c) (choices_in s c ls) k es r runnable n (family_of s.levels.current.sets) pair.settled.model pair.settled.most m b (found_quiet b plain) (found_named b plain)
         comes.first comes.second comes.at_first comes.at_second f l w told.2)
         s' below equal e
 
@@ -235,9 +238,10 @@ module _ (area : Area) (pool : IsPool area.pool) (s : branch.State) (at : ℕ) (
 pub grown_taken : (area : Area) (s s1 : branch.State) (at : ℕ) (c : Contents) (i : Code) → IsFirst i → Holds area at i → IsGrown s.heaps.now s1.heaps.now → s1 ≡ with_heap s s1.heaps.now → (s' : branch.State) (x : Next) → Takes area s1 at c s' x → Takes area s at c s' x
 grown_taken area s s1 at c i first f g e s' x t prog q ls n k es r runnable m =
     t prog q ls n k es r runnable
-    (subst (λ cs. Runs INFINITY INFINITY area prog q (names_of area) s1.heaps.now s1.levels.current.posted at (registers_of c) (stack_of c) cs (suc n) k es r) (choices_same s s1 c ls (below_heap s s1 e))
-    (subst (λ (l : Levels). Runs INFINITY INFINITY area prog q (names_of area) s1.heaps.now l.current.posted at (registers_of c) (stack_of c) (choices_in s c ls) (suc n) k es r) (sym (ap (λ (y : branch.State). y.levels) e))
-    (runs_grown INFINITY INFINITY area prog q (names_of area) (suc n) k es r s.heaps.now s1.heaps.now g s.levels.current.posted at (registers_of c) (stack_of c) (choices_in s c ls) i first f m)))
+    (subst (λ N. Runs INFINITY N area prog q (names_of area) s1.heaps.now s1.levels.current.posted at (registers_of c) (stack_of c) (choices_in s1 c ls) (suc n) k es r) (sym (ap (λ (y : branch.State). y.infinity) e))
+    (subst (λ cs. Runs INFINITY s.infinity area prog q (names_of area) s1.heaps.now s1.levels.current.posted at (registers_of c) (stack_of c) cs (suc n) k es r) (choices_same s s1 c ls (below_heap s s1 e))
+    (subst (λ (l : Levels). Runs INFINITY s.infinity area prog q (names_of area) s1.heaps.now l.current.posted at (registers_of c) (stack_of c) (choices_in s c ls) (suc n) k es r) (sym (ap (λ (y : branch.State). y.levels) e))
+    (runs_grown INFINITY s.infinity area prog q (names_of area) (suc n) k es r s.heaps.now s1.heaps.now g s.levels.current.posted at (registers_of c) (stack_of c) (choices_in s c ls) i first f m))))
 
 -- where a goal holds, the next place is next
 pub next_leads : (at : ℕ) (holds : Bool) → LeadsNext at (next_by at holds)

@@ -29,7 +29,8 @@ use Rattle.wam_code.specs.Area.{Area, Holds}
 use Rattle.code_areas.specs.Areas.{cell_at, Contents}
 use Rattle.code_steps.specs.Registers.{AreIn}
 use Rattle.code_steps.specs.Running.{Runs, Returns}
-use Rattle.code_steps.proofs.Lemmas.{run_constraint_fault, run_constraint, run_constraint_failed}
+use Rattle.branch_state.proofs.Lemmas.{bounded_more}
+use Rattle.code_steps.proofs.Lemmas.{run_constraint_fault, run_constraint, run_constraint_failed, runs_bounded, spends_more}
 use Rattle.code_states.specs.Choices.{choices_in}
 use Rattle.code_states.specs.Machine.{registers_of, stack_of}
 use Rattle.code_states.specs.Safety.{IsSafe}
@@ -86,33 +87,39 @@ module _ (area : Area) (s : branch.State) (at : ℕ) (c : Contents) (safe : IsSa
   pub constraint_fault : (e : QueryFault) (s' s'' : branch.State) → Constrains area.pool.names s kd d s' (outcome.Fault e) → Takes area s at c s'' (Fault e)
   constraint_fault e s' s'' told prog q ls n k es r runnable m =
       let pair = safe.sound.now in
-      run_constraint_fault INFINITY INFINITY area prog q (names_of area) h pair.valid qs at (registers_of c) (stack_of c) (choices_in s c ls) k es r runnable n G pair.settled.model pair.settled.most m kd goal.cells goal.gathered.1 goal.gathered.0 f e (row (Err e) told.0)
+      run_constraint_fault INFINITY s.infinity area prog q (names_of area) h pair.valid qs at (registers_of c) (stack_of c) (choices_in s c ls) k es r runnable n G pair.settled.model pair.settled.most m kd goal.cells goal.gathered.1 goal.gathered.0 f e (row (Err e) told.0)
 
   module _ (s' : branch.State) (below : IsSameBelow s s') where
     -- the row is posted, and the machine goes on
     pub constraint_kept : Constrains area.pool.names s kd d s' outcome.Kept → Takes area s at c s' (On (suc at))
     constraint_kept told prog q ls n k es r runnable m =
         let pair = safe.sound.now in
-        let x = told.0 in
-        subst (λ cs. Spends (λ later j. Runs INFINITY INFINITY area prog q (names_of area) s'.heaps.now s'.levels.current.posted (suc at) (registers_of c) (stack_of c) cs n k later j) [] es r) (choices_same s s' c ls below)
-        (subst (λ ps. Spends (λ later j. Runs INFINITY INFINITY area prog q (names_of area) s'.heaps.now ps (suc at) (registers_of c) (stack_of c) (choices_in s c ls) n k later j) [] es r) (sym x.after)
-        (run_constraint INFINITY INFINITY area prog q (names_of area) h pair.valid qs at (registers_of c) (stack_of c) (choices_in s c ls) k es r runnable n G pair.settled.model pair.settled.most m kd goal.cells goal.gathered.1 goal.gathered.0 f
-        x.row (row (Ok x.row) x.is) s'.heaps.now x.link x.ranges x.new x.touches x.linked))
+        let ps = told.0.0 in
+        let x = told.0.1 in
+        subst (λ N. Spends (λ later j. Runs INFINITY N area prog q (names_of area) s'.heaps.now s'.levels.current.posted (suc at) (registers_of c) (stack_of c) (choices_in s' c ls) n k later j) [] es r) (sym below.infinity)
+        (subst (λ cs. Spends (λ later j. Runs INFINITY s.infinity area prog q (names_of area) s'.heaps.now s'.levels.current.posted (suc at) (registers_of c) (stack_of c) cs n k later j) [] es r) (choices_same s s' c ls below)
+        (spends_more (λ later j. Runs INFINITY s.infinity area prog q (names_of area) s'.heaps.now ps (suc at) (registers_of c) (stack_of c) (choices_in s c ls) n k later j)
+        (λ later j. Runs INFINITY s.infinity area prog q (names_of area) s'.heaps.now s'.levels.current.posted (suc at) (registers_of c) (stack_of c) (choices_in s c ls) n k later j)
+        (λ later j w. runs_bounded INFINITY s.infinity safe.sound.greatest.1 area (names_of area) s'.heaps.now ps s'.levels.current.posted (bounded_more s.infinity s.levels.current told.0.0 s'.levels.current told.0.2) (suc at) (registers_of c) (stack_of c) prog q (choices_in s c ls) n k later j w) [] es r
+        (subst (λ ts. Spends (λ later j. Runs INFINITY s.infinity area prog q (names_of area) s'.heaps.now ts (suc at) (registers_of c) (stack_of c) (choices_in s c ls) n k later j) [] es r) (sym x.after)
+        (run_constraint INFINITY s.infinity area prog q (names_of area) h pair.valid qs at (registers_of c) (stack_of c) (choices_in s c ls) k es r runnable n G pair.settled.model pair.settled.most m kd goal.cells goal.gathered.1 goal.gathered.0 f
+        x.row (row (Ok x.row) x.is) s'.heaps.now x.link x.ranges x.new x.touches x.linked))))
 
     -- or it has no model, and the machine goes back
     pub constraint_failed : Constrains area.pool.names s kd d s' outcome.Failed → Takes area s at c s' Back
     constraint_failed told prog q ls n k es r runnable m =
         let pair = safe.sound.now in
         let x = told.0.1 in
-        subst (λ cs. Spends (λ later j. Returns INFINITY INFINITY area prog q (names_of area) cs n k later j) [] es r) (choices_same s s' c ls below)
-        (run_constraint_failed INFINITY INFINITY area prog q (names_of area) h pair.valid qs at (registers_of c) (stack_of c) (choices_in s c ls) k es r runnable n G pair.settled.model pair.settled.most m kd goal.cells goal.gathered.1 goal.gathered.0 f
-        x.row (row (Ok x.row) x.is) s'.heaps.now x.link x.ranges x.new x.touches x.linked (subst HasNoModel x.after told.0.2))
+        subst (λ N. Spends (λ later j. Returns INFINITY N area prog q (names_of area) (choices_in s' c ls) n k later j) [] es r) (sym below.infinity)
+        (subst (λ cs. Spends (λ later j. Returns INFINITY s.infinity area prog q (names_of area) cs n k later j) [] es r) (choices_same s s' c ls below)
+        (run_constraint_failed INFINITY s.infinity area prog q (names_of area) h pair.valid qs at (registers_of c) (stack_of c) (choices_in s c ls) k es r runnable n G pair.settled.model pair.settled.most m kd goal.cells goal.gathered.1 goal.gathered.0 f
+        x.row (row (Ok x.row) x.is) s'.heaps.now x.link x.ranges x.new x.touches x.linked (subst (HasNoModel s.infinity) x.after told.0.2)))
 
     -- safe after the row
     pub kept_safe : Constrains area.pool.names s kd d s' outcome.Kept → IsSafeNext area s' c (On (suc at))
     kept_safe told =
         on_safe area s at c (step.Constrain kd) (constraint_arity kd) safe f (λ t. refl) refl s' below told.1
-        (λ e o. (told.0.linked.own e o.0, subst (λ n. IsAtomBelow n e) (sym below.atoms) o.1))
+        (λ e o. (told.0.1.linked.own e o.0, subst (λ n. IsAtomBelow n e) (sym below.atoms) o.1))
 
     -- and on the way back
     pub failed_safe : Constrains area.pool.names s kd d s' outcome.Failed → IsSafeNext area s' c Back

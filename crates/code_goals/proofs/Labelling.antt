@@ -20,6 +20,7 @@ use Rattle.machine_relation.specs.Labelling.{labels, done, faults}
 use Rattle.machine_relation.specs.Store.{posts}
 use Rattle.term_pool.specs.declared.TheConstants.{NIL, CONS}
 use Rattle.term_pool.specs.Valid.{IsPool}
+use Rattle.machine_frames.proofs.Lemmas.{model_wider}
 use Rattle.machine_frames.specs.Frames.{store_touches}
 use Rattle.machine_frames.proofs.Lemmas.{full_one, full_own}
 use Rattle.range_code.specs.Frames.{family_of}
@@ -82,6 +83,10 @@ marked_equates s (Some v) a b s' false e = (
   e.1,
 )
 
+mark_infinity : (s : branch.State) (o : Option ValuesLeft) → (with_mark s o).infinity ≡ s.infinity
+mark_infinity s None = refl
+mark_infinity s (Some v) = refl
+
 mark_safe : (area : Area) (s : branch.State) (at : ℕ) (c : Contents) → IsSafe area s at 0 c → (o : Option ValuesLeft) → IsSound (with_mark s o) → IsSafe area (with_mark s o) at 0 (with_point c at o)
 mark_safe area s at c safe None sound = safe
 mark_safe area s at c safe (Some v) sound = marked_safe area s at c safe sound
@@ -92,10 +97,10 @@ module _ (area : Area) (prog : Program) (q : Query) (s : branch.State) (at : ℕ
   points ns = choices_in (with_pair s) (pointed c at) (values ns v.variable at ∷ ls)
 
   abbrev Back : List Choice → Type 0
-  Back cs = Returns INFINITY INFINITY area prog q (names_of area) cs f.budget f.answers f.events f.reductions
+  Back cs = Returns INFINITY s.infinity area prog q (names_of area) cs f.budget f.answers f.events f.reductions
 
   abbrev Going : Cells → List Indexical → List Choice → Type 0
-  Going h qs cs = Runs INFINITY INFINITY area prog q (names_of area) h qs at (registers_of c) (stack_of c) cs f.budget f.answers f.events f.reductions
+  Going h qs cs = Runs INFINITY s.infinity area prog q (names_of area) h qs at (registers_of c) (stack_of c) cs f.budget f.answers f.events f.reductions
 
   abbrev points_now : Option ValuesLeft → List Choice
   points_now o = choices_in (with_mark s o) (with_point c at o) (lefts_of at o ++ ls)
@@ -103,7 +108,7 @@ module _ (area : Area) (prog : Program) (q : Query) (s : branch.State) (at : ℕ
   -- a machine on its way back to what is left, which may be nothing
   back_settled : (o : Option ValuesLeft) → IsKept v o → IsSound s → Back (points (numbers_left v)) → Back (points_now o)
   back_settled None e sound m =
-      back_no_values INFINITY INFINITY area prog q (names_of area) s.heaps.now sound.now.valid s.levels.current.posted at (registers_of c) (stack_of c) (choices_in s c ls) f.budget f.answers f.events f.reductions v.variable
+      back_no_values INFINITY s.infinity area prog q (names_of area) s.heaps.now sound.now.valid s.levels.current.posted at (registers_of c) (stack_of c) (choices_in s c ls) f.budget f.answers f.events f.reductions v.variable
       (subst (λ ns. Back (points ns)) e m)
   back_settled (Some w) e sound m = subst (λ (x : ValuesLeft). Back (choices_in (with_pair s) (pointed c at) (left_of at x ∷ ls))) (sym e.0) m
 
@@ -111,11 +116,11 @@ module _ (area : Area) (prog : Program) (q : Query) (s : branch.State) (at : ℕ
   value_settled : IsHeap s.heaps.now → term_of (names_of area) s.heaps.now (cell.Ref v.variable) ≡ Var v.variable → (o : Option ValuesLeft) → IsKept v o → (m : ℕ) (now : Cells) (ts : List Touch) → IsUnified (names_of area) s.heaps.now (cell.Ref v.variable) (cell.Int (pos m)) now ts
       → IsSameSize s.heaps.now now → Back (points (m ∷ numbers_left v)) → Going now (s.levels.current.posted ++ posts (store_touches ts)) (points_now o)
   value_settled valid open_now None e m now ts u size g =
-      back_last_value INFINITY INFINITY area prog q (names_of area) s.heaps.now valid s.levels.current.posted at (registers_of c) (stack_of c) (choices_in s c ls) f.budget f.answers f.events f.reductions v.variable m open_now now ts u size
+      back_last_value INFINITY s.infinity area prog q (names_of area) s.heaps.now valid s.levels.current.posted at (registers_of c) (stack_of c) (choices_in s c ls) f.budget f.answers f.events f.reductions v.variable m open_now now ts u size
       (subst (λ ns. Back (points (m ∷ ns))) e g)
   value_settled valid open_now (Some w) e m now ts u size g =
       subst (λ (x : ValuesLeft). Going now (s.levels.current.posted ++ posts (store_touches ts)) (choices_in (with_pair s) (pointed c at) (left_of at x ∷ ls))) (sym e.0)
-      (back_value INFINITY INFINITY area prog q (names_of area) s.heaps.now valid s.levels.current.posted at (registers_of c) (stack_of c) (choices_in s c ls) f.budget f.answers f.events f.reductions v.variable m (numbers_left v) open_now now ts u size g)
+      (back_value INFINITY s.infinity area prog q (names_of area) s.heaps.now valid s.levels.current.posted at (registers_of c) (stack_of c) (choices_in s c ls) f.budget f.answers f.events f.reductions v.variable m (numbers_left v) open_now now ts u size g)
 
 -- ---- a value is tried
 
@@ -182,9 +187,9 @@ module _ (area : Area) (pool : IsPool area.pool) (s : branch.State) (at : ℕ) (
       tried_back (inl un) = absurd (can_be (names_of area) (full_one area.pool.names pool.distinct) h safe.sound.now.valid v.variable (pos m) open_now.term un)
       tried_back (inr gone) =
           back_settled area prog q s at c ls f (later v m) o kept safe.sound
-          (run_fails INFINITY INFINITY area prog q (names_of area) gone.now (qs ++ posts (store_touches gone.touches)) at (registers_of c) (stack_of c) (points area prog q s at c ls f v ns) f.budget f.answers f.events f.reductions
-          (back_value INFINITY INFINITY area prog q (names_of area) h safe.sound.now.valid qs at (registers_of c) (stack_of c) (choices_in s c ls) f.budget f.answers f.events f.reductions v.variable m ns open_now.term gone.now gone.touches (gone.unified (names_of area)) gone.size back)
-          gone.none)
+          (run_fails INFINITY s.infinity area prog q (names_of area) gone.now (qs ++ posts (store_touches gone.touches)) at (registers_of c) (stack_of c) (points area prog q s at c ls f v ns) f.budget f.answers f.events f.reductions
+          (back_value INFINITY s.infinity area prog q (names_of area) h safe.sound.now.valid qs at (registers_of c) (stack_of c) (choices_in s c ls) f.budget f.answers f.events f.reductions v.variable m ns open_now.term gone.now gone.touches (gone.unified (names_of area)) gone.size back)
+          (λ T m. gone.none T (model_wider INFINITY s.infinity (qs ++ posts (store_touches gone.touches)) safe.sound.greatest.1 T m)))
 
     module _ (sound : IsSound (with_mark s o)) (below : IsSameBelow (with_mark s o) s') where
       safe_now : IsSafe area (with_mark s o) at 0 (with_point c at o)
@@ -225,10 +230,11 @@ module _ (area : Area) (pool : IsPool area.pool) (s : branch.State) (at : ℕ) (
           → RunsWent area (task_of area prog q) s' (with_point c at o) (lefts_of at o ++ ls) (went_to at equal) f
       tried_runs true e prog q ls f g =
           let same = choices_same (with_mark s o) s' (with_point c at o) (lefts_of at o ++ ls) below in
-          subst (λ regs. Runs INFINITY INFINITY area prog q (names_of area) s'.heaps.now s'.levels.current.posted at regs (stack_of (with_point c at o)) (choices_in s' (with_point c at o) (lefts_of at o ++ ls)) f.budget f.answers f.events f.reductions) (registers_same c at o)
-          (subst (λ st. Runs INFINITY INFINITY area prog q (names_of area) s'.heaps.now s'.levels.current.posted at (registers_of c) st (choices_in s' (with_point c at o) (lefts_of at o ++ ls)) f.budget f.answers f.events f.reductions) (stack_same c at o)
-          (subst (λ cs. Going area prog q s at c ls f v s'.heaps.now s'.levels.current.posted cs) same (tried_on prog q ls f g e)))
-      tried_runs false e prog q ls f g = (let same = choices_same (with_mark s o) s' (with_point c at o) (lefts_of at o ++ ls) below in subst (λ cs. Back area prog q s at c ls f v cs) same (tried_back prog q ls f g e.0))
+          subst (λ N. Runs INFINITY N area prog q (names_of area) s'.heaps.now s'.levels.current.posted at (registers_of (with_point c at o)) (stack_of (with_point c at o)) (choices_in s' (with_point c at o) (lefts_of at o ++ ls)) f.budget f.answers f.events f.reductions) (sym (below.infinity ∙ mark_infinity s o))
+          (subst (λ regs. Runs INFINITY s.infinity area prog q (names_of area) s'.heaps.now s'.levels.current.posted at regs (stack_of (with_point c at o)) (choices_in s' (with_point c at o) (lefts_of at o ++ ls)) f.budget f.answers f.events f.reductions) (registers_same c at o)
+          (subst (λ st. Runs INFINITY s.infinity area prog q (names_of area) s'.heaps.now s'.levels.current.posted at (registers_of c) st (choices_in s' (with_point c at o) (lefts_of at o ++ ls)) f.budget f.answers f.events f.reductions) (stack_same c at o)
+          (subst (λ cs. Going area prog q s at c ls f v s'.heaps.now s'.levels.current.posted cs) same (tried_on prog q ls f g e))))
+      tried_runs false e prog q ls f g = (let same = choices_same (with_mark s o) s' (with_point c at o) (lefts_of at o ++ ls) below in subst (λ N. Returns INFINITY N area prog q (names_of area) (choices_in s' (with_point c at o) (lefts_of at o ++ ls)) f.budget f.answers f.events f.reductions) (sym (below.infinity ∙ mark_infinity s o)) (subst (λ cs. Back area prog q s at c ls f v cs) same (tried_back prog q ls f g e.0)))
 
       -- the least value, and what is left behind it
       pub tried_value : (equal : Bool) → Equates (with_mark s o) x z s' equal → IsTried area s at c v s' (with_point c at o) (record { went = went_to at equal; left = o })
@@ -248,7 +254,7 @@ module _ (area : Area) (pool : IsPool area.pool) (s : branch.State) (at : ℕ) (
 module _ (area : Area) (s : branch.State) (at : ℕ) (c : Contents) (safe : IsSafe area s at 0 c) (o : Order) (holds : Holds area at (step.Label o)) (d : Cell) (at_d : cell_at c.registers 1 ≡ Some d) where
   -- back to the labelling, with these values of a variable
   abbrev Waiting : Program → Query → List Left → ℕ → Option ℕ → List Event → ℕ → List ℕ → ℕ → Type 0
-  Waiting prog q ls n k es r ks w = Returns INFINITY INFINITY area prog q (names_of area) (choices_in (with_pair s) (pointed c at) (values ks w at ∷ ls)) n k es r
+  Waiting prog q ls n k es r ks w = Returns INFINITY s.infinity area prog q (names_of area) (choices_in (with_pair s) (pointed c at) (values ks w at ∷ ls)) n k es r
 
   -- a fault ends the query
   pub label_faults : (e : QueryFault) → labelled_in (names_of area) s o d ≡ faults e → Labels area s at c s c (Took (Fault e))
@@ -257,7 +263,7 @@ module _ (area : Area) (s : branch.State) (at : ℕ) (c : Contents) (safe : IsSa
     refl,
     λ prog q ls n k es r runnable m. (
         let pair = safe.sound.now in
-        run_label_fault INFINITY INFINITY area prog q (names_of area) s.heaps.now pair.valid s.levels.current.posted at (registers_of c) (stack_of c) (choices_in s c ls) k es r runnable n (family_of s.levels.current.sets) pair.settled.model pair.settled.most m o d at_d holds e i),
+        run_label_fault INFINITY s.infinity area prog q (names_of area) s.heaps.now pair.valid s.levels.current.posted at (registers_of c) (stack_of c) (choices_in s c ls) k es r runnable n (family_of s.levels.current.sets) pair.settled.model pair.settled.most m o d at_d holds e i),
   )
 
   -- no member is open
@@ -267,7 +273,7 @@ module _ (area : Area) (s : branch.State) (at : ℕ) (c : Contents) (safe : IsSa
     refl,
     λ prog q ls n k es r runnable m. (
         let pair = safe.sound.now in
-        run_label_done INFINITY INFINITY area prog q (names_of area) s.heaps.now pair.valid s.levels.current.posted at (registers_of c) (stack_of c) (choices_in s c ls) k es r runnable n (family_of s.levels.current.sets) pair.settled.model pair.settled.most m o d at_d holds i),
+        run_label_done INFINITY s.infinity area prog q (names_of area) s.heaps.now pair.valid s.levels.current.posted at (registers_of c) (stack_of c) (choices_in s c ls) k es r runnable n (family_of s.levels.current.sets) pair.settled.model pair.settled.most m o d at_d holds i),
   )
 
   -- the values of a variable are tried
@@ -281,7 +287,7 @@ module _ (area : Area) (s : branch.State) (at : ℕ) (c : Contents) (safe : IsSa
     λ prog q ls n k es r runnable m. (
         let pair = safe.sound.now in
         let all : numbers_left v ≡ values_of s i = left ∙ filter_from_low 0 0 INFINITY vs rising (omega arith) ∙ e in
-        let g = run_label INFINITY INFINITY area prog q (names_of area) s.heaps.now pair.valid s.levels.current.posted at (registers_of c) (stack_of c) (choices_in s c ls) k es r runnable n (family_of s.levels.current.sets) pair.settled.model pair.settled.most m o d at_d holds i (values_of s i) told in
+        let g = run_label INFINITY s.infinity area prog q (names_of area) s.heaps.now pair.valid s.levels.current.posted at (registers_of c) (stack_of c) (choices_in s c ls) k es r runnable n (family_of s.levels.current.sets) pair.settled.model pair.settled.most m o d at_d holds i (values_of s i) told in
         spends_more (λ x j. Waiting prog q ls n k x j (values_of s i) i) (λ x j. RunsWent area (task_of area prog q) s' c' (lefts_of at t.left ++ ls) t.went (record { budget = n; answers = k; events = x; reductions = j }))
         (λ x j back. tried.runs prog q ls (record { budget = n; answers = k; events = x; reductions = j })
         (subst (λ w. Waiting prog q ls n k x j (numbers_left v) w) (sym same) (subst (λ ks. Waiting prog q ls n k x j ks i) (sym all) back)))
@@ -326,6 +332,7 @@ open_kept area s at c v w (Some u) s1 c1 keeps opened = subst (λ (x : branch.St
 -- A machine that took its newest choice point away was on its way back to a point with its registers, slots and continuations now.
 pub back_at : (area : Area) (t : Task) (s s' : branch.State) (at : ℕ) (c c' : Contents) → IsUndone s s' → c.points ≡ point_of c' at ∷ c'.points → (l : Left) (ls : List Left) (f : Future) → ReturnsTo area t s c (l ∷ ls) f → ReturnsTo area t (with_pair s') (pointed c' at) (l ∷ ls) f
 back_at area t s s' at c c' undone some l ls f m =
-    subst (λ hs. Returns INFINITY INFINITY area t.program t.query t.name (choices_of (point_of c' at ∷ c'.points) hs (s'.levels.current ∷ s'.levels.below) (l ∷ ls)) f.budget f.answers f.events f.reductions) undone.heaps
-    (subst (λ vs. Returns INFINITY INFINITY area t.program t.query t.name (choices_of (point_of c' at ∷ c'.points) s.heaps.below vs (l ∷ ls)) f.budget f.answers f.events f.reductions) undone.levels
-    (subst (λ ps. Returns INFINITY INFINITY area t.program t.query t.name (choices_of ps s.heaps.below s.levels.below (l ∷ ls)) f.budget f.answers f.events f.reductions) some m))
+    subst (λ N. Returns INFINITY N area t.program t.query t.name (choices_of (point_of c' at ∷ c'.points) (s'.heaps.now ∷ s'.heaps.below) (s'.levels.current ∷ s'.levels.below) (l ∷ ls)) f.budget f.answers f.events f.reductions) (sym undone.infinity)
+    (subst (λ hs. Returns INFINITY s.infinity area t.program t.query t.name (choices_of (point_of c' at ∷ c'.points) hs (s'.levels.current ∷ s'.levels.below) (l ∷ ls)) f.budget f.answers f.events f.reductions) undone.heaps
+    (subst (λ vs. Returns INFINITY s.infinity area t.program t.query t.name (choices_of (point_of c' at ∷ c'.points) s.heaps.below vs (l ∷ ls)) f.budget f.answers f.events f.reductions) undone.levels
+    (subst (λ ps. Returns INFINITY s.infinity area t.program t.query t.name (choices_of ps s.heaps.below s.levels.below (l ∷ ls)) f.budget f.answers f.events f.reductions) some m)))

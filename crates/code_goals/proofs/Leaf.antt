@@ -20,7 +20,7 @@ use Rattle.machine_relation.specs.Ahead.{Spends}
 use Rattle.machine_relation.specs.Labelling.{labels, done, faults}
 use Rattle.machine_relation.specs.Store.{posts}
 use Rattle.machine_frames.specs.Frames.{store_touches}
-use Rattle.machine_frames.proofs.Lemmas.{full_one}
+use Rattle.machine_frames.proofs.Lemmas.{full_one, model_wider}
 use Rattle.term_pool.specs.Valid.{IsPool}
 use Rattle.unify_core.specs.declared.Touch.{Touch}
 use Rattle.unify_core.specs.Reduces.{IsSameSize}
@@ -77,10 +77,6 @@ module _ (area : Area) (s : branch.State) (at : ℕ) (c : Contents) (o : Order) 
 
 -- ---- the goal is taken
 
--- some number is in the universe
-big : 0 < INFINITY
-big = omega arith
-
 module _ (area : Area) (s : branch.State) (at : ℕ) (c : Contents) (safe : IsSafe area s at 0 c) (o : Order) (least : Bool) (holds : Holds area at (step.Best o least)) (d e : Cell) (at_d : cell_at c.registers 1 ≡ Some d) (at_e : cell_at c.registers 2 ≡ Some e) where
   abbrev G : Family
   G = family_of s.levels.current.sets
@@ -89,27 +85,27 @@ module _ (area : Area) (s : branch.State) (at : ℕ) (c : Contents) (safe : IsSa
   pub best_faults : (x : QueryFault) → search_fault (read_list (seen_term (names_of area) s.heaps.now G d)) (seen_term (names_of area) s.heaps.now G e) ≡ Some x → Takes area s at c s (Fault x)
   best_faults x i prog q ls n k es r runnable m =
       let pair = safe.sound.now in
-      run_best_fault INFINITY area prog q (names_of area) s.heaps.now pair.valid s.levels.current.posted at (registers_of c) (stack_of c) (choices_in s c ls) k es r runnable n G pair.settled.model pair.settled.most m o least d e at_d at_e holds x i
+      run_best_fault INFINITY s.infinity area prog q (names_of area) s.heaps.now pair.valid s.levels.current.posted at (registers_of c) (stack_of c) (choices_in s c ls) k es r runnable n G pair.settled.model pair.settled.most m o least d e at_d at_e holds x i
 
   module _ (ms : List Member) where
     -- there is no leaf
     pub best_none : IsSought (names_of area) s o least d e ms None → Takes area s at c s Back
     best_none w prog q ls n k es r runnable m =
         let pair = safe.sound.now in
-        run_best_none INFINITY area prog q (names_of area) s.heaps.now pair.valid s.levels.current.posted at (registers_of c) (stack_of c) (choices_in s c ls) k es r runnable n G pair.settled.model pair.settled.most m o least d e at_d at_e holds big w.search.monotone ms w.cost_member w.own
-        w.search.members w.search.costs w.search.among w.search.owned w.values
+        run_best_none INFINITY s.infinity area prog q (names_of area) s.heaps.now pair.valid s.levels.current.posted at (registers_of c) (stack_of c) (choices_in s c ls) k es r runnable n G pair.settled.model pair.settled.most m o least d e at_d at_e holds safe.sound.greatest.1 safe.sound.greatest.0 w.search.monotone ms w.cost_member w.own
+        w.search.members w.search.costs w.search.among w.search.owned w.ranges w.search.begun w.values
 
     -- there is one, to which the machine goes
     module _ (ps : Values) (first : firsts ps ≡ open_ones ms) (w : IsSought (names_of area) s o least d e ms (Some (seconds ps))) where
       abbrev Led : Program → Query → List Left → ℕ → Option ℕ → List ℕ → ℕ → List Event → ℕ → Type 0
-      Led prog q ls n k cells left es r = Leads INFINITY area prog q (names_of area) o least cells (seconds ps) left s.heaps.now s.levels.current.posted at (registers_of c) (stack_of c) (choices_in s c ls) n k es r
+      Led prog q ls n k cells left es r = Leads INFINITY s.infinity area prog q (names_of area) o least cells (seconds ps) left s.heaps.now s.levels.current.posted at (registers_of c) (stack_of c) (choices_in s c ls) n k es r
 
       on_the_way : TakesBy area s at c (λ t ls n k es r. (left : ℕ) × (left ≤ length ps) × Spends (λ later j. LeadsAt area t.program t.query s at c ls o least ps left (record { budget = n; answers = k; events = later; reductions = j })) [] es r)
       on_the_way prog q ls n k es r runnable m =
           let pair = safe.sound.now in
           let led = subst (λ cells. (left : ℕ) × (left ≤ length cells) × Spends (Led prog q ls n k cells left) [] es r) (sym first)
-          (run_best INFINITY area prog q (names_of area) s.heaps.now pair.valid s.levels.current.posted at (registers_of c) (stack_of c) (choices_in s c ls) k es r runnable n G pair.settled.model pair.settled.most m o least d e at_d at_e holds big w.search.monotone ms w.cost_member w.own
-          w.search.members w.search.costs w.search.among w.search.owned (seconds ps) w.values) in
+          (run_best INFINITY s.infinity area prog q (names_of area) s.heaps.now pair.valid s.levels.current.posted at (registers_of c) (stack_of c) (choices_in s c ls) k es r runnable n G pair.settled.model pair.settled.most m o least d e at_d at_e holds safe.sound.greatest.1 safe.sound.greatest.0 w.search.monotone ms w.cost_member w.own
+          w.search.members w.search.costs w.search.among w.search.owned w.ranges w.search.begun (seconds ps) w.values) in
           (led.0, subst (λ l. led.0 ≤ l) (length-map ps (λ (p : ℕ × ℕ). p.0)) led.1, led.2)
 
       -- nothing else can come
@@ -143,13 +139,13 @@ module _ (area : Area) (pool : IsPool area.pool) (s : branch.State) (at : ℕ) (
   pub there_done : labelled_in (names_of area) s o d ≡ done → (most : ℕ) → IsThere area s at c o least ps s most (On (suc at))
   there_done i most prog q ls f left few m =
       let pair = safe.sound.now in
-      lead_done INFINITY area prog q (names_of area) h pair.valid qs at (registers_of c) (stack_of c) (choices_in s c ls) f.budget f.answers f.events f.reductions o least (firsts ps) (seconds ps) left m (family_of s.levels.current.sets) pair.settled.model pair.settled.most d at_d i
+      lead_done INFINITY s.infinity area prog q (names_of area) h pair.valid qs at (registers_of c) (stack_of c) (choices_in s c ls) f.budget f.answers f.events f.reductions o least (firsts ps) (seconds ps) left m (family_of s.levels.current.sets) pair.settled.model pair.settled.most d at_d i
 
   -- the list is no fault
   pub there_fault : (x : QueryFault) → labelled_in (names_of area) s o d ≡ faults x → (most : ℕ) → IsThere area s at c o least ps s most (Fault x)
   there_fault x i most prog q ls f left few m =
       let pair = safe.sound.now in
-      lead_no_fault INFINITY area prog q (names_of area) h pair.valid qs at (registers_of c) (stack_of c) (choices_in s c ls) f.budget f.answers f.events f.reductions o least (firsts ps) (seconds ps) left m (family_of s.levels.current.sets) pair.settled.model pair.settled.most d at_d x i
+      lead_no_fault INFINITY s.infinity area prog q (names_of area) h pair.valid qs at (registers_of c) (stack_of c) (choices_in s c ls) f.budget f.answers f.events f.reductions o least (firsts ps) (seconds ps) left m (family_of s.levels.current.sets) pair.settled.model pair.settled.most d at_d x i
 
   -- a variable takes its number
   module _ (v : ℕ) (i : labelled_in (names_of area) s o d ≡ labels v (values_of s v)) (open_now : term_of (names_of area) h (cell.Ref v) ≡ Var v) (s' : branch.State) where
@@ -164,18 +160,19 @@ module _ (area : Area) (pool : IsPool area.pool) (s : branch.State) (at : ℕ) (
 
     -- on another heap, with what was touched
     step_on : (now : Cells) (ts : List Touch) → IsUnified (names_of area) h x z now ts → IsSameSize h now → (prog : Program) (q : Query) (ls : List Left) (f : Future) (left : ℕ) → LeadsAt area prog q s at c ls o least ps left f
-        → (rest : ℕ) × (left ≡ suc rest) × Leads INFINITY area prog q (names_of area) o least (firsts ps) (seconds ps) rest now (qs ++ posts (store_touches ts)) at (registers_of c) (stack_of c) (choices_in s c ls) f.budget f.answers f.events f.reductions
+        → (rest : ℕ) × (left ≡ suc rest) × Leads INFINITY s.infinity area prog q (names_of area) o least (firsts ps) (seconds ps) rest now (qs ++ posts (store_touches ts)) at (registers_of c) (stack_of c) (choices_in s c ls) f.budget f.answers f.events f.reductions
     step_on now ts u size prog q ls f left m =
         let pair = safe.sound.now in
-        lead_value INFINITY area prog q (names_of area) h pair.valid qs at (registers_of c) (stack_of c) (choices_in s c ls) f.budget f.answers f.events f.reductions o least (firsts ps) (seconds ps) left m (family_of s.levels.current.sets) pair.settled.model pair.settled.most d at_d v (values_of s v) i open_now now ts u size
+        lead_value INFINITY s.infinity area prog q (names_of area) h pair.valid qs at (registers_of c) (stack_of c) (choices_in s c ls) f.budget f.answers f.events f.reductions o least (firsts ps) (seconds ps) left m (family_of s.levels.current.sets) pair.settled.model pair.settled.most d at_d v (values_of s v) i open_now now ts u size
 
     pub value_led : IsSameBelow s s' → AreEquated s x z s' → IsLed area s at c o least ps s' 1
     value_led below e prog q ls f left m =
         let k = step_on s'.heaps.now e.touches (e.unified (names_of area)) e.size prog q ls f left m in (
           k.0,
           (let e = k.1 in omega (arith, e)),
-          subst (λ cs. Leads INFINITY area prog q (names_of area) o least (firsts ps) (seconds ps) k.0 s'.heaps.now s'.levels.current.posted at (registers_of c) (stack_of c) cs f.budget f.answers f.events f.reductions) (choices_same s s' c ls below)
-              (subst (λ rs. Leads INFINITY area prog q (names_of area) o least (firsts ps) (seconds ps) k.0 s'.heaps.now rs at (registers_of c) (stack_of c) (choices_in s c ls) f.budget f.answers f.events f.reductions) (sym e.posted) k.2),
+          subst (λ N. Leads INFINITY N area prog q (names_of area) o least (firsts ps) (seconds ps) k.0 s'.heaps.now s'.levels.current.posted at (registers_of c) (stack_of c) (choices_in s' c ls) f.budget f.answers f.events f.reductions) (sym below.infinity)
+              (subst (λ cs. Leads INFINITY s.infinity area prog q (names_of area) o least (firsts ps) (seconds ps) k.0 s'.heaps.now s'.levels.current.posted at (registers_of c) (stack_of c) cs f.budget f.answers f.events f.reductions) (choices_same s s' c ls below)
+              (subst (λ rs. Leads INFINITY s.infinity area prog q (names_of area) o least (firsts ps) (seconds ps) k.0 s'.heaps.now rs at (registers_of c) (stack_of c) (choices_in s c ls) f.budget f.answers f.events f.reductions) (sym e.posted) k.2)),
         )
 
     -- it can
@@ -183,5 +180,5 @@ module _ (area : Area) (pool : IsPool area.pool) (s : branch.State) (at : ℕ) (
     value_fits (inl un) most prog q ls f left few m = absurd (can_be (names_of area) (full_one area.pool.names pool.distinct) h safe.sound.now.valid v (pos number) open_now un)
     value_fits (inr gone) most prog q ls f left few m =
         let k = step_on gone.now gone.touches (gone.unified (names_of area)) gone.size prog q ls f left m in
-        let holds = lead_model INFINITY area prog q (names_of area) gone.now (qs ++ posts (store_touches gone.touches)) at (registers_of c) (stack_of c) (choices_in s c ls) f.budget f.answers f.events f.reductions o least (firsts ps) (seconds ps) k.0 k.2 in
-        gone.none holds.0 holds.1
+        let holds = lead_model INFINITY s.infinity area prog q (names_of area) gone.now (qs ++ posts (store_touches gone.touches)) at (registers_of c) (stack_of c) (choices_in s c ls) f.budget f.answers f.events f.reductions o least (firsts ps) (seconds ps) k.0 k.2 in
+        gone.none holds.0 (model_wider INFINITY s.infinity (qs ++ posts (store_touches gone.touches)) safe.sound.greatest.1 holds.0 holds.1)

@@ -1,8 +1,8 @@
 -- The values of a variable of the heap that a labelling takes.
-use Rattle.std.proofs.Common.{◌≡◌, ℕ, suc, ◌+◌, ◌≤◌, Bool, true, false, ◌==◌, ℤ, nat_le, List, [], ◌∷◌, length, filter, Some, None, refl, ap, sym, ◌∙◌, arith, inl, inr, eqb-true}
+use Rattle.std.proofs.Common.{◌≡◌, ℕ, suc, ◌+◌, ◌-◌, ◌≤◌, Bool, true, false, ◌==◌, ℤ, nat_le, List, [], ◌∷◌, ◌++◌, append-nil, length, filter, Some, None, refl, ap, sym, ◌∙◌, arith, inl, inr, eqb-true}
 use Rattle.std.proofs.lemmas.Bool.{le-leb, lt-leb, leb-true, leb-false, or_cases, cases_Bool}
-use Rattle.fd_language.specs.declared.TheConstants.{INFINITY}
-use Rattle.fd_language.specs.Family.{has, IsRising, universe}
+use Rattle.domain_ranges.specs.Spans.{members}
+use Rattle.fd_language.specs.Family.{has, IsRising, count_up, universe}
 use Rattle.fd_language.specs.Range.{least}
 use Rattle.fd_language.specs.Term.{Term, Var, Int, Atom, Comp, apply}
 use Rattle.fd_model.specs.Labelling.{values_by}
@@ -67,11 +67,11 @@ no_link h valid i o (looks.Struct g args) s none =
 
 -- the values are those of its set
 pub values_linked : (s : State) (i k : ℕ) → link_in s.heaps.now i ≡ Some k → family_of s.levels.current.sets k ≡ values_of s i
-values_linked s i k e = sym (ap (λ o. values_by INFINITY (cell_set (family_of s.levels.current.sets) o)) e)
+values_linked s i k e = sym (ap (λ o. values_by s.infinity (cell_set (family_of s.levels.current.sets) o)) e)
 
--- or all numbers
-pub values_all : (s : State) (i : ℕ) → link_in s.heaps.now i ≡ None → universe INFINITY ≡ values_of s i
-values_all s i e = sym (ap (λ o. values_by INFINITY (cell_set (family_of s.levels.current.sets) o)) e)
+-- or all that a variable may have
+pub values_all : (s : State) (i : ℕ) → link_in s.heaps.now i ≡ None → universe s.infinity ≡ values_of s i
+values_all s i e = sym (ap (λ o. values_by s.infinity (cell_set (family_of s.levels.current.sets) o)) e)
 
 -- the least number from n on, and those behind it
 pub values_step : (low high n m : ℕ) (xs : List ℕ) → IsRising low high xs → has xs m ≡ true → n ≤ m → m ≡ least (filter (λ k. nat_le n k) xs) → filter (λ k. nat_le n k) xs ≡ m ∷ filter (λ k. nat_le (m + 1) k) xs
@@ -97,3 +97,8 @@ can_be name apart h valid i z unbound un =
     let u : ℕ → Term = λ x. Int z in
     let w = un name apart u (ap (apply u) unbound ∙ sym (ap (apply u) (term-Int name h valid z)), tt) in
     w.3
+
+-- the numbers up to another one, as an interval
+pub numbers_up_to : (n : ℕ) → members ((0, n) ∷ []) ≡ universe n
+unfolding members universe
+numbers_up_to n = (let e : suc n - 0 ≡ suc n = omega arith in ap (λ k. count_up 0 k ++ []) e ∙ append-nil (count_up 0 (suc n)))

@@ -19,7 +19,8 @@ use Rattle.wam_code.specs.Area.{Area, Holds, range_at}
 use Rattle.code_areas.specs.Areas.{cell_at, Contents}
 use Rattle.code_steps.specs.Registers.{AreIn}
 use Rattle.code_steps.specs.Running.{Runs, Returns}
-use Rattle.code_steps.proofs.Lemmas.{spends_more, run_fails, run_range_fault, run_range}
+use Rattle.branch_state.proofs.Lemmas.{bounded_more}
+use Rattle.code_steps.proofs.Lemmas.{spends_more, run_fails, run_range_fault, run_range, runs_bounded}
 use Rattle.code_states.specs.Choices.{choices_in}
 use Rattle.code_states.specs.Machine.{registers_of, stack_of}
 use Rattle.code_states.specs.Safety.{IsSafe}
@@ -55,18 +56,24 @@ module _ (area : Area) (s : branch.State) (at : ℕ) (c : Contents) (safe : IsSa
   pub post_fault : (e : QueryFault) (s' s'' : branch.State) → PostsCells s d ds R s' (outcome.Fault e) → Takes area s at c s'' (Fault e)
   post_fault e s' s'' told prog q ls n k es r runnable m =
       let pair = safe.sound.now in
-      run_range_fault INFINITY INFINITY area prog q (names_of area) s.heaps.now pair.valid qs at (registers_of c) (stack_of c) (choices_in s c ls) k es r runnable n G pair.settled.model pair.settled.most m number args d at_d ds cells counted holds e (told (names_of area)).0
+      run_range_fault INFINITY s.infinity area prog q (names_of area) s.heaps.now pair.valid qs at (registers_of c) (stack_of c) (choices_in s c ls) k es r runnable n G pair.settled.model pair.settled.most m number args d at_d ds cells counted holds e (told (names_of area)).0
 
   module _ (s' : branch.State) (below : IsSameBelow s s') where
     -- the range is posted, and the machine goes on
     pub post_kept : PostsCells s d ds R s' outcome.Kept → Takes area s at c s' (On (suc at))
     post_kept told prog q ls n k es r runnable m =
         let pair = safe.sound.now in
-        let x = (told (names_of area)).0 in
-        subst (λ cs. Spends (λ later j. Runs INFINITY INFINITY area prog q (names_of area) s'.heaps.now s'.levels.current.posted (suc at) (registers_of c) (stack_of c) cs n k later j) [] es r) (choices_same s s' c ls below)
-        (subst (λ ps. Spends (λ later j. Runs INFINITY INFINITY area prog q (names_of area) s'.heaps.now ps (suc at) (registers_of c) (stack_of c) (choices_in s c ls) n k later j) [] es r) (sym x.after)
-        (run_range INFINITY INFINITY area prog q (names_of area) s.heaps.now pair.valid qs at (registers_of c) (stack_of c) (choices_in s c ls) k es r runnable n G pair.settled.model pair.settled.most m number args d at_d ds cells counted holds
-        x.fine x.slot s'.heaps.now x.touches x.linked))
+        let kept = (told (names_of area)).0 in
+        let ps = kept.0 in
+        let x = kept.1 in
+        subst (λ N. Spends (λ later j. Runs INFINITY N area prog q (names_of area) s'.heaps.now s'.levels.current.posted (suc at) (registers_of c) (stack_of c) (choices_in s' c ls) n k later j) [] es r) (sym below.infinity)
+        (subst (λ cs. Spends (λ later j. Runs INFINITY s.infinity area prog q (names_of area) s'.heaps.now s'.levels.current.posted (suc at) (registers_of c) (stack_of c) cs n k later j) [] es r) (choices_same s s' c ls below)
+        (spends_more (λ later j. Runs INFINITY s.infinity area prog q (names_of area) s'.heaps.now ps (suc at) (registers_of c) (stack_of c) (choices_in s c ls) n k later j)
+        (λ later j. Runs INFINITY s.infinity area prog q (names_of area) s'.heaps.now s'.levels.current.posted (suc at) (registers_of c) (stack_of c) (choices_in s c ls) n k later j)
+        (λ later j w. runs_bounded INFINITY s.infinity safe.sound.greatest.1 area (names_of area) s'.heaps.now ps s'.levels.current.posted (bounded_more s.infinity s.levels.current kept.0 s'.levels.current kept.2) (suc at) (registers_of c) (stack_of c) prog q (choices_in s c ls) n k later j w) [] es r
+        (subst (λ ts. Spends (λ later j. Runs INFINITY s.infinity area prog q (names_of area) s'.heaps.now ts (suc at) (registers_of c) (stack_of c) (choices_in s c ls) n k later j) [] es r) (sym x.after)
+        (run_range INFINITY s.infinity area prog q (names_of area) s.heaps.now pair.valid qs at (registers_of c) (stack_of c) (choices_in s c ls) k es r runnable n G pair.settled.model pair.settled.most m number args d at_d ds cells counted holds
+        x.fine x.slot s'.heaps.now x.touches x.linked))))
 
     -- or the store has no model then, and the machine goes back
     pub post_failed : PostsCells s d ds R s' outcome.Failed → Takes area s at c s' Back
@@ -75,19 +82,20 @@ module _ (area : Area) (s : branch.State) (at : ℕ) (c : Contents) (safe : IsSa
         let failed = (told (names_of area)).0 in
         let ps = failed.0 in
         let x = failed.1 in
-        subst (λ cs. Spends (λ later j. Returns INFINITY INFINITY area prog q (names_of area) cs n k later j) [] es r) (choices_same s s' c ls below)
-        (spends_more (λ later j. Runs INFINITY INFINITY area prog q (names_of area) s'.heaps.now ps (suc at) (registers_of c) (stack_of c) (choices_in s c ls) n k later j) (λ later j. Returns INFINITY INFINITY area prog q (names_of area) (choices_in s c ls) n k later j)
-        (λ later j w. run_fails INFINITY INFINITY area prog q (names_of area) s'.heaps.now ps (suc at) (registers_of c) (stack_of c) (choices_in s c ls) n k later j w failed.2) [] es r
-        (subst (λ ts. Spends (λ later j. Runs INFINITY INFINITY area prog q (names_of area) s'.heaps.now ts (suc at) (registers_of c) (stack_of c) (choices_in s c ls) n k later j) [] es r) (sym x.after)
-        (run_range INFINITY INFINITY area prog q (names_of area) s.heaps.now pair.valid qs at (registers_of c) (stack_of c) (choices_in s c ls) k es r runnable n G pair.settled.model pair.settled.most m number args d at_d ds cells counted holds
-        x.fine x.slot s'.heaps.now x.touches x.linked)))
+        subst (λ N. Spends (λ later j. Returns INFINITY N area prog q (names_of area) (choices_in s' c ls) n k later j) [] es r) (sym below.infinity)
+        (subst (λ cs. Spends (λ later j. Returns INFINITY s.infinity area prog q (names_of area) cs n k later j) [] es r) (choices_same s s' c ls below)
+        (spends_more (λ later j. Runs INFINITY s.infinity area prog q (names_of area) s'.heaps.now ps (suc at) (registers_of c) (stack_of c) (choices_in s c ls) n k later j) (λ later j. Returns INFINITY s.infinity area prog q (names_of area) (choices_in s c ls) n k later j)
+        (λ later j w. run_fails INFINITY s.infinity area prog q (names_of area) s'.heaps.now ps (suc at) (registers_of c) (stack_of c) (choices_in s c ls) n k later j w failed.2) [] es r
+        (subst (λ ts. Spends (λ later j. Runs INFINITY s.infinity area prog q (names_of area) s'.heaps.now ts (suc at) (registers_of c) (stack_of c) (choices_in s c ls) n k later j) [] es r) (sym x.after)
+        (run_range INFINITY s.infinity area prog q (names_of area) s.heaps.now pair.valid qs at (registers_of c) (stack_of c) (choices_in s c ls) k es r runnable n G pair.settled.model pair.settled.most m number args d at_d ds cells counted holds
+        x.fine x.slot s'.heaps.now x.touches x.linked))))
 
     -- safe where the range is posted
     pub posted_safe : PostsCells s d ds R s' outcome.Kept → IsSafeNext area s' c (On (suc at))
     posted_safe told =
         let x = told (names_of area) in
         on_safe area s at c (step.PostRange number args) args safe holds (λ t. refl) refl s' below x.1
-        (λ e o. (x.0.linked.own e o.0, subst (λ n. IsAtomBelow n e) (sym below.atoms) o.1))
+        (λ e o. (x.0.1.linked.own e o.0, subst (λ n. IsAtomBelow n e) (sym below.atoms) o.1))
 
     -- and on the way back
     pub unposted_safe : PostsCells s d ds R s' outcome.Failed → IsSafeNext area s' c Back

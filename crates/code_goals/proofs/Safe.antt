@@ -24,7 +24,7 @@ use Rattle.code_goals.specs.Values.{pointed}
 
 -- what is sound can be given back
 pub sound_below : (s : branch.State) → IsSound s → IsSoundBelow s
-sound_below s k = record { unspent = k.unspent; marked = k.marked; below = k.below }
+sound_below s k = record { greatest = k.greatest; unspent = k.unspent; marked = k.marked; below = k.below }
 
 -- The choice points stay as they are.
 pub choices_same : (s s' : branch.State) (c : Contents) (ls : List Left) → IsSameBelow s s' → choices_in s c ls ≡ choices_in s' c ls

@@ -30,7 +30,7 @@ value_for ps v = found_at (firsts ps) (seconds ps) v
 -- The machine is on the way, and so many variables are still to be taken.
 abbrev pub LeadsAt : Area → Program → Query → branch.State → ℕ → Contents → List Left → Order → Bool → Values → ℕ → Future → Type 0
 LeadsAt area prog q s at c ls o least ps left f =
-    Leads INFINITY area prog q (names_of area) o least (firsts ps) (seconds ps) left s.heaps.now s.levels.current.posted at (registers_of c) (stack_of c) (choices_in s c ls) f.budget f.answers f.events f.reductions
+    Leads INFINITY s.infinity area prog q (names_of area) o least (firsts ps) (seconds ps) left s.heaps.now s.levels.current.posted at (registers_of c) (stack_of c) (choices_in s c ls) f.budget f.answers f.events f.reductions
 
 -- Whatever was on the way before is on it now, so many variables further.
 abbrev pub IsLed : Area → branch.State → ℕ → Contents → Order → Bool → Values → branch.State → ℕ → Type 0

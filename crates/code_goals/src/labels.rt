@@ -1,8 +1,8 @@
 //! Labellings.
 
-ghost use Rattle.std.specs.Prelude.{◌≡◌, ◌<◌, length, IfOk};
+ghost use Rattle.std.specs.Prelude.{◌≡◌, ◌<◌, ◌≤◌, length, IfOk};
 ghost use Rattle.fd_language.specs.declared.TheConstants.{INFINITY};
-ghost use Rattle.fd_language.specs.Family.{IsRising};
+ghost use Rattle.fd_language.specs.Family.{IsRising, universe};
 ghost use Rattle.branch_goals.specs.Labels.{values_of};
 ghost use Rattle.branch_state.specs.States.{IsSound};
 ghost use Rattle.wam_code.specs.declared.instruction.Code.TheVariants as step;
@@ -49,7 +49,18 @@ pub enum Labelled {
     Tries(Tried),
 }
 
-/// The values of an open variable of the heap: all numbers where the store doesn't have it. The error is want of memory.
+/// The numbers from 0 to `infinity`.
+fn numbers_to(alloc: Global, infinity: u32) -> Domain
+    requires { infinity ≤ INFINITY }
+    ensures { result ≡ universe infinity }
+{
+    let mut all = Domain::full(alloc);
+    all.set_interval(0, infinity);
+    all
+}
+
+/// The values of an open variable of the heap: all that a variable may have where the store doesn't have it. The error is want of
+/// memory.
 fn values<A: Agenda + Drop>(
     alloc: Global,
     branch: &BranchState<A>,
@@ -63,7 +74,7 @@ fn values<A: Agenda + Drop>(
 {
     let all = match branch.heap().deref(Cell::Ref(variable)) {
         Seen::Constrained(_, k) => branch.store().domain(k).copy()?,
-        _ => Domain::full(alloc),
+        _ => numbers_to(alloc, branch.infinity()),
     };
     all.rises();
     Ok(all)

@@ -1,5 +1,6 @@
 -- Instructions that spend nothing.
-use Rattle.std.proofs.Common.{ℕ, refl, sym, subst, inl}
+use Rattle.std.proofs.Common.{ℕ, ◌≤◌, refl, sym, subst, inl}
+use Rattle.fd_language.specs.declared.TheConstants.{INFINITY}
 use Rattle.branch_state.specs.States as branch
 use Rattle.branch_state.specs.States.{IsSameBelow}
 use Rattle.wam_code.specs.declared.instruction.Code.{Code}
@@ -17,7 +18,7 @@ use Rattle.code_states.proofs.Lemmas.{ends_on, kept_runs, kept_falls}
 use Rattle.code_machine.specs.Steps.{Moves}
 
 pub same_branch : (s : branch.State) → IsSameBelow s s
-same_branch s = record { atoms = refl; heaps = refl; levels = refl }
+same_branch s = record { atoms = refl; infinity = refl; heaps = refl; levels = refl }
 
 pub same_areas : (c : Contents) → IsSameBehind c c
 same_areas c = record { returns = refl; points = refl }
@@ -29,9 +30,9 @@ module _ (area : Area) (s : branch.State) (at : ℕ) (c : Contents) where
   leads_inside c' behind Back leads = tt
 
   -- a term of a clause
-  pub term_moves : (i : Code) → IsFirst i → Holds area at i → (s' : branch.State) (c' : Contents) → IsSameBelow s s' → IsSameBehind c c' → (w : Went) → IsSafeThen area s' c' w → KeepsStanding area s at c s' c' w → LeadsOn area at w → Moves area s at c s' c' w
-  term_moves i first holds s' c' below behind w safe keep leads = record {
+  pub term_moves : s.infinity ≤ INFINITY → (i : Code) → IsFirst i → Holds area at i → (s' : branch.State) (c' : Contents) → IsSameBelow s s' → IsSameBehind c c' → (w : Went) → IsSafeThen area s' c' w → KeepsStanding area s at c s' c' w → LeadsOn area at w → Moves area s at c s' c' w
+  term_moves small i first holds s' c' below behind w safe keep leads = record {
     safe = safe;
-    moves = inl (record { below = below; points = behind.points; runs = kept_runs area s at c i first holds s' c' below behind w keep; query = leads_inside c' behind w leads });
+    moves = inl (record { below = below; points = behind.points; runs = kept_runs area s small at c i first holds s' c' below behind w keep; query = leads_inside c' behind w leads });
     falls = kept_falls area at c i holds c' behind w leads;
   }

@@ -441,7 +441,7 @@ module _ (area : Area) (query : ℕ) (s : branch.State) (at : ℕ) (c : Contents
     states = safe.states;
     verified = safe.verified;
     atoms = safe.atoms;
-    sound = record { unspent = safe.sound.unspent; marked = safe.sound.marked; below = safe.sound.below };
+    sound = record { greatest = safe.sound.greatest; unspent = safe.sound.unspent; marked = safe.sound.marked; below = safe.sound.below };
     points = safe.points;
   }
 

@@ -58,7 +58,7 @@ pub record State : Type 0 where
 
 -- A run alone knows neither its limits nor how many answers it has given.
 abbrev pub no_limits : Limits
-no_limits = record { steps = 0; answers = None }
+no_limits = record { steps = 0; answers = None; infinity = 0 }
 
 abbrev pub state_of : Area → branch.State → Run → Bool → State
 state_of area s r lost =

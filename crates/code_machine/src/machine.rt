@@ -1,6 +1,6 @@
 //! The machine.
 
-ghost use Rattle.std.specs.Prelude.{◌≡◌, ◌<◌, ◌∷◌, [], ℕ, List, Some, true, false, length, IfOk, OnOk, OnErr, IsErr};
+ghost use Rattle.std.specs.Prelude.{◌≡◌, ◌<◌, ◌≤◌, ◌∷◌, [], ℕ, List, Some, true, false, length, IfOk, OnOk, OnErr, IsErr};
 ghost use Rattle.fd_language.specs.declared.TheConstants.{INFINITY as TOP};
 ghost use Rattle.fd_model.specs.Goal.{Program, Query, Event, start_of};
 ghost use Rattle.fd_model.specs.Run.{Run as Runs, IsLimit};
@@ -87,13 +87,14 @@ impl<A: Agenda + Drop> Machine<A> {
     ) -> Result<Machine<A>, NoMemory>
         requires query { query < length code.value.queries }
         requires answers { IsLimit limits.answers }
+        requires infinity { (1 ≤ limits.infinity) × (limits.infinity ≤ TOP) }
         ensures code { IfOk result (λ m. (m.area ≡ code.value) × (m.query ≡ query)) }
         ensures limits { IfOk result (λ m. (m.limits ≡ limits) × (m.answers ≡ 0)) }
         ensures spent { IfOk result (λ m. m.spent ≡ 0) }
         ensures whole { IfOk result (λ m. m.lost ≡ false) }
         ensures stands { IfOk result (λ m. (prog : Program) (q : Query) → MayRun m.area query prog q
             → (es : List Event) (r : ℕ)
-            → Runs TOP TOP prog q limits.steps limits.answers (start_of q ∷ []) es r
+            → Runs TOP limits.infinity prog q limits.steps limits.answers (start_of q ∷ []) es r
             → StandsFor m es r) }
     {
         let (branch, run) = start(alloc, &code, query, limits, agenda)?;

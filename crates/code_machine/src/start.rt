@@ -1,6 +1,6 @@
 //! A run before its first step.
 
-ghost use Rattle.std.specs.Prelude.{◌≡◌, ◌<◌, ◌∷◌, [], ℕ, List, false, length, IfOk};
+ghost use Rattle.std.specs.Prelude.{◌≡◌, ◌<◌, ◌≤◌, ◌∷◌, [], ℕ, List, false, length, IfOk};
 ghost use Rattle.fd_language.specs.declared.TheConstants.{INFINITY as TOP};
 ghost use Rattle.fd_model.specs.Goal.{Program, Query, Event, start_of};
 ghost use Rattle.fd_model.specs.Run.{Run as Runs, IsLimit};
@@ -46,18 +46,19 @@ pub(crate) fn start<A: Agenda + Drop>(
 ) -> Result<(BranchState<A>, Run), NoMemory>
     requires query { query < length code.now.queries }
     requires answers { IsLimit limits.answers }
+    requires infinity { (1 ≤ limits.infinity) × (limits.infinity ≤ TOP) }
     ensures machine { IfOk result (λ w. IsMachine (state_of code.now w.0 w.1 false)) }
     ensures query { IfOk result (λ w. w.1.query ≡ query) }
     ensures spent { IfOk result (λ w. w.1.spent ≡ 0) }
     ensures within { IfOk result (λ w. IsWithin (state_within code.now w.0 w.1 false limits 0)) }
     ensures stands { IfOk result (λ w. (prog : Program) (q : Query) → MayRun code.now query prog q
         → (es : List Event) (r : ℕ)
-        → Runs TOP TOP prog q limits.steps limits.answers (start_of q ∷ []) es r
+        → Runs TOP limits.infinity prog q limits.steps limits.answers (start_of q ∷ []) es r
         → StandsFor (state_of code.now w.0 w.1 false) es r) }
 {
     let at = place_of(code, query);
     code.parts();
-    let branch = BranchState::new(alloc, agenda, code.pool().atoms())?;
+    let branch = BranchState::new(alloc, agenda, code.pool().atoms(), limits.infinity)?;
     let run = Run {
         query,
         areas: Areas::new(alloc),

@@ -19,11 +19,11 @@ points_marked area ss s (p ∷ ps) [] own = absurd own
 points_marked area ss s (p ∷ ps) (h ∷ hs) own = ap suc (points_marked area ss s ps hs own.1)
 
 -- a level of the store belongs to each heap
-pairs_long : (atoms : ℕ) (hs : List Cells) (vs : List Level) → ArePairs atoms hs vs → length vs ≡ length hs
-pairs_long atoms [] [] own = refl
-pairs_long atoms [] (v ∷ vs) own = absurd own
-pairs_long atoms (h ∷ hs) [] own = absurd own
-pairs_long atoms (h ∷ hs) (v ∷ vs) own = ap suc (pairs_long atoms hs vs own.1)
+pairs_long : (atoms N : ℕ) (hs : List Cells) (vs : List Level) → ArePairs atoms N hs vs → length vs ≡ length hs
+pairs_long atoms N [] [] own = refl
+pairs_long atoms N [] (v ∷ vs) own = absurd own
+pairs_long atoms N (h ∷ hs) [] own = absurd own
+pairs_long atoms N (h ∷ hs) (v ∷ vs) own = ap suc (pairs_long atoms N hs vs own.1)
 
 choices_long : (ps : List Point) (hs : List Cells) (vs : List Level) (ls : List Left) → length ps ≤ length hs → length ps ≤ length vs → length ls ≡ length ps → length (choices_of ps hs vs ls) ≡ length ps
 choices_long [] hs vs ls a b c = refl
@@ -36,7 +36,7 @@ choices_long (p ∷ ps) (h ∷ hs) (v ∷ vs) (l ∷ ls) a b c = ap suc (choices
 pub choices_many : (area : Area) (s : branch.State) (at n : ℕ) (c : Contents) → IsSafe area s at n c → (ls : List Left) → length ls ≡ length c.points → length (choices_in s c ls) ≡ length c.points
 choices_many area s at n c safe ls long =
     let heaps = points_marked area safe.states s c.points s.heaps.below safe.points in
-    let levels = pairs_long s.atoms s.heaps.below s.levels.below safe.sound.below in
+    let levels = pairs_long s.atoms s.infinity s.heaps.below s.levels.below safe.sound.below in
     choices_long c.points s.heaps.below s.levels.below ls (omega (arith, heaps)) (omega (arith, heaps, levels)) long
 
 -- ---- the oldest ones

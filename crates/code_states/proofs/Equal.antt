@@ -1,5 +1,6 @@
 -- Cells of a branch that are made equal.
 use Rattle.std.proofs.Common.{◌≡◌, ◌++◌, length, Bool, true, false, List, [], Result, Ok, Err, IfOk, ap, sym, ◌∙◌, subst, inr}
+use Rattle.fd_language.specs.declared.TheConstants.{INFINITY}
 use Rattle.fd_language.proofs.Lemmas.{two}
 use Rattle.fd_model.specs.Levels.{Levels}
 use Rattle.heap_cells.specs.declared.Cell.{Cell}
@@ -34,10 +35,10 @@ module _ (old mid new : State) (a b : Cell) (before after posted : List Touch) (
       sound = sound;
     }
 
-    equated_no : HasNoModel (posted_with mid posted) → HasNoModelFor old a b
-    equated_no none = record { now = mid.heaps.now; touches = equal.more; unified = equal.unified; size = equal.size; none = subst HasNoModel with_is none }
+    equated_no : HasNoModel INFINITY (posted_with mid posted) → HasNoModelFor old a b
+    equated_no none = record { now = mid.heaps.now; touches = equal.more; unified = equal.unified; size = equal.size; none = subst (HasNoModel INFINITY) with_is none }
 
-    pub equated : {E : Type 0} → (r : Result Bool E) → IfTrue r (new.levels.current.posted ≡ posted_with mid posted) → IfFalse r (HasNoModel (posted_with mid posted)) → IfTrue r (IsSound new) → IfFalse r (IsSoundBelow new) → IfOk r (Equates old a b new)
+    pub equated : {E : Type 0} → (r : Result Bool E) → IfTrue r (new.levels.current.posted ≡ posted_with mid posted) → IfFalse r (HasNoModel INFINITY (posted_with mid posted)) → IfTrue r (IsSound new) → IfFalse r (IsSoundBelow new) → IfOk r (Equates old a b new)
     equated (Ok true) e none sound below = equated_yes e sound
     equated (Ok false) e none sound below = (inr (equated_no none), below)
     equated (Err x) e none sound below = tt

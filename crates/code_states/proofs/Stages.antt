@@ -1,5 +1,5 @@
 -- What is still to come for a machine, and the work that is left, where an instruction keeps what the machine stands for.
-use Rattle.std.proofs.Common.{◌≡◌, ℕ, ◌<◌, List, [], ◌∷◌, map, ap, sym, ◌∙◌, subst, arith, Option}
+use Rattle.std.proofs.Common.{◌≡◌, ℕ, ◌<◌, ◌≤◌, List, [], ◌∷◌, map, ap, sym, ◌∙◌, subst, arith, Option}
 use Rattle.std.proofs.lemmas.Option.{slice_get_within}
 use Rattle.fd_language.specs.declared.TheConstants.{INFINITY}
 use Rattle.fd_model.specs.Levels.{Level}
@@ -34,13 +34,15 @@ choices_kept s s' c c' below behind ls = three (λ ps hs vs. choices_of ps hs vs
     three f {ps} {qs} {hs} {is} {vs} {ws} a b d = ap (λ x. f x hs vs) a ∙ ap (λ x. f qs x vs) b ∙ ap (λ x. f qs is x) d
 
 -- An instruction of a clause that keeps what the machine stands for keeps what is still to come.
-pub kept_runs : (area : Area) (s : branch.State) (at : ℕ) (c : Contents) (i : Code) → IsFirst i → Holds area at i → (s' : branch.State) (c' : Contents) → IsSameBelow s s' → IsSameBehind c c' → (w : Went) → KeepsStanding area s at c s' c' w → RunsThen area s at c s' c' w
-kept_runs area s at c i first holds s' c' below behind (On to) keep = λ t ls f naming m.
-    subst (λ cs. Runs INFINITY INFINITY area t.program t.query t.name s'.heaps.now s'.levels.current.posted to (registers_of c') (stack_of c') cs f.budget f.answers f.events f.reductions) (choices_kept s s' c c' below behind ls)
-    (runs_on INFINITY INFINITY area t.program t.query t.name f.budget f.answers f.events f.reductions s.heaps.now s.levels.current.posted at (registers_of c) (stack_of c) (choices_in s c ls) m i first holds s'.heaps.now s'.levels.current.posted to (registers_of c') (stack_of c') (λ marks b stands. keep marks t.query.shown t.name b naming stands))
-kept_runs area s at c i first holds s' c' below behind Back keep = λ t ls f naming m.
-    subst (λ cs. Returns INFINITY INFINITY area t.program t.query t.name cs f.budget f.answers f.events f.reductions) (choices_kept s s' c c' below behind ls)
-    (runs_gone INFINITY INFINITY area t.program t.query t.name f.budget f.answers f.events f.reductions s.heaps.now s.levels.current.posted at (registers_of c) (stack_of c) (choices_in s c ls) m i first holds (λ marks b stands. keep marks t.query.shown t.name b naming stands))
+pub kept_runs : (area : Area) (s : branch.State) → s.infinity ≤ INFINITY → (at : ℕ) (c : Contents) (i : Code) → IsFirst i → Holds area at i → (s' : branch.State) (c' : Contents) → IsSameBelow s s' → IsSameBehind c c' → (w : Went) → KeepsStanding area s at c s' c' w → RunsThen area s at c s' c' w
+kept_runs area s small at c i first holds s' c' below behind (On to) keep = λ t ls f naming m.
+    subst (λ N. Runs INFINITY N area t.program t.query t.name s'.heaps.now s'.levels.current.posted to (registers_of c') (stack_of c') (choices_in s' c' ls) f.budget f.answers f.events f.reductions) (sym below.infinity)
+    (subst (λ cs. Runs INFINITY s.infinity area t.program t.query t.name s'.heaps.now s'.levels.current.posted to (registers_of c') (stack_of c') cs f.budget f.answers f.events f.reductions) (choices_kept s s' c c' below behind ls)
+    (runs_on INFINITY s.infinity area t.program t.query t.name f.budget f.answers f.events f.reductions s.heaps.now s.levels.current.posted at (registers_of c) (stack_of c) (choices_in s c ls) m i first holds s'.heaps.now s'.levels.current.posted to (registers_of c') (stack_of c') (λ marks b stands. keep s.infinity small marks t.query.shown t.name b naming stands)))
+kept_runs area s small at c i first holds s' c' below behind Back keep = λ t ls f naming m.
+    subst (λ N. Returns INFINITY N area t.program t.query t.name (choices_in s' c' ls) f.budget f.answers f.events f.reductions) (sym below.infinity)
+    (subst (λ cs. Returns INFINITY s.infinity area t.program t.query t.name cs f.budget f.answers f.events f.reductions) (choices_kept s s' c c' below behind ls)
+    (runs_gone INFINITY s.infinity area t.program t.query t.name f.budget f.answers f.events f.reductions s.heaps.now s.levels.current.posted at (registers_of c) (stack_of c) (choices_in s c ls) m i first holds (λ marks b stands. keep s.infinity small marks t.query.shown t.name b naming stands)))
 
 -- A later place is nearer to the code's end.
 pub later_nearer : (area : Area) (at to : ℕ) (i : Code) → Holds area at i → at < to → distance area to < distance area at
@@ -57,17 +59,17 @@ kept_falls area at c i holds c' behind w leads = subst (λ rs. work_then area c'
 -- ---- ends
 
 -- what is posted has a model
-pub sound_model : (s : branch.State) → IsSound s → HasModel INFINITY INFINITY s.levels.current.posted
+pub sound_model : (s : branch.State) → IsSound s → HasModel INFINITY s.infinity s.levels.current.posted
 sound_model s sound = (family_of s.levels.current.sets, sound.now.settled.model)
 
 -- no choice point is left to go back to
 pub returned_ends : (area : Area) (t : Task) (s : branch.State) (c : Contents) (ls : List Left) (f : Future) → c.points ≡ [] → ReturnsTo area t s c ls f → (f.events ≡ End ∷ []) × (f.reductions ≡ 0)
 returned_ends area t s c ls f none m =
-    back_ends INFINITY INFINITY area t.program t.query t.name f.budget f.answers f.events f.reductions
-    (subst (λ ps. Returns INFINITY INFINITY area t.program t.query t.name (choices_of ps s.heaps.below s.levels.below ls) f.budget f.answers f.events f.reductions) none m)
+    back_ends INFINITY s.infinity area t.program t.query t.name f.budget f.answers f.events f.reductions
+    (subst (λ ps. Returns INFINITY s.infinity area t.program t.query t.name (choices_of ps s.heaps.below s.levels.below ls) f.budget f.answers f.events f.reductions) none m)
 
 -- no reduction is left for the goal at a place
 pub budget_ends : (area : Area) (t : Task) (s : branch.State) → IsSound s → (at : ℕ) (i : Code) → TakesGoal i → Holds area at i → (c : Contents) (ls : List Left) (k : Option ℕ) (es : List Event) (r : ℕ)
     → RunsAt area t s at c ls (record { budget = 0; answers = k; events = es; reductions = r }) → (es ≡ Budget ∷ []) × (r ≡ 0)
 budget_ends area t s sound at i takes holds c ls k es r m =
-    runs_spent INFINITY INFINITY area t.program t.query t.name s.heaps.now s.levels.current.posted at (registers_of c) (stack_of c) (choices_in s c ls) k es r (sound_model s sound) i takes holds m
+    runs_spent INFINITY s.infinity area t.program t.query t.name s.heaps.now s.levels.current.posted at (registers_of c) (stack_of c) (choices_in s c ls) k es r (sound_model s sound) i takes holds m

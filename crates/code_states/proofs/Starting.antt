@@ -20,8 +20,8 @@ none_set : (n : ℕ) (d : Cell) → cell_at [] n ≡ Some d → ⊥
 none_set n d e = cc
 
 -- With nothing in the areas and an empty branch it is safe to begin a query.
-pub started_safe : (area : Area) (ss : List State) → IsVerifiedBy area ss → (atoms : ℕ) → atoms ≡ length area.pool.names → IsSound (first_state atoms) → (n : ℕ) (q : Span) → HasQuery area n q → IsSafe area (first_state atoms) q.at 0 nothing
-started_safe area ss v atoms named sound n q there =
+pub started_safe : (area : Area) (ss : List State) → IsVerifiedBy area ss → (atoms N : ℕ) → atoms ≡ length area.pool.names → IsSound (first_state atoms N) → (n : ℕ) (q : Span) → HasQuery area n q → IsSafe area (first_state atoms N) q.at 0 nothing
+started_safe area ss v atoms N named sound n q there =
     let b = v.firsts n q there in
     let of = v.queries n q there in
     record {
@@ -48,6 +48,6 @@ started_safe area ss v atoms named sound n q there =
     }
 
 -- What is still to come for it is the query's run.
-pub started_runs : (area : Area) (t : Task) (s : Span) → IsQueryCode area t.query s → EachBelow t.query.variables t.query.goals → NumbersBelow t.query.variables t.query.shown → AreRunnable INFINITY t.query.goals → (atoms : ℕ) (f : Future)
-    → Run INFINITY INFINITY t.program t.query f.budget f.answers (start_of t.query ∷ []) f.events f.reductions → RunsAt area t (first_state atoms) s.at nothing [] f
-started_runs area t s code below asked fit atoms f run = run_starts INFINITY INFINITY area t.program t.query t.name no_cells refl s code below asked fit (registers_of nothing) refl f.budget f.answers f.events f.reductions run
+pub started_runs : (area : Area) (t : Task) (s : Span) → IsQueryCode area t.query s → EachBelow t.query.variables t.query.goals → NumbersBelow t.query.variables t.query.shown → AreRunnable INFINITY t.query.goals → (atoms N : ℕ) (f : Future)
+    → Run INFINITY N t.program t.query f.budget f.answers (start_of t.query ∷ []) f.events f.reductions → RunsAt area t (first_state atoms N) s.at nothing [] f
+started_runs area t s code below asked fit atoms N f run = run_starts INFINITY N area t.program t.query t.name no_cells refl s code below asked fit (registers_of nothing) refl f.budget f.answers f.events f.reductions run

@@ -1,5 +1,6 @@
 -- Cells of a branch that are made equal.
 use Rattle.std.specs.Prelude.{◌≡◌, ◌⊎◌, Bool, true, false, List}
+use Rattle.fd_language.specs.declared.TheConstants.{INFINITY}
 use Rattle.heap_cells.specs.declared.Cell.{Cell}
 use Rattle.heap_cells.specs.Cells.{Cells}
 use Rattle.unify_core.specs.declared.Touch.{Touch}
@@ -22,7 +23,7 @@ pub record HasNoModelFor (old : State) (a b : Cell) : Type 0 where
   pub touches : List Touch
   pub unified : AreUnified old.heaps.now a b now touches
   pub size : IsSameSize old.heaps.now now
-  pub none : HasNoModel (posted_with old touches)
+  pub none : HasNoModel INFINITY (posted_with old touches)
 
 abbrev pub Equates : State → Cell → Cell → State → Bool → Type 0
 Equates old a b now true = AreEquated old a b now

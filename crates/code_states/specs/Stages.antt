@@ -31,11 +31,11 @@ pub record Future : Type 0 where
 
 -- The machine goes on at a place. ls says what is left at each choice point.
 abbrev pub RunsAt : Area → Task → branch.State → ℕ → Contents → List Left → Future → Type 0
-RunsAt area t s at c ls f = Runs INFINITY INFINITY area t.program t.query t.name s.heaps.now s.levels.current.posted at (registers_of c) (stack_of c) (choices_in s c ls) f.budget f.answers f.events f.reductions
+RunsAt area t s at c ls f = Runs INFINITY s.infinity area t.program t.query t.name s.heaps.now s.levels.current.posted at (registers_of c) (stack_of c) (choices_in s c ls) f.budget f.answers f.events f.reductions
 
 -- It goes back to its newest choice point.
 abbrev pub ReturnsTo : Area → Task → branch.State → Contents → List Left → Future → Type 0
-ReturnsTo area t s c ls f = Returns INFINITY INFINITY area t.program t.query t.name (choices_in s c ls) f.budget f.answers f.events f.reductions
+ReturnsTo area t s c ls f = Returns INFINITY s.infinity area t.program t.query t.name (choices_in s c ls) f.budget f.answers f.events f.reductions
 
 -- ---- steps
 

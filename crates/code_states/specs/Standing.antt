@@ -1,5 +1,5 @@
 -- What instructions keep of the branch that a machine stands for.
-use Rattle.std.specs.Prelude.{◌≡◌, ℕ, suc, Bool, true, false, List}
+use Rattle.std.specs.Prelude.{◌≡◌, ℕ, suc, ◌≤◌, Bool, true, false, List}
 use Rattle.fd_language.specs.declared.TheConstants.{INFINITY}
 use Rattle.fd_language.specs.Family.{Family}
 use Rattle.fd_model.specs.Goal.{Branch}
@@ -20,21 +20,21 @@ pub record IsNaming (area : Area) (name : Naming) : Type 0 where
   pub apart : IsOneToOne name
   pub same : (c : AtomId) → IsAtom area c → name c ≡ name_of area c
 
-abbrev pub HasNoModel : Branch → Type 0
-HasNoModel b = (S : Family) → IsModel INFINITY INFINITY b.equations b.posted S → ⊥
+abbrev pub HasNoModel : ℕ → Branch → Type 0
+HasNoModel N b = (S : Family) → IsModel INFINITY N b.equations b.posted S → ⊥
 
--- the machine stands for the branch b, where its choice points have such marks
-abbrev pub StandsFor : List ℕ → Area → List ℕ → Naming → branch.State → ℕ → Contents → Branch → Type 0
-StandsFor marks area shown name s at c b = Stands INFINITY INFINITY marks area shown name s.heaps.now s.levels.current.posted at (registers_of c) (stack_of c) b
+-- The machine stands for the branch b, where its choice points have such marks, and no variable has a number beyond N.
+abbrev pub StandsFor : ℕ → List ℕ → Area → List ℕ → Naming → branch.State → ℕ → Contents → Branch → Type 0
+StandsFor N marks area shown name s at c b = Stands INFINITY N marks area shown name s.heaps.now s.levels.current.posted at (registers_of c) (stack_of c) b
 
 -- It does so where an instruction leads, or the branch has no model.
-abbrev pub StandsThen : List ℕ → Area → List ℕ → Naming → branch.State → Contents → Went → Branch → Type 0
-StandsThen marks area shown name s c (On to) b = StandsFor marks area shown name s to c b
-StandsThen marks area shown name s c Back b = HasNoModel b
+abbrev pub StandsThen : ℕ → List ℕ → Area → List ℕ → Naming → branch.State → Contents → Went → Branch → Type 0
+StandsThen N marks area shown name s c (On to) b = StandsFor N marks area shown name s to c b
+StandsThen N marks area shown name s c Back b = HasNoModel N b
 
 -- Each branch that the machine stood for it stands for then.
 abbrev pub KeepsStanding : Area → branch.State → ℕ → Contents → branch.State → Contents → Went → Type 0
-KeepsStanding area s at c s' c' w = (marks : List ℕ) (shown : List ℕ) (name : Naming) (b : Branch) → IsNaming area name → StandsFor marks area shown name s at c b → StandsThen marks area shown name s' c' w b
+KeepsStanding area s at c s' c' w = (N : ℕ) (small : N ≤ INFINITY) (marks : List ℕ) (shown : List ℕ) (name : Naming) (b : Branch) → IsNaming area name → StandsFor N marks area shown name s at c b → StandsThen N marks area shown name s' c' w b
 
 -- to the next place where two cells were made equal, and else back
 abbrev pub went_by : ℕ → Bool → Went

@@ -33,7 +33,7 @@ use Rattle.machine_relation.proofs.Lemmas.{ahead_sought, after_is, label_faults,
 use Rattle.machine_frames.specs.Frames.{link_in, frame_of, IsKept}
 use Rattle.machine_frames.specs.SeenHeap.{read_term}
 use Rattle.machine_frames.proofs.Lemmas.{settled_held, settled_rest}
-use Rattle.sought_leaves.specs.Seeking.{owned, search_fault, shown_by, AreOwned, IsSearched, found_at, cell_of, IsFound}
+use Rattle.sought_leaves.specs.Seeking.{owned, search_fault, shown_by, AreOwned, IsBegun, IsSearched, found_at, cell_of, IsFound}
 use Rattle.sought_leaves.proofs.Lemmas.{members_there, searches_agree}
 use Rattle.wam_code.specs.declared.instruction.Code.TheVariants as code
 use Rattle.wam_code.specs.Area.{Area, Holds}
@@ -67,13 +67,13 @@ cost_none ms (Atom a) k e i = absurd (cc)
 cost_none ms (Comp f ts) k e i = absurd (cc)
 
 -- d is the cell of the list, and e that of the cost
-module _ (M : ℕ) (area : Area) (prog : Program) (q : Query) (name : Naming) (h : Cells) (valid : IsHeap h) (qs : List Indexical) (at : ℕ) (c : Registers) (stack : List Saved)
+module _ (M N : ℕ) (area : Area) (prog : Program) (q : Query) (name : Naming) (h : Cells) (valid : IsHeap h) (qs : List Indexical) (at : ℕ) (c : Registers) (stack : List Saved)
     (cs : List Choice) (k : Option ℕ) (es : List Event) (r : ℕ)
-    (runnable : IsRunnableProgram M prog) (n : ℕ) (G : Family) (model : IsModel M M [] qs G) (most : (R : Family) → IsModel M M [] qs R → IsInside R G)
-    (m : Runs M M area prog q name h qs at c stack cs (suc n) k es r)
+    (runnable : IsRunnableProgram M prog) (n : ℕ) (G : Family) (model : IsModel M N [] qs G) (most : (R : Family) → IsModel M N [] qs R → IsInside R G)
+    (m : Runs M N area prog q name h qs at c stack cs (suc n) k es r)
     (o : Order) (least : Bool) (d e : Cell) (at_d : c.x 1 ≡ Some d) (at_e : c.x 2 ≡ Some e) where
   abbrev Takings : Branch → Type 0
-  Takings b = IsTaking M M m.marks area q.shown name h qs at c stack b (λ p. BestRule o least p)
+  Takings b = IsTaking M N m.marks area q.shown name h qs at c stack b (λ p. BestRule o least p)
 
   -- the list and the cost, as the sets show them
   abbrev shown_list : Term
@@ -101,11 +101,11 @@ module _ (M : ℕ) (area : Area) (prog : Program) (q : Query) (name : Naming) (h
     abbrev raw : Substitution
     raw = t.ready.made.look
 
-    kept : IsKept M M h qs b.equations b.posted P raw
-    kept = ready_kept M M m.marks area q.shown name h qs at c stack b t.ready
+    kept : IsKept M N h qs b.equations b.posted P raw
+    kept = ready_kept M N m.marks area q.shown name h qs at c stack b t.ready
 
-    consistent : IsConsistent M M b.equations b.posted
-    consistent = ready_consistent M M m.marks area q.shown name h qs at c stack b t.ready (G, model)
+    consistent : IsConsistent M N b.equations b.posted
+    consistent = ready_consistent M N m.marks area q.shown name h qs at c stack b t.ready (G, model)
 
     is : b.goals ≡ g ∷ t.later
     is = t.goals ∙ ap (λ x. x ∷ t.later) t.is.4
@@ -136,41 +136,42 @@ module _ (M : ℕ) (area : Area) (prog : Program) (q : Query) (name : Naming) (h
         ∙ ap (read_term h G) (cell_shows name h raw (Made t.ready.p b.fresh) t.ready.p c.x t.ready.made.xs 2 cost e t.is.3 at_e).1
 
     -- what the goal offers, where the list has members
-    offer_ok : (ms : List Member) → read_list shown_list ≡ Ok ms → (s : Substitution) (D : Family) → IsView M M b.equations b.posted s D
-        → offered M M (at_top m.marks) prog b g t.later s D ≡ unless_fault (cost_fault ms shown_cost) (Seeks b t.later o least list cost)
+    offer_ok : (ms : List Member) → read_list shown_list ≡ Ok ms → (s : Substitution) (D : Family) → IsView M N b.equations b.posted s D
+        → offered M N (at_top m.marks) prog b g t.later s D ≡ unless_fault (cost_fault ms shown_cost) (Seeks b t.later o least list cost)
     offer_ok ms i s D view =
-        let w = members_there M b.fresh b.equations b.posted (length h.slots) raw (link_in h) kept.slot qs G kept.stored model most consistent s D view list cost list_known cost_known ms
+        let w = members_there M N b.fresh b.equations b.posted (length h.slots) raw (link_in h) kept.slot qs G kept.stored model most consistent s D view list cost list_known cost_known ms
         (ap read_list list_is ∙ i) in
         ap (by_cost (apply (look_in b s D) cost) (Seeks b t.later o least list cost)) w.1
         ∙ ap (λ f. unless_fault f (Seeks b t.later o least list cost)) (w.2 ∙ ap (cost_fault ms) cost_is)
 
     -- and where it is a fault
-    offer_fault : (f : QueryFault) → read_list shown_list ≡ Err f → (s : Substitution) (D : Family) → IsView M M b.equations b.posted s D → offered M M (at_top m.marks) prog b g t.later s D ≡ Faults f
+    offer_fault : (f : QueryFault) → read_list shown_list ≡ Err f → (s : Substitution) (D : Family) → IsView M N b.equations b.posted s D → offered M N (at_top m.marks) prog b g t.later s D ≡ Faults f
     offer_fault f i s D view =
-        let held = settled_held M M name h valid qs b.equations b.posted P raw kept G most in
-        let rest = settled_rest M M name h valid qs b.equations b.posted P raw kept G most q model in
-        let here : ℕ → List ℕ = λ x. values_by M (cell_set G (F.link x)) in
-        let there : ℕ → List ℕ = λ y. values_by M (set_at s D (constrained b.posted) y) in
+        let held = settled_held M N name h valid qs b.equations b.posted P raw kept G most in
+        let rest = settled_rest M N name h valid qs b.equations b.posted P raw kept G most q model in
+        let here : ℕ → List ℕ = λ x. values_by N (cell_set G (F.link x)) in
+        let there : ℕ → List ℕ = λ y. values_by N (set_at s D (constrained b.posted) y) in
         let on_heap : labelled o here (apply look list) ≡ faults f = ap (by_listing o here) (ap read_list list_is ∙ i) in
-        let in_branch = label_faults M M F b.equations b.posted P look held G rest s D view consistent o list list_known f on_heap in
+        let in_branch = label_faults M N F b.equations b.posted P look held G rest s D view consistent o list list_known f on_heap in
         let read = listing_fault o there (read_list (seen s D (constrained b.posted) list)) f in_branch in
         ap (by_cost (apply (look_in b s D) cost) (Seeks b t.later o least list cost)) (ap read_list (seen_by_variable s D (constrained b.posted) list) ∙ read)
 
     fault : (l : Result (List Member) QueryFault) → read_list shown_list ≡ l → (f : QueryFault) → search_fault l shown_cost ≡ Some f → (es ≡ Fault f ∷ []) × (r ≡ 1)
     fault (Err x) i f w =
         let same : x ≡ f = cc in
-        goal_fault M M area prog q name h qs at c stack cs k es r b consistent g t.later is runnable n m one f (offer_fault f (i ∙ ap Err same))
+        goal_fault M N area prog q name h qs at c stack cs k es r b consistent g t.later is runnable n m one f (offer_fault f (i ∙ ap Err same))
     fault (Ok ms) i f w =
-        goal_fault M M area prog q name h qs at c stack cs k es r b consistent g t.later is runnable n m one f
+        goal_fault M N area prog q name h qs at c stack cs k es r b consistent g t.later is runnable n m one f
         (λ s D v. offer_ok ms i s D v ∙ ap (λ p. unless_fault p (Seeks b t.later o least list cost)) w)
 
     -- ---- what is found
 
-    module _ (big : 0 < M) (store : AllPosted (λ p. IsMonotone M p.range) qs) (ms : List Member) (member : Member) (own : ℕ → ℕ) (members : read_list shown_list ≡ Ok ms)
+    module _ (within : N ≤ M) (big : 0 < N) (store : AllPosted (λ p. IsMonotone M p.range) qs) (ms : List Member) (member : Member) (own : ℕ → ℕ) (members : read_list shown_list ≡ Ok ms)
         (costs : as_member shown_cost ≡ Ok member)
-        (among : IsCostOf ms member) (owns : AreOwned (link_in h) qs own (open_ones ms)) where
-      searched : IsSearched M b list cost (length h.slots) raw (link_in h) kept.slot qs G ms member own
+        (among : IsCostOf ms member) (owns : AreOwned (link_in h) qs own (open_ones ms)) (ls : List Indexical) (begun : IsBegun M N (link_in h) qs own (open_ones ms) ls) where
+      searched : IsSearched M N b list cost (length h.slots) raw (link_in h) kept.slot qs G ms member own ls
       searched = record {
+        within = within;
         stored = kept.stored;
         consistent = consistent;
         monotone = fit.1;
@@ -183,31 +184,32 @@ module _ (M : ℕ) (area : Area) (prog : Program) (q : Query) (name : Naming) (h
         costs = ap as_member cost_is ∙ costs;
         among = among;
         owned = owns;
+        begun = begun;
       }
 
-      found_there : (found : Option (List ℕ)) → SoughtValues M o (map (owned own) ms) (owned own member) least qs found → IsFound M b t.later o least list cost raw (open_ones ms) found
-      found_there found w = searches_agree M b list cost (length h.slots) raw (link_in h) kept.slot qs G ms member own big searched o least t.later found w
+      found_there : (found : Option (List ℕ)) → SoughtValues M o (map (owned own) ms) (owned own member) least ls found → IsFound M N b t.later o least list cost raw (open_ones ms) found
+      found_there found w = searches_agree M N b list cost (length h.slots) raw (link_in h) kept.slot qs G ms member own ls big searched o least t.later found w
 
-      seeks : (s : Substitution) (D : Family) → IsView M M b.equations b.posted s D → offered M M (at_top m.marks) prog b g t.later s D ≡ Seeks b t.later o least list cost
+      seeks : (s : Substitution) (D : Family) → IsView M N b.equations b.posted s D → offered M N (at_top m.marks) prog b g t.later s D ≡ Seeks b t.later o least list cost
       seeks s D v = offer_ok ms members s D v ∙ ap (λ p. unless_fault p (Seeks b t.later o least list cost)) (cost_none ms shown_cost member costs among)
 
       -- what is ahead of the leaf, or of the others where there is none
-      goes : (kids : List Branch) → SoughtLeaf M M b t.later o least list cost kids
-          → (later : List Event) × (j : ℕ) × (es ≡ [] ++ later) × (r ≡ suc j) × Ahead M M prog q n k (kids ++ m.others) later j
+      goes : (kids : List Branch) → SoughtLeaf M N b t.later o least list cost kids
+          → (later : List Event) × (j : ℕ) × (es ≡ [] ++ later) × (r ≡ suc j) × Ahead M N prog q n k (kids ++ m.others) later j
       goes kids w =
-          let rest = others M M area prog q name h qs at c stack cs k es r b consistent g t.later is runnable n m one in
-          let count = counted M M area prog q name h qs at c stack cs k es r b consistent g t.later is runnable n m one in
-          let a = ahead_of M M area prog q name h qs at c stack cs k es r b consistent g t.later is (suc n) m one in
-          ahead_sought M M prog q runnable n k b g t.later m.others es r consistent is a (at_top m.marks) count [] m.others refl rest.0 rest.1
+          let rest = others M N area prog q name h qs at c stack cs k es r b consistent g t.later is runnable n m one in
+          let count = counted M N area prog q name h qs at c stack cs k es r b consistent g t.later is runnable n m one in
+          let a = ahead_of M N area prog q name h qs at c stack cs k es r b consistent g t.later is (suc n) m one in
+          ahead_sought M N prog q runnable n k b g t.later m.others es r consistent is a (at_top m.marks) count [] m.others refl rest.0 rest.1
           (sym (count rest.0 rest.1)) o least list cost kids [] seeks w (λ s D v. refl)
 
-      no_leaf : SoughtValues M o (map (owned own) ms) (owned own member) least qs None → Spends (Returns M M area prog q name cs n k) [] es r
+      no_leaf : SoughtValues M o (map (owned own) ms) (owned own member) least ls None → Spends (Returns M N area prog q name cs n k) [] es r
       no_leaf w =
           let a = goes [] (found_there None w) in
           (a.0, a.1, a.2, a.3, record { others = m.others; marks = m.marks; wait = m.wait; ahead = a.4 })
 
-      one_leaf : (ns : List ℕ) → SoughtValues M o (map (owned own) ms) (owned own member) least qs (Some ns)
-          → (left : ℕ) × (left ≤ length (open_ones ms)) × Spends (Leads M area prog q name o least (open_ones ms) ns left h qs at c stack cs n k) [] es r
+      one_leaf : (ns : List ℕ) → SoughtValues M o (map (owned own) ms) (owned own member) least ls (Some ns)
+          → (left : ℕ) × (left ≤ length (open_ones ms)) × Spends (Leads M N area prog q name o least (open_ones ms) ns left h qs at c stack cs n k) [] es r
       one_leaf ns w =
           let f = found_there (Some ns) w in
           let a = goes (with_goals f.0 t.later ∷ []) f.1 in (
@@ -238,21 +240,21 @@ module _ (M : ℕ) (area : Area) (prog : Program) (q : Query) (name : Naming) (h
   module _ (f : Holds area at (code.Best o least)) where
     here : (b : Branch) × Takings b × (m.first ≡ b ∷ [])
     here =
-        let s = goes_inside M M m.marks area q.shown name h qs at c stack m.first m.here (code.Best o least) tt f in
-        (s.0, taking M M m.marks area q.shown name h qs at c stack s.0 (λ p. BestRule o least p) (code.Best o least) (λ w p es r. r) f s.1, s.2)
+        let s = goes_inside M N m.marks area q.shown name h qs at c stack m.first m.here (code.Best o least) tt f in
+        (s.0, taking M N m.marks area q.shown name h qs at c stack s.0 (λ p. BestRule o least p) (code.Best o least) (λ w p es r. r) f s.1, s.2)
 
     -- the list or the cost is a fault
     pub run_best_fault : (x : QueryFault) → search_fault (read_list shown_list) shown_cost ≡ Some x → (es ≡ Fault x ∷ []) × (r ≡ 1)
     run_best_fault x w = let s = here in fault s.0 s.1 s.2 (read_list shown_list) refl x w
 
-    module _ (big : 0 < M) (store : AllPosted (λ p. IsMonotone M p.range) qs) (ms : List Member) (member : Member) (own : ℕ → ℕ) (members : read_list shown_list ≡ Ok ms)
+    module _ (within : N ≤ M) (big : 0 < N) (store : AllPosted (λ p. IsMonotone M p.range) qs) (ms : List Member) (member : Member) (own : ℕ → ℕ) (members : read_list shown_list ≡ Ok ms)
         (costs : as_member shown_cost ≡ Ok member)
-        (among : IsCostOf ms member) (owns : AreOwned (link_in h) qs own (open_ones ms)) where
+        (among : IsCostOf ms member) (owns : AreOwned (link_in h) qs own (open_ones ms)) (ls : List Indexical) (begun : IsBegun M N (link_in h) qs own (open_ones ms) ls) where
       -- there is no leaf
-      pub run_best_none : SoughtValues M o (map (owned own) ms) (owned own member) least qs None → Spends (Returns M M area prog q name cs n k) [] es r
-      run_best_none w = let s = here in no_leaf s.0 s.1 s.2 big store ms member own members costs among owns w
+      pub run_best_none : SoughtValues M o (map (owned own) ms) (owned own member) least ls None → Spends (Returns M N area prog q name cs n k) [] es r
+      run_best_none w = let s = here in no_leaf s.0 s.1 s.2 within big store ms member own members costs among owns ls begun w
 
       -- The numbers found are to be taken, one a cell at most.
-      pub run_best : (ns : List ℕ) → SoughtValues M o (map (owned own) ms) (owned own member) least qs (Some ns)
-          → (left : ℕ) × (left ≤ length (open_ones ms)) × Spends (Leads M area prog q name o least (open_ones ms) ns left h qs at c stack cs n k) [] es r
-      run_best ns w = let s = here in one_leaf s.0 s.1 s.2 big store ms member own members costs among owns ns w
+      pub run_best : (ns : List ℕ) → SoughtValues M o (map (owned own) ms) (owned own member) least ls (Some ns)
+          → (left : ℕ) × (left ≤ length (open_ones ms)) × Spends (Leads M N area prog q name o least (open_ones ms) ns left h qs at c stack cs n k) [] es r
+      run_best ns w = let s = here in one_leaf s.0 s.1 s.2 within big store ms member own members costs among owns ls begun ns w

@@ -40,3 +40,5 @@ pub use Rattle.code_steps.proofs.Trying.{step_constants, step_enter, step_fail, 
 pub use Rattle.code_steps.proofs.Writing.{run_newline, run_write}
 -- A clause whose first argument clashes with what the goal's first cell shows may be left out: its branch has no model.
 pub use Rattle.code_steps.proofs.Leaving.{count_applied}
+-- Bounds that a store gets behind its other ranges.
+pub use Rattle.code_steps.proofs.Bounding.{runs_bounded}

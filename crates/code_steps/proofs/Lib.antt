@@ -12,6 +12,7 @@ mod ReadMode
 mod WriteMode
 mod BuiltTerms
 mod Running
+mod Bounding
 mod Readying
 mod Goals
 mod Cutting

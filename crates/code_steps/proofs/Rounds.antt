@@ -51,29 +51,29 @@ use Rattle.code_steps.proofs.Making.{made_unified, made_refuted, unified_look}
 use Rattle.code_steps.proofs.Readying.{ready_kept, taken_same}
 use Rattle.code_steps.proofs.Settling.{all_made}
 
-module _ (M : ℕ) (area : Area) (prog : Program) (q : Query) (name : Naming) (h : Cells) (qs : List Indexical) (at : ℕ) (c : Registers) (stack : List Saved) (cs : List Choice) (n : ℕ)
+module _ (M N : ℕ) (area : Area) (prog : Program) (q : Query) (name : Naming) (h : Cells) (qs : List Indexical) (at : ℕ) (c : Registers) (stack : List Saved) (cs : List Choice) (n : ℕ)
     (k : Option ℕ) (es : List Event) (r : ℕ)
-    (o : Order) (least : Bool) (cells numbers : List ℕ) (left : ℕ) (m : Leads M area prog q name o least cells numbers left h qs at c stack cs n k es r) where
+    (o : Order) (least : Bool) (cells numbers : List ℕ) (left : ℕ) (m : Leads M N area prog q name o least cells numbers left h qs at c stack cs n k es r) where
   abbrev at_branch : Branch
   at_branch = m.branch
 
-  at_rest : IsKept M M h qs at_branch.equations at_branch.posted (λ v. v < at_branch.fresh) m.taking.ready.made.look
-  at_rest = ready_kept M M m.marks area q.shown name h qs at c stack at_branch m.taking.ready
+  at_rest : IsKept M N h qs at_branch.equations at_branch.posted (λ v. v < at_branch.fresh) m.taking.ready.made.look
+  at_rest = ready_kept M N m.marks area q.shown name h qs at c stack at_branch m.taking.ready
 
   -- the store has a model
-  pub lead_model : HasModel M M qs
+  pub lead_model : HasModel M N qs
   lead_model =
-      let w = branch_model M at_branch.equations at_branch.posted m.monotone m.consistent in
+      let w = branch_model M N at_branch.equations at_branch.posted m.monotone m.consistent in
       let u = at_rest.stored.up w.0 w.1 in
       (u.0, u.1)
 
-module _ (M : ℕ) (area : Area) (prog : Program) (q : Query) (name : Naming) (h : Cells) (valid : IsHeap h) (qs : List Indexical) (at : ℕ) (c : Registers) (stack : List Saved)
+module _ (M N : ℕ) (area : Area) (prog : Program) (q : Query) (name : Naming) (h : Cells) (valid : IsHeap h) (qs : List Indexical) (at : ℕ) (c : Registers) (stack : List Saved)
     (cs : List Choice) (n : ℕ) (k : Option ℕ) (es : List Event) (r : ℕ)
-    (o : Order) (least : Bool) (cells numbers : List ℕ) (left : ℕ) (m : Leads M area prog q name o least cells numbers left h qs at c stack cs n k es r) where
+    (o : Order) (least : Bool) (cells numbers : List ℕ) (left : ℕ) (m : Leads M N area prog q name o least cells numbers left h qs at c stack cs n k es r) where
   abbrev b : Branch
   b = m.branch
 
-  abbrev t : IsTaking M M m.marks area q.shown name h qs at c stack b (λ p. BestRule o least p)
+  abbrev t : IsTaking M N m.marks area q.shown name h qs at c stack b (λ p. BestRule o least p)
   t = m.taking
 
   abbrev list : Term
@@ -85,25 +85,25 @@ module _ (M : ℕ) (area : Area) (prog : Program) (q : Query) (name : Naming) (h
   abbrev raw : Substitution
   raw = t.ready.made.look
 
-  kept : IsKept M M h qs b.equations b.posted P raw
-  kept = ready_kept M M m.marks area q.shown name h qs at c stack b t.ready
+  kept : IsKept M N h qs b.equations b.posted P raw
+  kept = ready_kept M N m.marks area q.shown name h qs at c stack b t.ready
 
   list_known : Of P list
   list_known = of_below b.fresh list (subst (EachBelow b.fresh) (t.goals ∙ ap (λ x. x ∷ t.later) t.is.4) t.ready.below).0.0
 
-  module _ (G : Family) (model : IsModel M M [] qs G) (most : (R : Family) → IsModel M M [] qs R → IsInside R G) (d : Cell) (at_d : c.x 1 ≡ Some d) where
+  module _ (G : Family) (model : IsModel M N [] qs G) (most : (R : Family) → IsModel M N [] qs R → IsInside R G) (d : Cell) (at_d : c.x 1 ≡ Some d) where
     abbrev F : Frame
     F = fixed_frame (frame_of name h qs) G
 
     -- what the labelling does now
     abbrev outcome : Labelled
-    outcome = heap_label M M name h qs G o (read_term h G (term_of name h d))
+    outcome = heap_label M N name h qs G o (read_term h G (term_of name h d))
 
     abbrev look : Substitution
-    look = settled_look M M name h valid qs b.equations b.posted P raw kept G most
+    look = settled_look M N name h valid qs b.equations b.posted P raw kept G most
 
     abbrev here : ℕ → List ℕ
-    here x = values_by M (cell_set G (F.link x))
+    here x = values_by N (cell_set G (F.link x))
 
     on_heap : labelled o here (apply look list) ≡ outcome
     on_heap = ap (labelled o here) (
@@ -111,21 +111,21 @@ module _ (M : ℕ) (area : Area) (prog : Program) (q : Query) (name : Naming) (h
         ∙ ap (read_term h G) (cell_shows name h raw (Made t.ready.p b.fresh) t.ready.p c.x t.ready.made.xs 1 list d t.is.2 at_d).1)
 
     -- by a view with which the list has members
-    module _ (s : Substitution) (D : Family) (ms : List Member) (view : IsView M M b.equations b.posted s D) (read : read_list (apply (look_in b s D) list) ≡ Ok ms) where
+    module _ (s : Substitution) (D : Family) (ms : List Member) (view : IsView M N b.equations b.posted s D) (read : read_list (apply (look_in b s D) list) ≡ Ok ms) where
       abbrev there : ℕ → List ℕ
-      there y = values_by M (set_at s D (constrained b.posted) y)
+      there y = values_by N (set_at s D (constrained b.posted) y)
 
       seen_is : labelled o there (seen s D (constrained b.posted) list) ≡ by_picked there (pick o there ms)
       seen_is = ap (by_listing o there) (ap read_list (sym (seen_by_variable s D (constrained b.posted) list)) ∙ read)
 
-      held : IsHeld M M F b.equations b.posted P look
-      held = settled_held M M name h valid qs b.equations b.posted P raw kept G most
+      held : IsHeld M N F b.equations b.posted P look
+      held = settled_held M N name h valid qs b.equations b.posted P raw kept G most
 
-      rest : IsAtRest M M F G
-      rest = settled_rest M M name h valid qs b.equations b.posted P raw kept G most q model
+      rest : IsAtRest M N F G
+      rest = settled_rest M N name h valid qs b.equations b.posted P raw kept G most q model
 
       no_fault : (f : QueryFault) → outcome ≡ faults f → ⊥
-      no_fault f e = by_pick (pick o there ms) (sym seen_is ∙ label_faults M M F b.equations b.posted P look held G rest s D view m.consistent o list list_known f (on_heap ∙ e))
+      no_fault f e = by_pick (pick o there ms) (sym seen_is ∙ label_faults M N F b.equations b.posted P look held G rest s D view m.consistent o list list_known f (on_heap ∙ e))
         where
           by_pick : (p : Option ℕ) → by_picked there p ≡ faults f → ⊥
           by_pick None i = cc
@@ -133,20 +133,20 @@ module _ (M : ℕ) (area : Area) (prog : Program) (q : Query) (name : Naming) (h
 
       no_more : (x : ℕ) → pick o there ms ≡ Some x → outcome ≡ done → ⊥
       no_more x p e =
-          let i = label_done M M F b.equations b.posted P look held G rest s D view m.consistent o list list_known (on_heap ∙ e) in
+          let i = label_done M N F b.equations b.posted P look held G rest s D view m.consistent o list list_known (on_heap ∙ e) in
           let j : labels x (there x) ≡ done = sym (ap (by_picked there) p) ∙ sym seen_is ∙ i in
           cc
 
       picked_none : (v : ℕ) (vs : List ℕ) → pick o there ms ≡ None → outcome ≡ labels v vs → ⊥
       picked_none v vs p e =
-          let i = label_there M M F b.equations b.posted P look held G rest s D view m.consistent o list list_known v vs (on_heap ∙ e) in
+          let i = label_there M N F b.equations b.posted P look held G rest s D view m.consistent o list list_known v vs (on_heap ∙ e) in
           let j : done ≡ labels i.0 vs = sym (ap (by_picked there) p) ∙ sym seen_is ∙ i.1 in
           cc
 
       -- the picked variable is the cell
       picked_cell : (x v : ℕ) (vs : List ℕ) → pick o there ms ≡ Some x → outcome ≡ labels v vs → (x < b.fresh) × (raw x ≡ Var v)
       picked_cell x v vs p e =
-          let i = label_there M M F b.equations b.posted P look held G rest s D view m.consistent o list list_known v vs (on_heap ∙ e) in
+          let i = label_there M N F b.equations b.posted P look held G rest s D view m.consistent o list list_known v vs (on_heap ∙ e) in
           let j : labels x (there x) ≡ labels i.0 vs = sym (ap (by_picked there) p) ∙ sym seen_is ∙ i.1 in
           let same : i.0 ≡ x = cc in
           let low = variables_on P (seen s D (constrained b.posted) list) (seen_of b.fresh b.equations s view.general kept.stored.heap.scoped D (constrained b.posted) list list_known) i.0
@@ -157,26 +157,26 @@ module _ (M : ℕ) (area : Area) (prog : Program) (q : Query) (name : Naming) (h
 
     -- no outcome is a fault
     pub lead_no_fault : (f : QueryFault) → outcome ≡ faults f → ⊥
-    lead_no_fault f e = elim (takes_either M M o list m.value m.takes) [
+    lead_no_fault f e = elim (takes_either M N o list m.value m.takes) [
       | inl w ↦ no_fault w.0.unifier w.0.family w.0.members w.0.view w.0.list f e
       | inr w ↦ no_fault w.2.unifier w.2.family w.2.members w.2.view w.2.list f e
     ]
 
     -- Nothing is picked: the leaf is reached.
-    pub lead_done : outcome ≡ done → Runs M M area prog q name h qs (suc at) c stack cs n k es r
-    lead_done e = elim (takes_either M M o list m.value m.takes) [
+    pub lead_done : outcome ≡ done → Runs M N area prog q name h qs (suc at) c stack cs n k es r
+    lead_done e = elim (takes_either M N o list m.value m.takes) [
       | inl w ↦ reached w.0.same
       | inr w ↦ absurd (no_more w.2.unifier w.2.family w.2.members w.2.view w.2.list w.2.variable w.2.picked e)
     ]
       where
-        reached : with_goals b (Label o list ∷ []) ≡ m.leaf → Runs M M area prog q name h qs (suc at) c stack cs n k es r
+        reached : with_goals b (Label o list ∷ []) ≡ m.leaf → Runs M N area prog q name h qs (suc at) c stack cs n k es r
         reached same = record {
           first = with_goals b t.later ∷ [];
           others = m.others;
           marks = m.marks;
-          here = inl (with_goals b t.later, taken_same M M m.marks area q.shown name h qs at c stack b (λ p. BestRule o least p) t (with_goals b t.later) refl refl refl refl, refl);
+          here = inl (with_goals b t.later, taken_same M N m.marks area q.shown name h qs at c stack b (λ p. BestRule o least p) t (with_goals b t.later) refl refl refl refl, refl);
           wait = m.wait;
-          ahead = subst (λ (z : Branch). Ahead M M prog q n k (with_goals z t.later ∷ m.others) es r) (sym same) m.ahead;
+          ahead = subst (λ (z : Branch). Ahead M N prog q n k (with_goals z t.later ∷ m.others) es r) (sym same) m.ahead;
         }
 
     module _ (v : ℕ) (vs : List ℕ) (picks : outcome ≡ labels v vs) where
@@ -188,11 +188,11 @@ module _ (M : ℕ) (area : Area) (prog : Program) (q : Query) (name : Naming) (h
         pub variable : ℕ
         pub low : variable < b.fresh
         pub cell : raw variable ≡ Var v
-        pub consistent : IsConsistent M M (is_number variable number ∷ b.equations) b.posted
-        pub takes : Takes M M o list m.value rounds (with_goals (by_value b b.goals variable number) (Label o list ∷ [])) m.leaf
+        pub consistent : IsConsistent M N (is_number variable number ∷ b.equations) b.posted
+        pub takes : Takes M N o list m.value rounds (with_goals (by_value b b.goals variable number) (Label o list ∷ [])) m.leaf
 
       round : (rounds : ℕ) × (left ≡ suc rounds) × IsRound rounds
-      round = elim (takes_either M M o list m.value m.takes) [
+      round = elim (takes_either M N o list m.value m.takes) [
         | inl w ↦ absurd (picked_none w.0.unifier w.0.family w.0.members w.0.view w.0.list v vs w.0.picked picks)
         | inr w ↦
             let p = picked_cell w.2.unifier w.2.family w.2.members w.2.view w.2.list w.2.variable v vs w.2.picked picks in
@@ -203,8 +203,8 @@ module _ (M : ℕ) (area : Area) (prog : Program) (q : Query) (name : Naming) (h
                 variable = w.2.variable;
                 low = p.0;
                 cell = p.1;
-                consistent = subst (λ i. IsConsistent M M (is_number w.2.variable i ∷ b.equations) b.posted) same w.2.consistent;
-                takes = subst (λ i. Takes M M o list m.value w.0 (with_goals (by_value b b.goals w.2.variable i) (Label o list ∷ [])) m.leaf) same w.2.more;
+                consistent = subst (λ i. IsConsistent M N (is_number w.2.variable i ∷ b.equations) b.posted) same w.2.consistent;
+                takes = subst (λ i. Takes M N o list m.value w.0 (with_goals (by_value b b.goals w.2.variable i) (Label o list ∷ [])) m.leaf) same w.2.more;
               },
             )
       ]
@@ -221,14 +221,14 @@ module _ (M : ℕ) (area : Area) (prog : Program) (q : Query) (name : Naming) (h
         kid = by_value b b.goals x number
 
         known : Made t.ready.p b.fresh x
-        known = all_made M M m.marks name h qs t.ready.returns stack b c t.ready.p [] t.ready.made t.ready.whole x round.2.low
+        known = all_made M N m.marks name h qs t.ready.returns stack b c t.ready.p [] t.ready.made t.ready.whole x round.2.low
 
-        asked : IsMade M M m.marks name h qs c t.ready.returns stack kid t.ready.p (is_number x number ∷ [])
-        asked = made_asked M M m.marks name h qs c t.ready.returns stack b t.ready.p t.ready.made x number round.2.low
+        asked : IsMade M N m.marks name h qs c t.ready.returns stack kid t.ready.p (is_number x number ∷ [])
+        asked = made_asked M N m.marks name h qs c t.ready.returns stack b t.ready.p t.ready.made x number round.2.low
 
         look_asked : asked.look ≡ raw
         unfolding asked
-        look_asked = asked_look M M m.marks name h qs c t.ready.returns stack b t.ready.p t.ready.made x number round.2.low
+        look_asked = asked_look M N m.marks name h qs c t.ready.returns stack b t.ready.p t.ready.made x number round.2.low
 
         on_x : IsShown name h asked.look (Made t.ready.p b.fresh) (Var x) (cell.Ref v)
         on_x = record { known = known; own = subst (Below (length h.slots)) round.2.cell (t.ready.made.kept.stored.heap.cells x known); value = ap (λ f. f x) look_asked ∙ round.2.cell ∙ sym open_now }
@@ -239,22 +239,22 @@ module _ (M : ℕ) (area : Area) (prog : Program) (q : Query) (name : Naming) (h
         -- they can be made equal
         pub lead_equal : IsRefuted h (cells_equal name h (cell.Ref v) (cell.Int (pos number))) → ⊥
         lead_equal no_one =
-            let w = branch_model M kid.equations b.posted m.monotone round.2.consistent in
-            made_refuted M M m.marks name qs t.ready.returns stack kid h c t.ready.p (is_number x number ∷ []) asked (Var x) (Int (pos number)) (cell.Ref v)
+            let w = branch_model M N kid.equations b.posted m.monotone round.2.consistent in
+            made_refuted M N m.marks name qs t.ready.returns stack kid h c t.ready.p (is_number x number ∷ []) asked (Var x) (Int (pos number)) (cell.Ref v)
             (cell.Int (pos number)) on_x on_number [] refl no_one w.0 w.1
 
         module _ (now : Cells) (ts : List Touch) (u : core.IsUnified name h (cell.Ref v) (cell.Int (pos number)) now ts) (size : IsSameSize h now) where
           abbrev store : List Indexical
           store = qs ++ posts (store_touches ts)
 
-          made_now : IsMade M M m.marks name now store c t.ready.returns stack kid t.ready.p []
-          made_now = made_unified M M m.marks name qs t.ready.returns stack kid h c t.ready.p (is_number x number ∷ []) asked (Var x) (Int (pos number)) (cell.Ref v)
+          made_now : IsMade M N m.marks name now store c t.ready.returns stack kid t.ready.p []
+          made_now = made_unified M N m.marks name qs t.ready.returns stack kid h c t.ready.p (is_number x number ∷ []) asked (Var x) (Int (pos number)) (cell.Ref v)
               (cell.Int (pos number)) on_x on_number [] refl now ts u size
 
           look_now : made_now.look ≡ after u.unifier raw
           unfolding made_now
           look_now =
-              unified_look M M m.marks name qs t.ready.returns stack kid h c t.ready.p (is_number x number ∷ []) asked (Var x) (Int (pos number)) (cell.Ref v)
+              unified_look M N m.marks name qs t.ready.returns stack kid h c t.ready.p (is_number x number ∷ []) asked (Var x) (Int (pos number)) (cell.Ref v)
               (cell.Int (pos number)) on_x on_number [] refl now ts u size
               ∙ ap (after u.unifier) look_asked
 
@@ -269,11 +269,11 @@ module _ (M : ℕ) (area : Area) (prog : Program) (q : Query) (name : Naming) (h
           was_cell : (y w : ℕ) → made_now.look y ≡ Var w → raw y ≡ Var w
           was_cell y w e = number_stays v number (raw y) w (ap (λ f. apply f (raw y)) (sym (functions alone)) ∙ ap (λ f. f y) (sym look_now) ∙ e)
 
-          ready_now : IsReady M M m.marks area q.shown name now store at c stack kid
+          ready_now : IsReady M N m.marks area q.shown name now store at c stack kid
           ready_now = record { p = t.ready.p; returns = t.ready.returns; after = t.ready.after; made = made_now; whole = t.ready.whole; continues = t.ready.continues; means = t.ready.means; below = t.ready.below; asked = t.ready.asked }
 
           -- The cell has its number, and what was touched is posted: there is one number less to be taken.
-          pub lead_value : (rounds : ℕ) × (left ≡ suc rounds) × Leads M area prog q name o least cells numbers rounds now store at c stack cs n k es r
+          pub lead_value : (rounds : ℕ) × (left ≡ suc rounds) × Leads M N area prog q name o least cells numbers rounds now store at c stack cs n k es r
           unfolding ready_now
           lead_value = (
             round.0,

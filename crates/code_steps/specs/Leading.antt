@@ -18,17 +18,17 @@ use Rattle.code_steps.specs.Registers.{Registers, Saved}
 use Rattle.code_steps.specs.Running.{Choice, Waits, IsTaking}
 
 -- At the place of a search the machine takes the numbers that were found for these cells: each variable that the labelling picks takes the number of its cell, left of them still, and then the leaf is reached. n is the budget left, and k the number of answers still allowed, or none.
-pub record Leads (M : ℕ) (area : Area) (prog : Program) (q : Query) (name : Naming) (o : Order) (least : Bool) (cells numbers : List ℕ) (left : ℕ) (h : Cells) (qs : List Indexical) (at : ℕ)
+pub record Leads (M N : ℕ) (area : Area) (prog : Program) (q : Query) (name : Naming) (o : Order) (least : Bool) (cells numbers : List ℕ) (left : ℕ) (h : Cells) (qs : List Indexical) (at : ℕ)
     (c : Registers) (stack : List Saved) (cs : List Choice) (n : ℕ) (k : Option ℕ) (es : List Event) (r : ℕ) : Type 0 where
   pub branch : Branch
   pub leaf : Branch
   pub others : List Branch
   pub marks : List ℕ
-  pub taking : IsTaking M M marks area q.shown name h qs at c stack branch (λ p. BestRule o least p)
-  pub consistent : IsConsistent M M branch.equations branch.posted
+  pub taking : IsTaking M N marks area q.shown name h qs at c stack branch (λ p. BestRule o least p)
+  pub consistent : IsConsistent M N branch.equations branch.posted
   pub monotone : AllPosted (λ p. IsMonotone M p.range) branch.posted
   pub value : ℕ → ℕ
   pub values : (x v : ℕ) → x < branch.fresh → taking.ready.made.look x ≡ Var v → value x ≡ found_at cells numbers v
-  pub takes : Takes M M o taking.is.0 value left (with_goals branch (Label o taking.is.0 ∷ [])) leaf
-  pub wait : AllWait M M Choice (Waits M M area q.shown name) cs others marks
-  pub ahead : Ahead M M prog q n k (with_goals leaf taking.later ∷ others) es r
+  pub takes : Takes M N o taking.is.0 value left (with_goals branch (Label o taking.is.0 ∷ [])) leaf
+  pub wait : AllWait M N Choice (Waits M N area q.shown name) cs others marks
+  pub ahead : Ahead M N prog q n k (with_goals leaf taking.later ∷ others) es r

@@ -1,12 +1,12 @@
 //! Which member of a list a labelling takes next.
 #![tactic(auto)]
 
-ghost use Rattle.std.specs.Prelude.{◌≡◌, length};
+ghost use Rattle.std.specs.Prelude.{◌≡◌, ◌≤◌, length};
+ghost use Rattle.fd_language.specs.declared.TheConstants.{INFINITY as TOP};
 ghost use Rattle.fd_model.specs.declared.kinds.Order.TheVariants as order;
 ghost use Rattle.label_search.specs.Picks.{value_count, IsThere, AreThere, IsPicked, HasSeveral};
 
 use domain_ranges::View;
-use fd_language::INFINITY;
 use fd_model::kinds::Order;
 
 /// A member of a list that is labelled.
@@ -16,31 +16,33 @@ pub enum Member {
     Fixed(i64),
     /// A variable of the store, by its number there.
     Var(usize),
-    /// A variable that the store doesn't have. It has all values from 0 to `INFINITY`.
+    /// A variable that the store doesn't have. It has all values from 0 to the greatest that a variable may have.
     Free,
 }
 
 /// How many values a member has.
 #[inline]
-fn value_count_of<V: View>(member: Member, view: &V) -> u32
-    requires { IsThere (length (V.sets view.now)) member }
-    ensures { result ≡ value_count (V.sets view.now) member }
+fn value_count_of<V: View>(member: Member, view: &V, infinity: u32) -> u32
+    requires most { infinity ≤ TOP }
+    requires there { IsThere (length (V.sets view.now)) member }
+    ensures { result ≡ value_count infinity (V.sets view.now) member }
 {
     match member {
         Member::Fixed(_) => 1,
         Member::Var(k) => view.domain(k).size(),
-        Member::Free => INFINITY + 1,
+        Member::Free => infinity + 1,
     }
 }
 
 /// The place of the first member with more than one value.
-fn first_several<V: View>(list: &[Member], view: &V) -> Option<usize>
-    requires { AreThere (length (V.sets view.now)) list.now }
-    ensures picked { IsPicked order.Leftmost (V.sets view.now) list.now result }
-    ensures several { HasSeveral (V.sets view.now) list.now result }
+fn first_several<V: View>(list: &[Member], view: &V, infinity: u32) -> Option<usize>
+    requires most { infinity ≤ TOP }
+    requires there { AreThere (length (V.sets view.now)) list.now }
+    ensures picked { IsPicked infinity order.Leftmost (V.sets view.now) list.now result }
+    ensures several { HasSeveral infinity (V.sets view.now) list.now result }
 {
     for (i, member) in list.iter().enumerate() {
-        if value_count_of(*member, view) > 1 {
+        if value_count_of(*member, view, infinity) > 1 {
             return Some(i);
         }
     }
@@ -48,15 +50,16 @@ fn first_several<V: View>(list: &[Member], view: &V) -> Option<usize>
 }
 
 /// The place of the first of those members with more than one value that have the fewest.
-fn fewest_values<V: View>(list: &[Member], view: &V) -> Option<usize>
-    requires { AreThere (length (V.sets view.now)) list.now }
-    ensures picked { IsPicked order.FirstFail (V.sets view.now) list.now result }
-    ensures several { HasSeveral (V.sets view.now) list.now result }
+fn fewest_values<V: View>(list: &[Member], view: &V, infinity: u32) -> Option<usize>
+    requires most { infinity ≤ TOP }
+    requires there { AreThere (length (V.sets view.now)) list.now }
+    ensures picked { IsPicked infinity order.FirstFail (V.sets view.now) list.now result }
+    ensures several { HasSeveral infinity (V.sets view.now) list.now result }
 {
     let mut best = None;
     let mut fewest = u32::MAX;
     for i in (0..list.len()).rev() {
-        let count = value_count_of(list[i], view);
+        let count = value_count_of(list[i], view, infinity);
         if count > 1 && count <= fewest {
             best = Some(i);
             fewest = count;
@@ -67,14 +70,15 @@ fn fewest_values<V: View>(list: &[Member], view: &V) -> Option<usize>
 
 /// The place in the list of the member that a labelling takes next: by `Leftmost` the first with more than one value, by
 /// `FirstFail` the first of those with the fewest values among them. `None` where no member has more than one. The view's sets
-/// are those of the list's variables. No memory.
-pub fn pick<V: View>(order: Order, list: &[Member], view: &V) -> Option<usize>
-    requires { AreThere (length (V.sets view.now)) list.now }
-    ensures picked { IsPicked order (V.sets view.now) list.now result }
-    ensures several { HasSeveral (V.sets view.now) list.now result }
+/// are those of the list's variables, and `infinity` is the greatest value that a variable may have. No memory.
+pub fn pick<V: View>(order: Order, list: &[Member], view: &V, infinity: u32) -> Option<usize>
+    requires most { infinity ≤ TOP }
+    requires there { AreThere (length (V.sets view.now)) list.now }
+    ensures picked { IsPicked infinity order (V.sets view.now) list.now result }
+    ensures several { HasSeveral infinity (V.sets view.now) list.now result }
 {
     match order {
-        Order::Leftmost => first_several(list, view),
-        Order::FirstFail => fewest_values(list, view),
+        Order::Leftmost => first_several(list, view, infinity),
+        Order::FirstFail => fewest_values(list, view, infinity),
     }
 }

@@ -28,9 +28,11 @@ pub enum MachineEvent {
     Fault(QueryFault),
 }
 
-/// The budget of a query in reductions, and how many answers it may give.
+/// The budget of a query in reductions, how many answers it may give, and the numbers of its variables.
 #[derive(Clone, Copy)]
 pub struct Limits {
     pub steps: u64,
     pub answers: Option<u64>,
+    /// The greatest number that a variable may have.
+    pub infinity: u32,
 }

@@ -21,3 +21,5 @@ pub use Rattle.machine_frames.proofs.Ranging.{unsettled}
 pub use Rattle.machine_frames.proofs.Settling.{settled_held, settled_look, settled_rest}
 -- A unification of two cells, as the machine relation has it.
 pub use Rattle.machine_frames.proofs.Unifying.{kept_barred, kept_refuted, kept_unified, link_at, linked_at}
+-- A greatest number of variables as ranges: the models are the same where each variable is bounded, and bounds that come behind leave what a heap and a store stand for as it is.
+pub use Rattle.machine_frames.proofs.Bounding.{bound_low, bound_in, bounded_at, model_narrower, model_wider, model_bounded, stored_bounded, kept_bounded, none_bounded}

@@ -9,4 +9,5 @@ mod Ranging
 mod Growing
 mod Naming
 mod Constraining
+mod Bounding
 pub mod Lemmas

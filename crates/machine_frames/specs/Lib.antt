@@ -6,3 +6,4 @@ pub mod SeenHeap
 pub mod Posting
 pub mod CellRanges
 pub mod Laws
+pub mod Bounding

@@ -18,12 +18,7 @@ use Rattle.heap_cells.specs.Terms.{Naming}
 use Rattle.machine_relation.specs.HeldBranches.{fixed_frame}
 use Rattle.machine_relation.specs.Labelling.{Labelled, labelled}
 use Rattle.machine_relation.specs.AnswerTexts.{cell_set}
-use Rattle.machine_frames.specs.Environments.{env_look}
 use Rattle.machine_frames.specs.Frames.{frame_of}
-
--- each variable of the clause as it is read by the store's sets: a variable of the store whose set has one value is that integer
-abbrev pub seen_env : Naming → Cells → List (Option Cell) → Family → Substitution
-seen_env name h env G x = read_term h G (env_look name h env x)
 
 -- the row of a constraint on the term x of the heap
 abbrev pub heap_row : ℕ → Cells → Family → ConstraintKind → Term → Result Expansion QueryFault

@@ -1,5 +1,7 @@
 //! Queries over clauses, and the events of their runs.
 
+ghost use Rattle.std.specs.Prelude.{◌≤◌};
+ghost use Rattle.fd_language.specs.declared.TheConstants.{INFINITY as TOP};
 ghost use Rattle.fd_model.specs.Run.{IsLimit};
 
 use crate::same::same;
@@ -102,7 +104,8 @@ fn run_code<A: Agenda + Drop>(
     events: usize,
     again: usize,
 ) -> Result<String, Fail>
-    requires { IsLimit limits.answers }
+    requires answers { IsLimit limits.answers }
+    requires infinity { (1 ≤ limits.infinity) × (limits.infinity ≤ TOP) }
 {
     if code.queries() == 0 {
         return Err(Fail::new("no query"));
@@ -119,7 +122,8 @@ fn run<A: Agenda + Drop>(
     agenda: A,
     events: usize,
 ) -> Result<String, Fail>
-    requires { IsLimit limits.answers }
+    requires answers { IsLimit limits.answers }
+    requires infinity { (1 ≤ limits.infinity) × (limits.infinity ≤ TOP) }
 {
     let code = compile(alloc, program_of(alloc, text)?)?;
     run_code(alloc, code, limits, agenda, events, 0)
@@ -165,7 +169,8 @@ fn gives(
     events: usize,
     wanted: &str,
 ) -> Result<(), Fail>
-    requires { IsLimit limits.answers }
+    requires answers { IsLimit limits.answers }
+    requires infinity { (1 ≤ limits.infinity) × (limits.infinity ≤ TOP) }
 {
     let first = run(alloc, text, limits, Fifo::new(alloc), events)?;
     same(rt, first.as_str(), wanted, text);
@@ -179,6 +184,7 @@ fn runs_with_both_agendas(rt: HostRuntime) -> Result<(), Fail> {
     let limits = Limits {
         steps: 1000,
         answers: None,
+        infinity: INFINITY,
     };
     for line in ROWS.lines() {
         let (_, rest) = line.split_once(" | ").expect(&rt, line);
@@ -193,12 +199,14 @@ fn limits_end_a_run(rt: HostRuntime) -> Result<(), Fail> {
     let limits = Limits {
         steps: 5,
         answers: None,
+        infinity: INFINITY,
     };
     let text = "loop :- loop. ?- loop.";
     gives(&rt, rt.alloc(), text, limits, 2, "budget; budget; 5")?;
     let limits = Limits {
         steps: 9,
         answers: Some(2),
+        infinity: INFINITY,
     };
     let text = "p(1). p(2). p(3). ?- p(X).";
     let wanted = "answer 1; answer 1; limit; limit; 1";
@@ -206,9 +214,32 @@ fn limits_end_a_run(rt: HostRuntime) -> Result<(), Fail> {
     let limits = Limits {
         steps: 3,
         answers: None,
+        infinity: INFINITY,
     };
     let text = "?- ( true -> true ; fail ).";
     gives(&rt, rt.alloc(), text, limits, 2, "budget; budget; 3")
+}
+
+#[test]
+fn variables_end_at_infinity(rt: HostRuntime) -> Result<(), Fail> {
+    let limits = Limits {
+        steps: 1000,
+        answers: None,
+        infinity: 1,
+    };
+    let text = "?- fd_labeling([X]).";
+    gives(
+        &rt,
+        rt.alloc(),
+        text,
+        limits,
+        9,
+        "answer 1; answer 1; end; 3",
+    )?;
+    let text = "?- 2 in 0..9.";
+    gives(&rt, rt.alloc(), text, limits, 9, "end; 1")?;
+    let text = "?- X #> 1.";
+    gives(&rt, rt.alloc(), text, limits, 9, "end; 1")
 }
 
 /// A query that switches on a register into which it has just put an integer: no program has such
@@ -242,6 +273,7 @@ fn verified_code_of_no_program(rt: HostRuntime) -> Result<(), Fail> {
     let limits = Limits {
         steps: 9,
         answers: None,
+        infinity: INFINITY,
     };
     let code = unmeant_code(alloc)?;
     assert_eq!(rt; code.queries(), 1);

@@ -1,11 +1,12 @@
 -- A node of a search: posted ranges, and the equations of a branch for which they stand. The heap's cells of the variables that were picked are taken to be bound.
-use Rattle.std.proofs.Common.{◌≡◌, ◌⊎◌, ℕ, ◌<◌, ◌≤◌, ◌==◌, true, false, cond, ℤ, pos, List, [], ◌∷◌, Option, Some, None, Ok, refl, ap, sym, ◌∙◌, subst, inl, inr, eq-eqb, ne_eqb, append-nil, suc, ◌+◌, Bool, length, eqb-true, arith}
-use Rattle.std.proofs.lemmas.Bool.{cases_eq, true≢false, or_cases}
+use Rattle.std.proofs.Common.{◌≡◌, ◌⊎◌, ℕ, ◌<◌, ◌≤◌, ◌==◌, true, false, cond, ℤ, pos, List, [], ◌∷◌, ◌++◌, Option, Some, None, Ok, refl, ap, sym, ◌∙◌, subst, inl, inr, eq-eqb, ne_eqb, append-nil, suc, ◌+◌, Bool, length, eqb-true, arith}
+use Rattle.std.proofs.lemmas.Bool.{cases_Bool, cases_eq, true≢false, or_cases}
 use Rattle.fd_language.specs.Family.{Family, has}
+use Rattle.fd_language.specs.Monotonicity.{IsMonotone}
 use Rattle.fd_language.specs.Range.{Indexical}
 use Rattle.fd_language.specs.Term.{Term, Var, Int, Substitution, apply}
 use Rattle.fd_language.specs.Unifier.{Equation}
-use Rattle.fd_language.proofs.Lemmas.{after_is, apply_vars}
+use Rattle.fd_language.proofs.Lemmas.{after_is, apply_vars, has_high}
 use Rattle.fd_model.specs.declared.kinds.Order.{Order}
 use Rattle.fd_model.specs.Branches.{is_number, look_in, sets_in}
 use Rattle.fd_model.specs.Builtins.{is_open}
@@ -16,12 +17,13 @@ use Rattle.fd_model.specs.Members.{Member}
 use Rattle.fd_model.specs.Models.{IsModel}
 use Rattle.fd_model.specs.PostedLeaves.{exactly, with_value}
 use Rattle.fd_model.specs.Seen.{IsConsistent, IsView}
-use Rattle.fd_model.proofs.Lemmas.{AllMonotone, monotone_more, consistent_from, constrained_either, named_left, named_right, only_member}
+use Rattle.fd_model.proofs.Lemmas.{AllMonotone, monotone_more, consistent_from, constrained_either, named_left, only_member, posted_both}
 use Rattle.machine_relation.specs.Heap.{after, applied_each, Below}
 use Rattle.machine_relation.specs.Store.{IsUnified, IsStored}
 use Rattle.machine_relation.proofs.Lemmas.{front, number_touches, numbered, unified, without}
+use Rattle.machine_frames.proofs.Lemmas.{bounded_at, model_bounded, model_narrower, model_wider}
 use Rattle.sought_leaves.specs.Seeking.{IsSearched}
-use Rattle.sought_leaves.proofs.Values.{exact_value, with_exact, put_value, value_here, value_else, other_value, branch_model}
+use Rattle.sought_leaves.proofs.Values.{exact_value, with_exact, put_value, value_here, value_else, bounds_monotone, put_begun, branch_model}
 
 -- ---- how many of some cells are open
 
@@ -104,25 +106,25 @@ module _ (h : ℕ) (link : ℕ → Option ℕ) (c n : ℕ) (none : link c ≡ No
   }
 
 -- The store, or none, is touched.
-module _ (M : ℕ) (es : List Equation) (ps : List Indexical) (P : ℕ → Type 0) (h : ℕ) (look : Substitution) (link : ℕ → Option ℕ) (slot : ℕ → ℕ) (qs : List Indexical)
-    (st : IsStored M M es ps P h look link slot qs)
+module _ (M N : ℕ) (es : List Equation) (ps : List Indexical) (P : ℕ → Type 0) (h : ℕ) (look : Substitution) (link : ℕ → Option ℕ) (slot : ℕ → ℕ) (qs : List Indexical)
+    (st : IsStored M N es ps P h look link slot qs)
     (x c n : ℕ) (known : P x) (at_c : look x ≡ Var c) where
   equation : applied_each look (is_number x n ∷ []) ≡ record { left = Var c; right = Int (pos n) } ∷ []
   equation = ap (λ u. record { left = u; right = Int (pos n) } ∷ []) at_c
 
-  pub stored_unlinked : link c ≡ None → IsStored M M (is_number x n ∷ es) ps P h (after (put_number c n) look) link slot qs
+  pub stored_unlinked : link c ≡ None → IsStored M N (is_number x n ∷ es) ps P h (after (put_number c n) look) link slot qs
   stored_unlinked none =
       let u = subst (λ ds. IsUnified h link ds (put_number c n) link []) (sym equation) (unlinked h link c n none) in
-      subst (λ l. IsStored M M (is_number x n ∷ es) ps P h (after (put_number c n) look) link slot l) (append-nil qs)
-      (unified M M es ps P h look link slot qs st (is_number x n ∷ []) ((known, tt), tt) (put_number c n) link [] u)
+      subst (λ l. IsStored M N (is_number x n ∷ es) ps P h (after (put_number c n) look) link slot l) (append-nil qs)
+      (unified M N es ps P h look link slot qs st (is_number x n ∷ []) ((known, tt), tt) (put_number c n) link [] u)
 
   abbrev pub number : List (ℕ × ℤ)
   number = (c, pos n) ∷ []
 
-  pub stored_linked : (own : ℕ → ℕ) → link c ≡ Some (own c) → IsStored M M (is_number x n ∷ es) ps P h (after (put_number c n) look) (without number link) slot (with_value qs (own c) n)
+  pub stored_linked : (own : ℕ → ℕ) → link c ≡ Some (own c) → IsStored M N (is_number x n ∷ es) ps P h (after (put_number c n) look) (without number link) slot (with_value qs (own c) n)
   stored_linked own e =
       let u = subst (λ ds. IsUnified h link ds (put_number c n) (without number link) (number_touches own number)) (sym equation) (numbered link h own number (number_here c n, tt) (e, tt)) in
-      unified M M es ps P h look link slot qs st (is_number x n ∷ []) ((known, tt), tt) (put_number c n) (without number link) (number_touches own number) u
+      unified M N es ps P h look link slot qs st (is_number x n ∷ []) ((known, tt), tt) (put_number c n) (without number link) (number_touches own number) u
 
 -- what is so without number
 without_here : (c n : ℕ) (link : ℕ → Option ℕ) (d : ℕ) → (d ≡ c → ⊥) → without ((c, pos n) ∷ []) link d ≡ link d
@@ -133,25 +135,25 @@ module _ (b : Branch) (o : Order) (t : Term) where
   abbrev pub at_branch : List Equation → Branch
   at_branch es = record { goals = Label o t ∷ []; equations = es; posted = b.posted; fresh = b.fresh }
 
-module _ (M : ℕ) (b : Branch) (o : Order) (t : Term) where
+module _ (M N : ℕ) (b : Branch) (o : Order) (t : Term) where
   -- the variable that the labelling picks where the branch has these equations
   pub record IsPicked (es : List Equation) (s : Substitution) (D : Family) (ms : List Member) (x : ℕ) : Type 0 where
-    pub view : IsView M M es b.posted s D
+    pub view : IsView M N es b.posted s D
     pub list : read_list (apply (look_in (at_branch b o t es) s D) t) ≡ Ok ms
-    pub picked : pick o (λ y. values_by M (sets_in (at_branch b o t es) s D y)) ms ≡ Some x
+    pub picked : pick o (λ y. values_by N (sets_in (at_branch b o t es) s D y)) ms ≡ Some x
 
   -- the equations are reached by so many picked variables that take values, each of which is one of Is
   pub data Reached (Is : ℕ → ℕ → Type 0) : ℕ → List Equation → Type 0 where
     begins : Reached Is 0 b.equations
     goes : {j : ℕ} {es : List Equation} → Reached Is j es → (s : Substitution) (D : Family) (ms : List Member) (x n : ℕ) → IsPicked es s D ms x
-        → IsConsistent M M (is_number x n ∷ es) b.posted → Is x n → Reached Is (suc j) (is_number x n ∷ es)
+        → IsConsistent M N (is_number x n ∷ es) b.posted → Is x n → Reached Is (suc j) (is_number x n ∷ es)
 
   pub reached_more : (Is Are : ℕ → ℕ → Type 0) → ((x n : ℕ) → Is x n → Are x n) → (j : ℕ) (es : List Equation) → Reached Is j es → Reached Are j es
   reached_more Is Are f j es begins = begins
   reached_more Is Are f j es (goes r s D ms x n p c i) = goes (reached_more Is Are f _ _ r) s D ms x n p c (f x n i)
 
-module _ (M : ℕ) (big : 0 < M) (b : Branch) (o : Order) (t c : Term) (h : ℕ) (look : Substitution) (link : ℕ → Option ℕ) (slot : ℕ → ℕ) (qs : List Indexical) (A : Family) (ms : List Member)
-    (cost : Member) (own : ℕ → ℕ) (s : IsSearched M b t c h look link slot qs A ms cost own) where
+module _ (M N : ℕ) (big : 0 < N) (b : Branch) (o : Order) (t c : Term) (h : ℕ) (look : Substitution) (link : ℕ → Option ℕ) (slot : ℕ → ℕ) (qs : List Indexical) (A : Family) (ms : List Member)
+    (cost : Member) (own : ℕ → ℕ) (ls : List Indexical) (s : IsSearched M N b t c h look link slot qs A ms cost own ls) where
   abbrev pub xs : List ℕ
   xs = open_ones ms
 
@@ -169,22 +171,40 @@ module _ (M : ℕ) (big : 0 < M) (b : Branch) (o : Order) (t c : Term) (h : ℕ)
     pub links : ℕ → Option ℕ
     pub slots : ℕ → ℕ
     pub store : List Indexical
-    pub stored : IsStored M M es b.posted P h at links slots store
+    pub stored : IsStored M N es b.posted P h at links slots store
     pub looks : (x : ℕ) → at x ≡ apply bound (look x)
     pub plain : (d : ℕ) → (bound d ≡ Var d) ⊎ ((n : ℕ) × (bound d ≡ Int (pos n)))
     pub held : (d n : ℕ) → bound d ≡ Int (pos n) → (has xs d ≡ true) × ((T : Family) → IsModel M M [] l T → T (own d) ≡ n ∷ [])
     pub same : (d : ℕ) → bound d ≡ Var d → links d ≡ link d
-    pub free : (d : ℕ) → has xs d ≡ true → bound d ≡ Var d → link d ≡ None → has (constrained l) (own d) ≡ false
-    pub more : (T : Family) → IsModel M M [] l T → IsModel M M [] store T
-    pub back : (T : Family) → IsModel M M [] store T → (R : Family) × IsModel M M [] l R × ((k : ℕ) → has (constrained store) k ≡ true → R k ≡ T k)
-    pub older : (T : Family) → IsModel M M [] store T → IsModel M M [] qs T
-    pub inside : (k : ℕ) → has (constrained store) k ≡ true → has (constrained l) k ≡ true
+    pub low : (d : ℕ) → has xs d ≡ true → (T : Family) → IsModel M M [] l T → (n : ℕ) → has (T (own d)) n ≡ true → n ≤ N
+    pub free : (d : ℕ) → has xs d ≡ true → bound d ≡ Var d → link d ≡ None → (T : Family) → IsModel M M [] l T → (n : ℕ) → n ≤ N → IsModel M M [] l (put_value (own d) n T)
+    pub unnamed : (d : ℕ) → has xs d ≡ true → link d ≡ None → has (constrained store) (own d) ≡ false
+    pub more : (T : Family) → IsModel M M [] l T → IsModel M N [] store T
+    pub back : (T : Family) → IsModel M N [] store T → (R : Family) × IsModel M M [] l R × ((k : ℕ) → has (constrained store) k ≡ true → R k ≡ T k)
+    pub older : (T : Family) → IsModel M N [] store T → IsModel M N [] qs T
     pub base : (k : ℕ) → has (constrained qs) k ≡ true → has (constrained store) k ≡ true
     pub list_monotone : AllMonotone M l
     pub store_monotone : AllMonotone M store
 
   -- the search begins
-  pub first_node : IsNode b.equations qs
+  begun_model : (T : Family) → IsModel M M [] ls T → IsModel M N [] qs T
+  begun_model T m =
+      model_narrower M N qs s.begun.each s.within T (front M M qs s.begun.bounds T (subst (λ l. IsModel M M [] l T) s.begun.behind m))
+
+  begun_low : (d : ℕ) → has xs d ≡ true → (T : Family) → IsModel M M [] ls T → (n : ℕ) → has (T (own d)) n ≡ true → n ≤ N
+  begun_low d i T m n e = by_link (link d) refl
+    where
+      by_link : (q : Option ℕ) → link d ≡ q → n ≤ N
+      by_link None f = elim (cases_eq N M) [
+        | inl same ↦ (let l = has_high 0 M (T (own d)) n (m.closed.family.rising (own d)) e in omega (arith, same, l))
+        | inr other ↦ bounded_at M N ls T (own d) m.closed.posted (s.begun.new d i f other) n e
+      ]
+      by_link (Some j) f =
+          let v = s.stored.from d j f in
+          let named : has (constrained qs) (own d) ≡ true = subst (λ x. has (constrained qs) x ≡ true) (v.3 ∙ sym (s.owned.linked d j i f)) (s.stored.slots v.0 v.1) in
+          (begun_model T m).closed.within (own d) n named e
+
+  pub first_node : IsNode b.equations ls
   first_node = record {
     bound = Var;
     at = look;
@@ -196,13 +216,18 @@ module _ (M : ℕ) (big : 0 < M) (b : Branch) (o : Order) (t c : Term) (h : ℕ)
     plain = λ d. inl refl;
     held = λ d n e. absurd (cc);
     same = λ d e. refl;
-    free = λ d i e n. s.owned.new d i n;
-    more = λ T m. m;
-    back = λ T m. (T, m, λ k i. refl);
+    low = begun_low;
+    free = λ d i e none T m n l. subst (λ ps. IsModel M M [] ps (put_value (own d) n T)) (sym s.begun.behind)
+        (put_begun M N qs s.begun.bounds (own d) n T l s.within s.begun.are (s.owned.new d i none) (subst (λ ps. IsModel M M [] ps T) s.begun.behind m));
+    unnamed = λ d i none. s.owned.new d i none;
+    more = begun_model;
+    back = λ T m. (
+        let w = model_bounded M N qs s.begun.bounds s.within s.begun.are T m in
+        (w.0, subst (λ ps. IsModel M M [] ps w.0) (sym s.begun.behind) (model_wider M N (qs ++ s.begun.bounds) s.within w.0 w.1), w.2)
+        );
     older = λ T m. m;
-    inside = λ k i. i;
     base = λ k i. i;
-    list_monotone = s.store;
+    list_monotone = subst (AllMonotone M) (sym s.begun.behind) (posted_both (λ p. IsMonotone M p.range) qs s.begun.bounds s.store (bounds_monotone M N s.begun.bounds s.begun.are));
     store_monotone = s.store;
   }
 
@@ -212,21 +237,24 @@ module _ (M : ℕ) (big : 0 < M) (b : Branch) (o : Order) (t c : Term) (h : ℕ)
 
   module _ (es : List Equation) (l : List Indexical) (k : IsNode es l) where
     -- both are consistent, or neither is
-    pub list_consistent : IsConsistent M M es b.posted → IsConsistent M M [] l
+    pub list_consistent : IsConsistent M N es b.posted → IsConsistent M M [] l
     list_consistent i =
-        let w = branch_model M es b.posted s.monotone i in
+        let w = branch_model M N es b.posted s.monotone i in
         let u = k.stored.up w.0 w.1 in
         let v = k.back u.0 u.1 in
         consistent_from M M [] l v.0 v.1
 
-    pub branch_consistent : IsConsistent M M [] l → IsConsistent M M es b.posted
+    pub branch_consistent : IsConsistent M M [] l → IsConsistent M N es b.posted
     branch_consistent i =
-        let w = branch_model M [] l k.list_monotone i in
-        consistent_from M M es b.posted (λ v. w.0 (k.slots v)) (k.stored.down w.0 (k.more w.0 w.1))
+        let w = branch_model M M [] l k.list_monotone i in
+        consistent_from M N es b.posted (λ v. w.0 (k.slots v)) (k.stored.down w.0 (k.more w.0 w.1))
 
     -- ---- a child
 
-    module _ (x d n : ℕ) (low : x < b.fresh) (among : has xs d ≡ true) (at_d : look x ≡ Var d) (open_now : k.bound d ≡ Var d) (small : n ≤ M) where
+    module _ (x d n : ℕ) (low : x < b.fresh) (among : has xs d ≡ true) (at_d : look x ≡ Var d) (open_now : k.bound d ≡ Var d) (small : n ≤ N) where
+      wide : n ≤ M
+      wide = let l = s.within in omega (arith, small, l)
+
       abbrev pub now : Substitution
       now = after (put_number d n) k.bound
 
@@ -271,24 +299,19 @@ module _ (M : ℕ) (big : 0 < M) (b : Branch) (o : Order) (t c : Term) (h : ℕ)
       child_held : (e m : ℕ) → now e ≡ Int (pos m) → (has xs e ≡ true) × ((T : Family) → IsModel M M [] child T → T (own e) ≡ m ∷ [])
       child_held e m i = elim (was_bound e m i) [
         | inl j ↦ (let old = k.held e m j in (old.0, λ T g. old.1 T (child_before T g)))
-        | inr j ↦ (subst (λ z. has xs z ≡ true) (sym j.0) among, λ T g. ap T (ap own j.0) ∙ exact_value M l (own d) n T g ∙ ap (λ z. z ∷ []) j.1)
+        | inr j ↦ (subst (λ z. has xs z ≡ true) (sym j.0) among, λ T g. ap T (ap own j.0) ∙ exact_value M M l (own d) n T g ∙ ap (λ z. z ∷ []) j.1)
       ]
 
-      -- what is named then
-      child_named : (j : ℕ) → has (constrained child) j ≡ true → (has (constrained l) j ≡ true) ⊎ (own d ≡ j)
-      child_named j c = elim (constrained_either l (exactly (own d) n ∷ []) j c) [ inl i ↦ inl i | inr i ↦ inr (only_member (own d) j i) ]
+      child_low : (e : ℕ) → has xs e ≡ true → (T : Family) → IsModel M M [] child T → (m : ℕ) → has (T (own e)) m ≡ true → m ≤ N
+      child_low e i T g m f = k.low e i T (child_before T g) m f
 
-      child_free : ((e : ℕ) → has xs e ≡ true → (e ≡ d → ⊥) → link e ≡ None → own d ≡ own e → ⊥) → (e : ℕ) → has xs e ≡ true → now e ≡ Var e → link e ≡ None → has (constrained child) (own e) ≡ false
-      child_free apart e i j none =
+      -- another variable stays free
+      child_free : ((e : ℕ) → has xs e ≡ true → (e ≡ d → ⊥) → link e ≡ None → own d ≡ own e → ⊥) → (e : ℕ) → has xs e ≡ true → now e ≡ Var e → link e ≡ None → (T : Family) → IsModel M M [] child T → (m : ℕ) → m ≤ N
+          → IsModel M M [] child (put_value (own e) m T)
+      child_free apart e i j none T g m low' =
           let old = was_open e j in
-          unless (has (constrained child) (own e)) refl (λ c. elim (child_named (own e) c) [
-            | inl f ↦ true≢false (sym f ∙ k.free e i old.0 none)
-            | inr f ↦ apart e i old.1 none f
-          ])
-        where
-          unless : (q : _) → has (constrained child) (own e) ≡ q → (has (constrained child) (own e) ≡ true → ⊥) → has (constrained child) (own e) ≡ false
-          unless true f g = absurd (g f)
-          unless false f g = f
+          let there = k.free e i old.0 none T (child_before T g) m low' in
+          with_exact M M l (own d) n (put_value (own e) m T) wide there (value_else (own e) m T (own d) (apart e i old.1 none) ∙ exact_value M M l (own d) n T g)
 
       -- of a cell that is linked: the store has the value too
       child_linked : link d ≡ Some (own d) → (q : IsNode (is_number x n ∷ es) child) × (q.bound ≡ now)
@@ -302,26 +325,32 @@ module _ (M : ℕ) (big : 0 < M) (b : Branch) (o : Order) (t c : Term) (h : ℕ)
               links = without ((d, pos n) ∷ []) k.links;
               slots = k.slots;
               store = with_value k.store (own d) n;
-              stored = stored_linked M es b.posted P h k.at k.links k.slots k.store k.stored x d n low at_cell own there;
+              stored = stored_linked M N es b.posted P h k.at k.links k.slots k.store k.stored x d n low at_cell own there;
               looks = λ y. ap (apply (put_number d n)) (k.looks y) ∙ sym (after_is (put_number d n) k.bound (look y));
               plain = now_plain;
               held = child_held;
               same = λ f i. (let old = was_open f i in without_here d n k.links f old.1 ∙ k.same f old.0);
+              low = child_low;
               free = child_free (λ f i other none same. true≢false (sym (subst (λ j. has (constrained qs) j ≡ true) same named) ∙ s.owned.new f i none));
-              older = λ T m. k.older T (front M M k.store (exactly (own d) n ∷ []) T m);
-              more = λ T m. with_exact M k.store (own d) n T small (k.more T (child_before T m)) (exact_value M l (own d) n T m);
+              unnamed = λ f i none. elim (cases_Bool (has (constrained (with_value k.store (own d) n)) (own f))) [
+                | inl y ↦
+                    let there : has (constrained k.store) (own f) ≡ true = elim (constrained_either k.store (exactly (own d) n ∷ []) (own f) y)
+                    [ inl a ↦ a | inr a ↦ subst (λ z. has (constrained k.store) z ≡ true) (only_member (own d) (own f) a) (k.base (own d) named) ] in
+                    absurd (true≢false (sym there ∙ k.unnamed f i none))
+                | inr y ↦ y
+              ];
+              older = λ T m. k.older T (front M N k.store (exactly (own d) n ∷ []) T m);
+              more = λ T m. with_exact M N k.store (own d) n T small (k.more T (child_before T m)) (exact_value M M l (own d) n T m);
               back = λ T m. (
-                  let old = front M M k.store (exactly (own d) n ∷ []) T m in
+                  let old = front M N k.store (exactly (own d) n ∷ []) T m in
                   let r = k.back T old in
-                  let here = r.2 (own d) (k.base (own d) named) ∙ exact_value M k.store (own d) n T m in (
+                  let here = r.2 (own d) (k.base (own d) named) ∙ exact_value M N k.store (own d) n T m in (
                     r.0,
-                    with_exact M l (own d) n r.0 small r.1 here,
+                    with_exact M M l (own d) n r.0 wide r.1 here,
                     λ j i. elim (constrained_either k.store (exactly (own d) n ∷ []) j i)
                         [ inl a ↦ r.2 j a | inr a ↦ r.2 j (subst (λ z. has (constrained k.store) z ≡ true) (only_member (own d) j a) (k.base (own d) named)) ],
                   )
                   );
-              inside = λ j i. elim (constrained_either k.store (exactly (own d) n ∷ []) j i)
-                  [ inl a ↦ named_left l (exactly (own d) n ∷ []) j (k.inside j a) | inr a ↦ named_right l (exactly (own d) n ∷ []) j a ];
               base = λ j i. named_left k.store (exactly (own d) n ∷ []) j (k.base j i);
               list_monotone = monotone_more M l (own d) n k.list_monotone;
               store_monotone = monotone_more M k.store (own d) n k.store_monotone;
@@ -338,26 +367,26 @@ module _ (M : ℕ) (big : 0 < M) (b : Branch) (o : Order) (t c : Term) (h : ℕ)
           links = k.links;
           slots = k.slots;
           store = k.store;
-          stored = stored_unlinked M es b.posted P h k.at k.links k.slots k.store k.stored x d n low at_cell (k.same d open_now ∙ none);
+          stored = stored_unlinked M N es b.posted P h k.at k.links k.slots k.store k.stored x d n low at_cell (k.same d open_now ∙ none);
           looks = λ y. ap (apply (put_number d n)) (k.looks y) ∙ sym (after_is (put_number d n) k.bound (look y));
           plain = now_plain;
           held = child_held;
           same = λ f i. k.same f (was_open f i).0;
+          low = child_low;
           free = child_free (λ f i other apart same. other (sym (s.owned.apart d f among i none apart same)));
+          unnamed = k.unnamed;
           older = k.older;
           more = λ T m. k.more T (child_before T m);
           back = λ T m. (
               let r = k.back T m in
-              let new = k.free d among open_now none in
               let R = put_value (own d) n r.0 in
-              let there = other_value M l (own d) n r.0 small new r.1 in (
+              let there = k.free d among open_now none r.0 r.1 n small in (
                 R,
-                with_exact M l (own d) n R small there (value_here (own d) n r.0),
+                with_exact M M l (own d) n R wide there (value_here (own d) n r.0),
                 λ j i. value_else (own d) n r.0 j
-                    (λ e. true≢false (sym (k.inside j i) ∙ ap (has (constrained l)) e ∙ new)) ∙ r.2 j i,
+                    (λ e. true≢false (sym i ∙ ap (has (constrained k.store)) e ∙ k.unnamed d among none)) ∙ r.2 j i,
               )
               );
-          inside = λ j i. named_left l (exactly (own d) n ∷ []) j (k.inside j i);
           base = k.base;
           list_monotone = monotone_more M l (own d) n k.list_monotone;
           store_monotone = k.store_monotone;
@@ -380,6 +409,6 @@ module _ (M : ℕ) (big : 0 < M) (b : Branch) (o : Order) (t c : Term) (h : ℕ)
       ]) d (ap is_open open_now) (ap is_open now_here) xs among
 
       -- how it is reached
-      pub child_path : (j : ℕ) → Reached M b o t (HasTaken k.bound) j es → (v : Substitution) (D : Family) (ns : List Member) → IsPicked M b o t es v D ns x
-          → IsConsistent M M (is_number x n ∷ es) b.posted → Reached M b o t (HasTaken now) (suc j) (is_number x n ∷ es)
-      child_path j r v D ns p i = goes (reached_more M b o t (HasTaken k.bound) (HasTaken now) (λ y m g. (g.0, g.1, ap (apply (put_number d n)) g.2)) j es r) v D ns x n p i (d, at_d, now_here)
+      pub child_path : (j : ℕ) → Reached M N b o t (HasTaken k.bound) j es → (v : Substitution) (D : Family) (ns : List Member) → IsPicked M N b o t es v D ns x
+          → IsConsistent M N (is_number x n ∷ es) b.posted → Reached M N b o t (HasTaken now) (suc j) (is_number x n ∷ es)
+      child_path j r v D ns p i = goes (reached_more M N b o t (HasTaken k.bound) (HasTaken now) (λ y m g. (g.0, g.1, ap (apply (put_number d n)) g.2)) j es r) v D ns x n p i (d, at_d, now_here)

@@ -38,7 +38,7 @@ use Rattle.sought_leaves.specs.Seeking.{owned, shown_by, IsSearched}
 use Rattle.sought_leaves.proofs.Heaps.{heap_by, heap_long, heap_links, heap_valid}
 use Rattle.sought_leaves.proofs.Members.{as_one, under, IsPlain, member_under, list_under, Alike, SamePick, pick_alike, none_alike, some_alike, shown_alike}
 use Rattle.sought_leaves.proofs.Nodes.{at_branch, IsPicked, IsNode}
-use Rattle.sought_leaves.proofs.Values.{greatest_model, left_model, left_most, left_unnamed}
+use Rattle.sought_leaves.proofs.Values.{greatest_model, left_model, left_most, left_free}
 
 -- what a labelling does, from its list
 listing_done : (o : Order) (v : ℕ → List ℕ) (l : Result (List Member) QueryFault) → by_listing o v l ≡ done → (ms : List Member) × (l ≡ Ok ms) × (pick o v ms ≡ None)
@@ -104,15 +104,15 @@ unbound bound plain (Int z) d i = absurd (cc)
 unbound bound plain (Atom a) d i = absurd (cc)
 unbound bound plain (Comp f ts) d i = absurd (cc)
 
-module _ (M : ℕ) (big : 0 < M) (b : Branch) (o : Order) (t c : Term) (h : ℕ) (look : Substitution) (link : ℕ → Option ℕ) (slot : ℕ → ℕ) (qs : List Indexical) (A : Family) (ms : List Member)
-    (cost : Member) (own : ℕ → ℕ) (s : IsSearched M b t c h look link slot qs A ms cost own)
-    (es : List Equation) (l : List Indexical) (k : IsNode M big b o t c h look link slot qs A ms cost own s es l) (ok : IsConsistent M M es b.posted) (sure : IsConsistent M M [] l)
+module _ (M N : ℕ) (big : 0 < N) (b : Branch) (o : Order) (t c : Term) (h : ℕ) (look : Substitution) (link : ℕ → Option ℕ) (slot : ℕ → ℕ) (qs : List Indexical) (A : Family) (ms : List Member)
+    (cost : Member) (own : ℕ → ℕ) (ls : List Indexical) (s : IsSearched M N b t c h look link slot qs A ms cost own ls)
+    (es : List Equation) (l : List Indexical) (k : IsNode M N big b o t c h look link slot qs A ms cost own ls s es l) (ok : IsConsistent M N es b.posted) (sure : IsConsistent M M [] l)
     (G : Family) (left : AreLeft M l G) where
   model : IsModel M M [] l G
   model = left_model M l G k.list_monotone sure left
 
-  greatest : (D : Family) × IsModel M M [] k.store D × ((R : Family) → IsModel M M [] k.store R → IsInside R D)
-  greatest = greatest_model M k.store k.store_monotone G (k.more G model)
+  greatest : (D : Family) × IsModel M N [] k.store D × ((R : Family) → IsModel M N [] k.store R → IsInside R D)
+  greatest = greatest_model M N k.store k.store_monotone G (k.more G model)
 
   abbrev T : Family
   T = greatest.0
@@ -143,18 +143,18 @@ module _ (M : ℕ) (big : 0 < M) (b : Branch) (o : Order) (t c : Term) (h : ℕ)
   links_is : link_in H ≡ k.links
   links_is = heap_links k.links h none_behind
 
-  kept : IsKept M M H k.store es b.posted (λ v. v < b.fresh) k.at
+  kept : IsKept M N H k.store es b.posted (λ v. v < b.fresh) k.at
   kept = record {
     slot = k.slots;
-    stored = subst (λ n. IsStored M M es b.posted (λ v. v < b.fresh) n k.at (link_in H) k.slots k.store) (sym (heap_long k.links h))
-        (subst (λ f. IsStored M M es b.posted (λ v. v < b.fresh) h k.at f k.slots k.store) (sym links_is) k.stored);
+    stored = subst (λ n. IsStored M N es b.posted (λ v. v < b.fresh) n k.at (link_in H) k.slots k.store) (sym (heap_long k.links h))
+        (subst (λ f. IsStored M N es b.posted (λ v. v < b.fresh) h k.at f k.slots k.store) (sym links_is) k.stored);
   }
 
   abbrev F : Frame
   F = fixed_frame (frame_of no_names H k.store) T
 
   abbrev seen_look : Substitution
-  seen_look = settled_look M M no_names H (heap_valid k.links h) k.store es b.posted (λ v. v < b.fresh) k.at kept T greatest.2
+  seen_look = settled_look M N no_names H (heap_valid k.links h) k.store es b.posted (λ v. v < b.fresh) k.at kept T greatest.2
 
   abbrev value : Substitution
   value d = value_at (link_in H d) T d
@@ -186,7 +186,7 @@ module _ (M : ℕ) (big : 0 < M) (b : Branch) (o : Order) (t c : Term) (h : ℕ)
       same_number j n m i e f =
           let v = s.stored.from d j i in
           let named : has (constrained qs) j ≡ true = subst (λ x. has (constrained qs) x ≡ true) v.3 (s.stored.slots v.0 v.1) in
-          let one = sole_value M M qs A s.most j n named e G (k.older G (k.more G model)) in
+          let one = sole_value M N qs A s.most j n named e G (k.older G (k.more G model)) in
           let g = k.held d m f in
           let owns : own d ≡ j = s.owned.linked d j g.0 i in
           let both : m ∷ [] ≡ n ∷ [] = sym (g.1 G model) ∙ ap G owns ∙ one in
@@ -198,7 +198,7 @@ module _ (M : ℕ) (big : 0 < M) (b : Branch) (o : Order) (t c : Term) (h : ℕ)
         | inl f ↦
             let v = s.stored.from d j i in
             let named : has (constrained qs) j ≡ true = subst (λ x. has (constrained qs) x ≡ true) v.3 (s.stored.slots v.0 v.1) in
-            let one = sole_value M M qs A s.most j n named e T (k.older T greatest.1) in
+            let one = sole_value M N qs A s.most j n named e T (k.older T greatest.1) in
             ap (apply value) f ∙ ap (λ q. value_at q T d) (ap (λ g. g d) links_is ∙ k.same d f ∙ i) ∙ ap (λ ws. value_in ws d) one
         | inr f ↦ ap (apply value) f.1 ∙ ap (λ z. Int (pos z)) (same_number j n f.0 i e f.1)
       ]
@@ -218,7 +218,7 @@ module _ (M : ℕ) (big : 0 < M) (b : Branch) (o : Order) (t c : Term) (h : ℕ)
   -- ---- members
 
   abbrev here : ℕ → List ℕ
-  here d = values_by M (cell_set T (F.link d))
+  here d = values_by N (cell_set T (F.link d))
 
   abbrev Is : ℕ → ℕ → Type 0
   Is d j = (here d ≡ G j) × (k.bound d ≡ Var d) × (has (open_ones ms) d ≡ true) × (own d ≡ j)
@@ -233,10 +233,10 @@ module _ (M : ℕ) (big : 0 < M) (b : Branch) (o : Order) (t c : Term) (h : ℕ)
   alike_unlinked : (d : ℕ) → has (open_ones ms) d ≡ true → k.bound d ≡ Var d → link d ≡ None → AlikeAt (as_one (w d)) (seen_in G (Open (own d)))
   alike_unlinked d among e none =
       let no_link : link_in H d ≡ None = ap (λ f. f d) links_is ∙ k.same d e ∙ none in
-      let all : G (own d) ≡ universe M = left_unnamed M l G (own d) left model (k.free d among e none) in
+      let all : G (own d) ≡ universe N = left_free M N l G (own d) s.within left (k.low d among G model) (k.free d among e none G model) in
       let stays : w d ≡ Var d = ap (apply value) e ∙ ap (λ q. value_at q T d) no_link in
-      let several : only (G (own d)) ≡ None = ap only all ∙ not_alone (universe M) (in_universe M 0 (omega arith)) (in_universe M 1 (omega (arith, big))) in
-      let set : here d ≡ G (own d) = ap (λ q. values_by M (cell_set T (link_at q T))) no_link ∙ sym all in
+      let several : only (G (own d)) ≡ None = ap only all ∙ not_alone (universe N) (in_universe N 0 (omega arith)) (in_universe N 1 (omega (arith, big))) in
+      let set : here d ≡ G (own d) = ap (λ q. values_by N (cell_set T (link_at q T))) no_link ∙ sym all in
       subst (λ u. AlikeAt (as_one u) (seen_in G (Open (own d)))) (sym stays) (subst (λ q. AlikeAt (Open d) (open_unless (own d) q)) (sym several) (set, e, among, refl))
 
   -- one that is linked has the set of its variable of the store
@@ -247,19 +247,19 @@ module _ (M : ℕ) (big : 0 < M) (b : Branch) (o : Order) (t c : Term) (h : ℕ)
       let named : has (constrained k.store) j ≡ true = subst (λ i. has (constrained k.store) i ≡ true) v.3 (k.stored.slots v.0 v.1) in
       let owns : own d ≡ j = s.owned.linked d j among there in
       let goes : w d ≡ value_in (T j) d = ap (apply value) e ∙ ap (λ q. value_at q T d) linked in
-      let set : here d ≡ values_by M (cell_set T (open_link (T j) j)) = ap (λ q. values_by M (cell_set T (link_at q T))) linked in
+      let set : here d ≡ values_by N (cell_set T (open_link (T j) j)) = ap (λ q. values_by N (cell_set T (link_at q T))) linked in
       subst (λ u. AlikeAt (as_one u) (seen_in G (Open (own d)))) (sym goes) (subst (λ i. AlikeAt (as_one (value_in (T j) d)) (open_unless i (only (G i)))) (sym owns)
       (by_set (T j) refl (sym (sets_same j named)) set owns))
     where
-      by_set : (ws : List ℕ) → T j ≡ ws → G j ≡ T j → here d ≡ values_by M (cell_set T (open_link (T j) j)) → own d ≡ j → AlikeAt (as_one (value_in (T j) d)) (open_unless j (only (G j)))
+      by_set : (ws : List ℕ) → T j ≡ ws → G j ≡ T j → here d ≡ values_by N (cell_set T (open_link (T j) j)) → own d ≡ j → AlikeAt (as_one (value_in (T j) d)) (open_unless j (only (G j)))
       by_set [] i g set owns =
           subst (λ ws. AlikeAt (as_one (value_in ws d)) (open_unless j (only (G j)))) (sym i) (subst (λ ws. AlikeAt (Open d) (open_unless j (only ws))) (sym (g ∙ i))
-          (set ∙ ap (λ ws. values_by M (cell_set T (open_link ws j))) i ∙ sym g, e, among, owns))
+          (set ∙ ap (λ ws. values_by N (cell_set T (open_link ws j))) i ∙ sym g, e, among, owns))
       by_set (n ∷ []) i g set owns =
           subst (λ ws. AlikeAt (as_one (value_in ws d)) (open_unless j (only (G j)))) (sym i) (subst (λ ws. AlikeAt (Known (pos n)) (open_unless j (only ws))) (sym (g ∙ i)) refl)
       by_set (n ∷ m ∷ ns) i g set owns =
           subst (λ ws. AlikeAt (as_one (value_in ws d)) (open_unless j (only (G j)))) (sym i) (subst (λ ws. AlikeAt (Open d) (open_unless j (only ws))) (sym (g ∙ i))
-          (set ∙ ap (λ ws. values_by M (cell_set T (open_link ws j))) i ∙ sym g, e, among, owns))
+          (set ∙ ap (λ ws. values_by N (cell_set T (open_link ws j))) i ∙ sym g, e, among, owns))
 
   one_alike : (d : ℕ) → has (open_ones ms) d ≡ true → AlikeAt (as_one (w d)) (seen_in G (Open (own d)))
   one_alike d among = elim (k.plain d) [
@@ -287,15 +287,15 @@ module _ (M : ℕ) (big : 0 < M) (b : Branch) (o : Order) (t c : Term) (h : ℕ)
 
   -- ---- what is seen in the branch
 
-  module _ (v : Substitution) (D : Family) (view : IsView M M es b.posted v D) where
-    held' : IsHeld M M F es b.posted (λ v. v < b.fresh) seen_look
-    held' = settled_held M M no_names H (heap_valid k.links h) k.store es b.posted (λ v. v < b.fresh) k.at kept T greatest.2
+  module _ (v : Substitution) (D : Family) (view : IsView M N es b.posted v D) where
+    held' : IsHeld M N F es b.posted (λ v. v < b.fresh) seen_look
+    held' = settled_held M N no_names H (heap_valid k.links h) k.store es b.posted (λ v. v < b.fresh) k.at kept T greatest.2
 
-    rest' : IsAtRest M M F T
-    rest' = settled_rest M M no_names H (heap_valid k.links h) k.store es b.posted (λ v. v < b.fresh) k.at kept T greatest.2 no_query greatest.1
+    rest' : IsAtRest M N F T
+    rest' = settled_rest M N no_names H (heap_valid k.links h) k.store es b.posted (λ v. v < b.fresh) k.at kept T greatest.2 no_query greatest.1
 
     abbrev values : ℕ → List ℕ
-    values y = values_by M (sets_in (at_branch b o t es) v D y)
+    values y = values_by N (sets_in (at_branch b o t es) v D y)
 
     -- the list by the branch's view
     abbrev seen_list : Term
@@ -308,7 +308,7 @@ module _ (M : ℕ) (big : 0 < M) (b : Branch) (o : Order) (t c : Term) (h : ℕ)
     pub leaf_there : picked_in o G stored_members ≡ None → (ns : List Member) × (read_list seen_list ≡ Ok ns) × (pick o values ns ≡ None)
     leaf_there e =
         let none = none_alike here G Is is_same_set (pick o here shown) (picked_in o G stored_members) picks e in
-        let there = label_done M M F es b.posted (λ v. v < b.fresh) seen_look held' T rest' v D view ok o t s.list (on_frame ∙ ap (by_picked here) none) in
+        let there = label_done M N F es b.posted (λ v. v < b.fresh) seen_look held' T rest' v D view ok o t s.list (on_frame ∙ ap (by_picked here) none) in
         let r = listing_done o values (read_list (seen v D (constrained b.posted) t)) there in
         (r.0, ap read_list list_is ∙ r.1, r.2)
 
@@ -316,7 +316,7 @@ module _ (M : ℕ) (big : 0 < M) (b : Branch) (o : Order) (t c : Term) (h : ℕ)
     pub record IsNext (j : ℕ) : Type 0 where
       pub members : List Member
       pub variable : ℕ
-      pub picked : IsPicked M b o t es v D members variable
+      pub picked : IsPicked M N b o t es v D members variable
       pub values_are : values variable ≡ G j
       pub low : variable < b.fresh
       pub cell : ℕ
@@ -328,7 +328,7 @@ module _ (M : ℕ) (big : 0 < M) (b : Branch) (o : Order) (t c : Term) (h : ℕ)
     pub next_there : (j : ℕ) → picked_in o G stored_members ≡ Some j → IsNext j
     next_there j e =
         let d = some_alike here G Is is_same_set (pick o here shown) (picked_in o G stored_members) j picks e in
-        let there = label_there M M F es b.posted (λ v. v < b.fresh) seen_look held' T rest' v D view ok o t s.list d.0 (here d.0) (on_frame ∙ ap (by_picked here) d.1) in
+        let there = label_there M N F es b.posted (λ v. v < b.fresh) seen_look held' T rest' v D view ok o t s.list d.0 (here d.0) (on_frame ∙ ap (by_picked here) d.1) in
         let r = listing_labels o values (read_list (seen v D (constrained b.posted) t)) there.0 (here d.0) there.1 in
         let low = variables_on (λ v. v < b.fresh) (seen v D (constrained b.posted) t) (seen_of b.fresh es v view.general k.stored.heap.scoped D (constrained b.posted) t s.list) there.0
         (label_in o values (seen v D (constrained b.posted) t) there.0 (here d.0) there.1) in
@@ -368,12 +368,12 @@ module _ (M : ℕ) (big : 0 < M) (b : Branch) (o : Order) (t c : Term) (h : ℕ)
     integer_only (Comp f ts) z e = absurd (cc)
 
     -- The cost is seen as the integer that it is over the posted ranges.
-    pub cost_there : (z : ℤ) → seen_in G (owned own cost) ≡ Known z → IsSeenAs M M (at_branch b o t es) c z
+    pub cost_there : (z : ℤ) → seen_in G (owned own cost) ≡ Known z → IsSeenAs M N (at_branch b o t es) c z
     cost_there z e =
         let known = cost_under cost z (λ d i. cost_among cost d s.among i) e in
         let now : apply seen_look c ≡ Int z = now_shown c ∙ integer_only (apply w (apply (shown_by link A look) c)) z
         (member_under w w_plain (apply (shown_by link A look) c) cost s.costs ∙ ap Ok known) in
-        let found = found_same M M F es b.posted (λ v. v < b.fresh) seen_look held' T rest' v D view ok kind.Same seen_look c (Int z) s.known tt in
+        let found = found_same M N F es b.posted (λ v. v < b.fresh) seen_look held' T rest' v D view ok kind.Same seen_look c (Int z) s.known tt in
         let both : is_same (seen v D (constrained b.posted) c) (Int z) ≡ true =
         (
         let f : decided (is_same (apply seen_look c) (Int z)) ≡ decided (is_same (seen v D (constrained b.posted) c) (Int z)) = found in

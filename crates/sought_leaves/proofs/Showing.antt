@@ -131,9 +131,9 @@ cost_back r w ms a (Int z) i = refl
 cost_back r w ms a (Atom f) i = refl
 cost_back r w ms a (Comp f ts) i = refl
 
-module _ (M : ℕ) (n : ℕ) (es : List Equation) (ps : List Indexical) (h : ℕ) (look : Substitution) (link : ℕ → Option ℕ) (slot : ℕ → ℕ) (qs : List Indexical) (A : Family)
-    (st : IsStored M M es ps (λ v. v < n) h look link slot qs)
-    (model : IsModel M M [] qs A) (most : (R : Family) → IsModel M M [] qs R → IsInside R A) (ok : IsConsistent M M es ps) (s : Substitution) (D : Family) (view : IsView M M es ps s D) where
+module _ (M N : ℕ) (n : ℕ) (es : List Equation) (ps : List Indexical) (h : ℕ) (look : Substitution) (link : ℕ → Option ℕ) (slot : ℕ → ℕ) (qs : List Indexical) (A : Family)
+    (st : IsStored M N es ps (λ v. v < n) h look link slot qs)
+    (model : IsModel M N [] qs A) (most : (R : Family) → IsModel M N [] qs R → IsInside R A) (ok : IsConsistent M N es ps) (s : Substitution) (D : Family) (view : IsView M N es ps s D) where
   abbrev pub ws : List ℕ
   ws = constrained ps
 
@@ -148,9 +148,9 @@ module _ (M : ℕ) (n : ℕ) (es : List Equation) (ps : List Indexical) (h : ℕ
 
   -- the view's family is a model, so its sets are those of the store's variables
   full : (x : ℕ) → has ws x ≡ true → (i : ℕ) × (has (D x) i ≡ true)
-  full x k = let g = ok.some x k in (g.0, ((view.contains g.1.family (closed_either M M es s g.1.unifier ps g.1.family view.general g.1.general g.1.closed)).at x).each g.0 g.1.member)
+  full x k = let g = ok.some x k in (g.0, ((view.contains g.1.family (closed_either M N es s g.1.unifier ps g.1.family view.general g.1.general g.1.closed)).at x).each g.0 g.1.member)
 
-  view_model : IsModel M M es ps D
+  view_model : IsModel M N es ps D
   view_model = record { unifier = s; general = view.general; closed = view.closed; full = full }
 
   same_sets : (x : ℕ) → has ws x ≡ true → D x ≡ A (slot x)
@@ -159,7 +159,7 @@ module _ (M : ℕ) (n : ℕ) (es : List Equation) (ps : List Indexical) (h : ℕ
       let down = st.down A model in
       rising_same 0 M (D x) (A (slot x)) (view.closed.family.rising x) (model.closed.family.rising (slot x))
       (record { each = λ i e. ((most up.0 up.1).at (slot x)).each i (subst (λ l. has l i ≡ true) (sym (up.2 x k)) e) })
-      ((view.contains (λ v. A (slot v)) (closed_either M M es s down.unifier ps (λ v. A (slot v)) view.general down.general down.closed)).at x)
+      ((view.contains (λ v. A (slot v)) (closed_either M N es s down.unifier ps (λ v. A (slot v)) view.general down.general down.closed)).at x)
 
   -- a constrained variable of one value is seen as it, and is shown as it
   seen_one : (x i : ℕ) → has ws x ≡ true → D x ≡ i ∷ [] → apply sets (s x) ≡ Int (pos i)

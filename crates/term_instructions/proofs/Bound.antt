@@ -2,6 +2,7 @@
 use Rattle.std.proofs.Common.{◌≡◌, ℕ, ◌<◌, Bool, true, false, List, [], ◌∷◌, length, Result, Ok, Err, ap, sym, ◌∙◌, subst, inl}
 use Rattle.std.specs.Prelude.{IfOk}
 use Rattle.std.proofs.lemmas.Bool.{false≢true}
+use Rattle.fd_language.specs.declared.TheConstants.{INFINITY}
 use Rattle.fd_language.specs.Unifier.{IsMostGeneral}
 use Rattle.term_pool.specs.declared.AtomId.{AtomId}
 use Rattle.heap_cells.specs.declared.Cell.{Cell}
@@ -60,7 +61,7 @@ module _ (area : Area) (f : AtomId) (n : ℕ) (atom : IsAtom area f) (s : branch
   middle_heap = heap ∙ sym (ap (λ (t : branch.State). with_heap t s4.heaps.now) b.heap)
 
   -- It is bound, and what the store was told is posted.
-  pub bound_then : equal ≡ true → before ≡ [] → (s5 : branch.State) (told : List Touch) → told ≡ after → (posted : Bool) (E : Type 0) → s5.heaps ≡ s4.heaps → IsSameBelow s4 s5 → IfTrue {E = E} (Ok posted) (s5.levels.current.posted ≡ posted_with s4 told) → IfFalse {E = E} (Ok posted) (branch.HasNoModel (posted_with s4 told))
+  pub bound_then : equal ≡ true → before ≡ [] → (s5 : branch.State) (told : List Touch) → told ≡ after → (posted : Bool) (E : Type 0) → s5.heaps ≡ s4.heaps → IsSameBelow s4 s5 → IfTrue {E = E} (Ok posted) (s5.levels.current.posted ≡ posted_with s4 told) → IfFalse {E = E} (Ok posted) (branch.HasNoModel INFINITY (posted_with s4 told))
       → IfTrue {E = E} (Ok posted) (IsSound s5) → IfFalse {E = E} (Ok posted) (IsSoundBelow s5) → BuildsFor area f n var s from c s5 c2 (went_to next posted)
   bound_then so untold s5 told told_is posted E heaps below all_posted gone sound back d own same =
       let is : IsEqualled b.middle.heaps.now (cell.Ref var) b.built s4.heaps.now before after = at_equal equal so b.equals in

@@ -115,15 +115,15 @@ module _ (area : Area) (n : ℕ) (s : branch.State) (at : ℕ) (c : Contents) (c
   valid : IsHeap h
   valid = safe.sound.now.valid
 
-  abbrev Before : List ℕ → List ℕ → Naming → Name → Purpose → Branch → ℕ → Type 0
-  Before marks shown name f use' b k = Builds INFINITY INFINITY marks area shown name h qs 0 at (registers_of c) (gathered use' cells) k (stack_of c) b (end_of area shown b f use')
+  abbrev Before : ℕ → List ℕ → List ℕ → Naming → Name → Purpose → Branch → ℕ → Type 0
+  Before N marks shown name f use' b k = Builds INFINITY N marks area shown name h qs 0 at (registers_of c) (gathered use' cells) k (stack_of c) b (end_of area shown b f use')
 
   all_own : (s' : branch.State) → ((e : Cell) → IsCell s e → IsCell s' e) → (d : Cell) → IsCell s' d → All (IsCell s') (cells ++ d ∷ [])
   all_own s' keep d o = All-append (IsCell s') cells (d ∷ []) (own_all s s' keep cells own) (one_all (IsCell s') d o)
 
   -- a cell of the branch is put behind the others
   plain_gathered : (step : Code) → Holds area at step → goes_on step ≡ true → ((t u : State) → unify_effect step t ≡ Some u → u ≡ with_owed t (t.owed - 1)) → (d : Cell) → IsCell s d
-      → ((marks : List ℕ) (shown : List ℕ) (name : Naming) (f : Name) (use' : Purpose) (b : Branch) (left : ℕ) → IsNaming area name → Before marks shown name f use' b (suc left) → Builds INFINITY INFINITY marks area shown name h qs 0 (suc at) (registers_of c) (gathered use' cells ++ d ∷ []) left (stack_of c) b (end_of area shown b f use'))
+      → ((N : ℕ) (small : N ≤ INFINITY) (marks : List ℕ) (shown : List ℕ) (name : Naming) (f : Name) (use' : Purpose) (b : Branch) (left : ℕ) → IsNaming area name → Before N marks shown name f use' b (suc left) → Builds INFINITY N marks area shown name h qs 0 (suc at) (registers_of c) (gathered use' cells ++ d ∷ []) left (stack_of c) b (end_of area shown b f use'))
       → IsGatheredTo area n s at c cells s (suc at) c (cells ++ d ∷ [])
   plain_gathered step holds on stays d d_own builds =
       let f = found area s at (n - length cells) c step safe holds in
@@ -141,27 +141,27 @@ module _ (area : Area) (n : ℕ) (s : branch.State) (at : ℕ) (c : Contents) (c
         behind = same_behind c;
         below = same_below s;
         grown = grown_same h;
-        keeps = λ marks shown name g use' b m w.
-            subst (λ l. Builds INFINITY INFINITY marks area shown name h qs 0 (suc at) (registers_of c) l (n - length (cells ++ d ∷ [])) (stack_of c) b (end_of area shown b g use')) (sym (next_gathered use' cells d))
-            (builds marks shown name g use' b (n - length (cells ++ d ∷ [])) m (subst (λ k. Before marks shown name g use' b k) left_is w));
+        keeps = λ N small marks shown name g use' b m w.
+            subst (λ l. Builds INFINITY N marks area shown name h qs 0 (suc at) (registers_of c) l (n - length (cells ++ d ∷ [])) (stack_of c) b (end_of area shown b g use')) (sym (next_gathered use' cells d))
+            (builds N small marks shown name g use' b (n - length (cells ++ d ∷ [])) m (subst (λ k. Before N marks shown name g use' b k) left_is w));
       }
 
   pub gather_value : (r : Register) → Holds area at (UnifyValue r) → (d : Cell) → cell_in (registers_of c) r ≡ Some d → IsGatheredTo area n s at c cells s (suc at) c (cells ++ d ∷ [])
   gather_value r holds d here =
-      plain_gathered (UnifyValue r) holds refl (λ t u e. (when_parts (is_set t r) (with_owed t (t.owed - 1)) u e).1) d (held_own s c r d safe.here.registers_own safe.here.slots_own here) (λ marks shown name f use' b left m w.
-      let k = build_value INFINITY INFINITY marks area shown name h qs (registers_of c) (gathered use' cells) left (stack_of c) b (end_of area shown b f use') at w r holds in
-      subst (λ e. Builds INFINITY INFINITY marks area shown name h qs 0 (suc at) (registers_of c) (gathered use' cells ++ e ∷ []) left (stack_of c) b (end_of area shown b f use')) (same_Some k.0 d (sym k.1 ∙ here)) k.3)
+      plain_gathered (UnifyValue r) holds refl (λ t u e. (when_parts (is_set t r) (with_owed t (t.owed - 1)) u e).1) d (held_own s c r d safe.here.registers_own safe.here.slots_own here) (λ N small marks shown name f use' b left m w.
+      let k = build_value INFINITY N marks area shown name h qs (registers_of c) (gathered use' cells) left (stack_of c) b (end_of area shown b f use') at w r holds in
+      subst (λ e. Builds INFINITY N marks area shown name h qs 0 (suc at) (registers_of c) (gathered use' cells ++ e ∷ []) left (stack_of c) b (end_of area shown b f use')) (same_Some k.0 d (sym k.1 ∙ here)) k.3)
 
   pub gather_constant : (i : AtomId) → Holds area at (UnifyConstant i) → IsGatheredTo area n s at c cells s (suc at) c (cells ++ cell.Atom i ∷ [])
   gather_constant i holds =
       let there = safe.verified.there at (UnifyConstant i) holds in
       plain_gathered (UnifyConstant i) holds refl (λ t u e. some_is (with_owed t (t.owed - 1)) u e) (cell.Atom i) (tt, subst (λ n. i.number < n) (sym safe.atoms) there)
-      (λ marks shown name f use' b left m w. build_constant INFINITY INFINITY marks area shown name h qs (registers_of c) (gathered use' cells) left (stack_of c) b (end_of area shown b f use') valid at w i holds (m.same i there))
+      (λ N small marks shown name f use' b left m w. build_constant INFINITY N marks area shown name h qs (registers_of c) (gathered use' cells) left (stack_of c) b (end_of area shown b f use') valid at w i holds (m.same i there))
 
   pub gather_integer : (z : ℤ) → Holds area at (UnifyInteger z) → IsGatheredTo area n s at c cells s (suc at) c (cells ++ cell.Int z ∷ [])
   gather_integer z holds =
       plain_gathered (UnifyInteger z) holds refl (λ t u e. some_is (with_owed t (t.owed - 1)) u e) (cell.Int z) (tt, tt)
-      (λ marks shown name f use' b left m w. build_integer INFINITY INFINITY marks area shown name h qs (registers_of c) (gathered use' cells) left (stack_of c) b (end_of area shown b f use') valid at w z holds)
+      (λ N small marks shown name f use' b left m w. build_integer INFINITY N marks area shown name h qs (registers_of c) (gathered use' cells) left (stack_of c) b (end_of area shown b f use') valid at w z holds)
 
   -- a new variable is put behind the others, and into the register
   pub gather_variable : (r : Register) → Holds area at (UnifyVariable r) → (s' : branch.State) → s' ≡ with_heap s (with_new_slot h) → IsSound s' → (d : Cell) → d ≡ cell.Ref (length h.slots) → (c' : Contents) → IsWritten (registers_of c) r d (registers_of c') → IsSameBehind c c' → length c'.slots ≡ length c.slots
@@ -187,14 +187,14 @@ module _ (area : Area) (n : ℕ) (s : branch.State) (at : ℕ) (c : Contents) (c
         behind = same;
         below = below;
         grown = subst (λ (t : branch.State). IsGrown h t.heaps.now) (sym added) (grown_var h valid);
-        keeps = λ marks shown name g use' b m v.
+        keeps = λ N small marks shown name g use' b m v.
             let End' = end_of area shown b g use' in
             let left = n - length (cells ++ d ∷ []) in
-            let one = build_variable INFINITY INFINITY marks area shown name h qs (registers_of c) (gathered use' cells) left (stack_of c) b End' valid at (subst (λ k. Before marks shown name g use' b k) left_is v) r holds (registers_of c') (subst (λ e. IsWritten (registers_of c) r e (registers_of c')) is w) in
-            let two : Builds INFINITY INFINITY marks area shown name (with_new_slot h) qs 0 (suc at) (registers_of c') (gathered use' cells ++ d ∷ []) left (stack_of c) b End' = subst (λ e. Builds INFINITY INFINITY marks area shown name (with_new_slot h) qs 0 (suc at) (registers_of c') (gathered use' cells ++ e ∷ []) left (stack_of c) b End') (sym is) one in
-            let three : Builds INFINITY INFINITY marks area shown name (with_new_slot h) qs 0 (suc at) (registers_of c') (gathered use' (cells ++ d ∷ [])) left (stack_of c') b End' =
-            subst (λ l. Builds INFINITY INFINITY marks area shown name (with_new_slot h) qs 0 (suc at) (registers_of c') l left (stack_of c') b End') (sym (next_gathered use' cells d)) (subst (λ rs. Builds INFINITY INFINITY marks area shown name (with_new_slot h) qs 0 (suc at) (registers_of c') (gathered use' cells ++ d ∷ []) left (map saved_of rs) b End') (sym same.returns) two) in
-            subst (λ (t : branch.State). Builds INFINITY INFINITY marks area shown name t.heaps.now t.levels.current.posted 0 (suc at) (registers_of c') (gathered use' (cells ++ d ∷ [])) left (stack_of c') b End') (sym added) three;
+            let one = build_variable INFINITY N marks area shown name h qs (registers_of c) (gathered use' cells) left (stack_of c) b End' valid at (subst (λ k. Before N marks shown name g use' b k) left_is v) r holds (registers_of c') (subst (λ e. IsWritten (registers_of c) r e (registers_of c')) is w) in
+            let two : Builds INFINITY N marks area shown name (with_new_slot h) qs 0 (suc at) (registers_of c') (gathered use' cells ++ d ∷ []) left (stack_of c) b End' = subst (λ e. Builds INFINITY N marks area shown name (with_new_slot h) qs 0 (suc at) (registers_of c') (gathered use' cells ++ e ∷ []) left (stack_of c) b End') (sym is) one in
+            let three : Builds INFINITY N marks area shown name (with_new_slot h) qs 0 (suc at) (registers_of c') (gathered use' (cells ++ d ∷ [])) left (stack_of c') b End' =
+            subst (λ l. Builds INFINITY N marks area shown name (with_new_slot h) qs 0 (suc at) (registers_of c') l left (stack_of c') b End') (sym (next_gathered use' cells d)) (subst (λ rs. Builds INFINITY N marks area shown name (with_new_slot h) qs 0 (suc at) (registers_of c') (gathered use' cells ++ d ∷ []) left (map saved_of rs) b End') (sym same.returns) two) in
+            subst (λ (t : branch.State). Builds INFINITY N marks area shown name t.heaps.now t.levels.current.posted 0 (suc at) (registers_of c') (gathered use' (cells ++ d ∷ [])) left (stack_of c') b End') (sym added) three;
       }
 
   -- so many new variables are put behind the others
@@ -217,21 +217,21 @@ module _ (area : Area) (n : ℕ) (s : branch.State) (at : ℕ) (c : Contents) (c
         behind = same_behind c;
         below = below;
         grown = added_grown k h cells s'.heaps.now cells' valid a.added;
-        keeps = λ marks shown name g use' b m v.
-            subst (λ ps. Builds INFINITY INFINITY marks area shown name s'.heaps.now ps 0 (suc at) (registers_of c) (gathered use' cells') (n - length cells') (stack_of c) b (end_of area shown b g use')) (sym (ap (λ (t : branch.State). t.levels.current.posted) a.heap))
-            (given marks shown name g use' b k holds a.added low size v);
+        keeps = λ N small marks shown name g use' b m v.
+            subst (λ ps. Builds INFINITY N marks area shown name s'.heaps.now ps 0 (suc at) (registers_of c) (gathered use' cells') (n - length cells') (stack_of c) b (end_of area shown b g use')) (sym (ap (λ (t : branch.State). t.levels.current.posted) a.heap))
+            (given N small marks shown name g use' b k holds a.added low size v);
       }
     where
-      given : (marks : List ℕ) (shown : List ℕ) (name : Naming) (g : Name) (use' : Purpose) (b : Branch) (k : ℕ) → Holds area at (UnifyVoid k) → AddsVariables k h cells s'.heaps.now cells' → k ≤ n - length cells → length cells' ≡ length cells + k → Before marks shown name g use' b (n - length cells)
-          → Builds INFINITY INFINITY marks area shown name s'.heaps.now qs 0 (suc at) (registers_of c) (gathered use' cells') (n - length cells') (stack_of c) b (end_of area shown b g use')
-      given marks shown name g use' b zero holds added low size v = absurd (no_void area at v.p v.ts v.next v.q (let e = v.counted in omega (arith, e, more)) holds v.owed)
-      given marks shown name g use' b (suc k) holds added low size v =
+      given : (N : ℕ) (small : N ≤ INFINITY) (marks : List ℕ) (shown : List ℕ) (name : Naming) (g : Name) (use' : Purpose) (b : Branch) (k : ℕ) → Holds area at (UnifyVoid k) → AddsVariables k h cells s'.heaps.now cells' → k ≤ n - length cells → length cells' ≡ length cells + k → Before N marks shown name g use' b (n - length cells)
+          → Builds INFINITY N marks area shown name s'.heaps.now qs 0 (suc at) (registers_of c) (gathered use' cells') (n - length cells') (stack_of c) b (end_of area shown b g use')
+      given N small marks shown name g use' b zero holds added low size v = absurd (no_void area at v.p v.ts v.next v.q (let e = v.counted in omega (arith, e, more)) holds v.owed)
+      given N small marks shown name g use' b (suc k) holds added low size v =
           let End' = end_of area shown b g use' in
           let left = n - length cells' in
           let left_is : n - length cells ≡ suc (left + k) = omega (arith, more, low, size) in
-          let one = build_void INFINITY INFINITY marks area shown name h qs (registers_of c) (gathered use' cells) (left + k) (stack_of c) b End' valid at k (subst (λ k. Before marks shown name g use' b k) left_is v) holds in
-          voids_built INFINITY INFINITY marks area shown name qs (suc at) (registers_of c) (stack_of c) b End' use' left k (left + k) (with_new_slot h) (cells ++ cell.Ref (length h.slots) ∷ []) s'.heaps.now cells' (var_valid h valid) refl added
-          (subst (λ l. Builds INFINITY INFINITY marks area shown name (with_new_slot h) qs k (suc at) (registers_of c) l (left + k) (stack_of c) b End') (sym (next_gathered use' cells (cell.Ref (length h.slots)))) one)
+          let one = build_void INFINITY N marks area shown name h qs (registers_of c) (gathered use' cells) (left + k) (stack_of c) b End' valid at k (subst (λ k. Before N marks shown name g use' b k) left_is v) holds in
+          voids_built INFINITY N marks area shown name qs (suc at) (registers_of c) (stack_of c) b End' use' left k (left + k) (with_new_slot h) (cells ++ cell.Ref (length h.slots) ∷ []) s'.heaps.now cells' (var_valid h valid) refl added
+          (subst (λ l. Builds INFINITY N marks area shown name (with_new_slot h) qs k (suc at) (registers_of c) l (left + k) (stack_of c) b End') (sym (next_gathered use' cells (cell.Ref (length h.slots)))) one)
 
 -- ---- one argument, whatever was gathered before
 
@@ -262,7 +262,7 @@ module _ (area : Area) (left : ℕ) (s : branch.State) (at : ℕ) (c : Contents)
 -- ---- many instructions
 
 pub gathered_start : (area : Area) (n : ℕ) (s : branch.State) (at : ℕ) (c : Contents) (cells : List Cell) → IsSafe area s at (n - length cells) c → length cells ≤ n → All (IsCell s) cells → IsGatheredTo area n s at c cells s at c cells
-gathered_start area n s at c cells safe within own = record { safe = safe; within = within; leads = among_none area at; own = own; stays = λ d o. o; behind = same_behind c; below = same_below s; grown = grown_same s.heaps.now; keeps = λ marks shown name f use' b m v. v }
+gathered_start area n s at c cells safe within own = record { safe = safe; within = within; leads = among_none area at; own = own; stays = λ d o. o; behind = same_behind c; below = same_below s; grown = grown_same s.heaps.now; keeps = λ N small marks shown name f use' b m v. v }
 
 pub gathered_both : (area : Area) (n : ℕ) (s : branch.State) (at : ℕ) (c : Contents) (cells : List Cell) (s1 : branch.State) (at1 : ℕ) (c1 : Contents) (cells1 : List Cell) (s2 : branch.State) (at2 : ℕ) (c2 : Contents) (cells2 : List Cell)
     → IsGatheredTo area n s at c cells s1 at1 c1 cells1 → IsGatheredTo area n s1 at1 c1 cells1 s2 at2 c2 cells2 → IsGatheredTo area n s at c cells s2 at2 c2 cells2
@@ -275,7 +275,7 @@ gathered_both area n s at c cells s1 at1 c1 cells1 s2 at2 c2 cells2 g k = record
   behind = behind_both c c1 c2 g.behind k.behind;
   below = below_both s s1 s2 g.below k.below;
   grown = grown_both s.heaps.now s1.heaps.now s2.heaps.now g.grown k.grown;
-  keeps = λ marks shown name f use' b m v. k.keeps marks shown name f use' b m (g.keeps marks shown name f use' b m v);
+  keeps = λ N small marks shown name f use' b m v. k.keeps N small marks shown name f use' b m (g.keeps N small marks shown name f use' b m v);
 }
 
 -- ---- two arguments

@@ -1,5 +1,5 @@
 -- A structure of a head, where it is matched.
-use Rattle.std.proofs.Common.{◌≡◌, ℕ, suc, ◌-◌, ◌<◌, ◌==◌, Bool, true, false, not, List, [], ◌∷◌, ◌++◌, length, drop, All, Some, Bor, Result, Ok, Err, refl, ap, sym, ◌∙◌, subst, inl, inr, arith, append-nil, ◌⊎◌, eqb-true, eq-eqb}
+use Rattle.std.proofs.Common.{◌≤◌, ◌≡◌, ℕ, suc, ◌-◌, ◌<◌, ◌==◌, Bool, true, false, not, List, [], ◌∷◌, ◌++◌, length, drop, All, Some, Bor, Result, Ok, Err, refl, ap, sym, ◌∙◌, subst, inl, inr, arith, append-nil, ◌⊎◌, eqb-true, eq-eqb}
 use Rattle.std.proofs.lemmas.Bool.{cases_Bool, true≢false}
 use Rattle.std.specs.Result.{IfOk, OnOk}
 use Rattle.std.proofs.lemmas.Option.{same_Some}
@@ -19,6 +19,7 @@ use Rattle.heap_cells.specs.SeenCells.{IsSeen}
 use Rattle.heap_cells.specs.Terms.{Naming, Same, term_of, terms_by, compound_term}
 use Rattle.heap_cells.proofs.Lemmas.{term-Int, term-Atom, term-Struct, unbound_term}
 use Rattle.machine_relation.specs.Store.{posts}
+use Rattle.machine_frames.proofs.Lemmas.{model_wider}
 use Rattle.machine_frames.specs.Environments.{AllOwn}
 use Rattle.machine_frames.specs.Frames.{store_touches}
 use Rattle.unify_core.specs.declared.Touch.{Touch}
@@ -59,7 +60,7 @@ use Rattle.term_instructions.proofs.Structure.{grown_safe, sound_safe, equated_s
 
 -- what was touched is posted, or has no model
 pub read_then : (area : Area) (cells : List Cell) (s : branch.State) (told : List Touch) (from : ReadPosition) (c : Contents) (s1 : branch.State) (told1 : List Touch) (at : ℕ) (c1 : Contents) → IsReadTo area cells s told from c s1 told1 (record { at = at; next = length cells }) c1
-    → (s2 : branch.State) (given : List Touch) → given ≡ told1 → (posted : Bool) → (E : Type 0) → s2.heaps ≡ s1.heaps → IsSameBelow s1 s2 → IfTrue {E = E} (Ok posted) (s2.levels.current.posted ≡ posted_with s1 given) → IfFalse {E = E} (Ok posted) (branch.HasNoModel (posted_with s1 given)) → IfTrue {E = E} (Ok posted) (IsSound s2) → IfFalse {E = E} (Ok posted) (IsSoundBelow s2) → ReadsThen area (drop from.next cells) s told from.at c s2 c1 (went_to at posted)
+    → (s2 : branch.State) (given : List Touch) → given ≡ told1 → (posted : Bool) → (E : Type 0) → s2.heaps ≡ s1.heaps → IsSameBelow s1 s2 → IfTrue {E = E} (Ok posted) (s2.levels.current.posted ≡ posted_with s1 given) → IfFalse {E = E} (Ok posted) (branch.HasNoModel INFINITY (posted_with s1 given)) → IfTrue {E = E} (Ok posted) (IsSound s2) → IfFalse {E = E} (Ok posted) (IsSoundBelow s2) → ReadsThen area (drop from.next cells) s told from.at c s2 c1 (went_to at posted)
 read_then area cells s told from c s1 told1 at c1 g s2 given is true E heap below all none sound back =
     let none_left : length cells - length cells ≡ 0 = omega arith in
     let ps : posted_with s1 told1 ≡ s2.levels.current.posted = ap (posted_with s1) (sym is) ∙ sym all in
@@ -68,11 +69,11 @@ read_then area cells s told from c s1 told1 at c1 g s2 given is true E heap belo
       leads = g.leads;
       behind = g.behind;
       below = below_both s s1 s2 g.below below;
-      stands = λ marks shown name b n m.
-          let k = g.keeps marks shown name b n m in
-          let ended : Reads INFINITY INFINITY marks area shown name s1.heaps.now (posted_with s1 told1) 0 at (registers_of c1) [] (stack_of c1) b = subst (λ l. Reads INFINITY INFINITY marks area shown name s1.heaps.now (posted_with s1 told1) 0 at (registers_of c1) l (stack_of c1) b) (drop-length cells) k in
-          let st = read_end INFINITY INFINITY marks area shown name s1.heaps.now (posted_with s1 told1) at (registers_of c1) (stack_of c1) b ended in
-          subst (λ ps. Stands INFINITY INFINITY marks area shown name s2.heaps.now ps at (registers_of c1) (stack_of c1) b) ps (subst (λ h. Stands INFINITY INFINITY marks area shown name h.now (posted_with s1 told1) at (registers_of c1) (stack_of c1) b) (sym heap) st);
+      stands = λ N small marks shown name b n m.
+          let k = g.keeps N small marks shown name b n m in
+          let ended : Reads INFINITY N marks area shown name s1.heaps.now (posted_with s1 told1) 0 at (registers_of c1) [] (stack_of c1) b = subst (λ l. Reads INFINITY N marks area shown name s1.heaps.now (posted_with s1 told1) 0 at (registers_of c1) l (stack_of c1) b) (drop-length cells) k in
+          let st = read_end INFINITY N marks area shown name s1.heaps.now (posted_with s1 told1) at (registers_of c1) (stack_of c1) b ended in
+          subst (λ ps. Stands INFINITY N marks area shown name s2.heaps.now ps at (registers_of c1) (stack_of c1) b) ps (subst (λ h. Stands INFINITY N marks area shown name h.now (posted_with s1 told1) at (registers_of c1) (stack_of c1) b) (sym heap) st);
     }
 read_then area cells s told from c s1 told1 at c1 g s2 given is false E heap below all none sound back =
     record {
@@ -80,11 +81,11 @@ read_then area cells s told from c s1 told1 at c1 g s2 given is false E heap bel
       leads = tt;
       behind = g.behind;
       below = below_both s s1 s2 g.below below;
-      stands = λ marks shown name b n m.
-          let k = g.keeps marks shown name b n m in
-          let ended : Reads INFINITY INFINITY marks area shown name s1.heaps.now (posted_with s1 told1) 0 at (registers_of c1) [] (stack_of c1) b = subst (λ l. Reads INFINITY INFINITY marks area shown name s1.heaps.now (posted_with s1 told1) 0 at (registers_of c1) l (stack_of c1) b) (drop-length cells) k in
-          let st = read_end INFINITY INFINITY marks area shown name s1.heaps.now (posted_with s1 told1) at (registers_of c1) (stack_of c1) b ended in
-          stands_no_model INFINITY INFINITY marks area shown name s1.heaps.now (posted_with s1 told1) at (registers_of c1) (stack_of c1) b st (subst branch.HasNoModel (ap (posted_with s1) is) none);
+      stands = λ N small marks shown name b n m.
+          let k = g.keeps N small marks shown name b n m in
+          let ended : Reads INFINITY N marks area shown name s1.heaps.now (posted_with s1 told1) 0 at (registers_of c1) [] (stack_of c1) b = subst (λ l. Reads INFINITY N marks area shown name s1.heaps.now (posted_with s1 told1) 0 at (registers_of c1) l (stack_of c1) b) (drop-length cells) k in
+          let st = read_end INFINITY N marks area shown name s1.heaps.now (posted_with s1 told1) at (registers_of c1) (stack_of c1) b ended in
+          stands_no_model INFINITY N marks area shown name s1.heaps.now (posted_with s1 told1) at (registers_of c1) (stack_of c1) b st (λ T m. subst (branch.HasNoModel INFINITY) (ap (posted_with s1) is) none T (model_wider INFINITY N (posted_with s1 told1) small T m));
     }
 
 pub refused_then : (area : Area) (cells : List Cell) (s : branch.State) (told : List Touch) (from : ReadPosition) (c : Contents) (s1 : branch.State) (c1 : Contents) → IsRefused area cells s told from c s1 c1 → ReadsThen area (drop from.next cells) s told from.at c s1 c1 Back
@@ -111,7 +112,7 @@ module _ (area : Area) (cells : List Cell) (s : branch.State) (from : ReadPositi
         leads = led_both area from.at to.at g.leads w r.leads;
         behind = behind_both c c1 c' g.behind r.behind;
         below = r.below;
-        stands = λ marks shown name b n m. r.stands marks shown name b n (g.keeps marks shown name b n m);
+        stands = λ N small marks shown name b n m. r.stands N small marks shown name b n (g.keeps N small marks shown name b n m);
       }
   looked_first given given_is told empty s' c' (Err e) k = tt
 
@@ -125,15 +126,15 @@ module _ (area : Area) (f : AtomId) (n : ℕ) (d : Cell) (atom : IsAtom area f) 
   grown : IsSafe area s3 next 0 c2
   grown = grown_safe area s2 s3 next 0 c2 (subst (λ k. IsSafe area s2 next k c2) none_left g.safe) heap sound (made_keeps f given s2 s3 new made heap)
 
-  goes : (marks : List ℕ) (shown : List ℕ) (name : Naming) (b : Branch) → IsNaming area name → BuildsAt marks area shown name (name_of area f) (for_head d) s from c [] n b → GoesOnEqual INFINITY INFINITY marks area shown name s3.heaps.now s3.levels.current.posted next (registers_of c2) (stack_of c2) b d new
-  goes marks shown name b m v =
+  goes : (N : ℕ) (small : N ≤ INFINITY) (marks : List ℕ) (shown : List ℕ) (name : Naming) (b : Branch) → IsNaming area name → BuildsAt N marks area shown name (name_of area f) (for_head d) s from c [] n b → GoesOnEqual INFINITY N marks area shown name s3.heaps.now s3.levels.current.posted next (registers_of c2) (stack_of c2) b d new
+  goes N small marks shown name b m v =
       let g' = name_of area f in
-      let two : BuildsAt marks area shown name g' (for_head d) s from c [] (n - length {A = Cell} []) b = subst (λ k. BuildsAt marks area shown name g' (for_head d) s from c [] k b) (let e : n ≡ n - length {A = Cell} [] = omega arith in e) v in
-      let three = g.keeps marks shown name g' (for_head d) b m (subst (λ l. BuildsAt marks area shown name g' (for_head d) s from c l (n - length l) b) (sym none) two) in
-      let four : BuildsAt marks area shown name g' (for_head d) s2 next c2 given 0 b =
-      subst (λ l. BuildsAt marks area shown name g' (for_head d) s2 next c2 l 0 b) (sym given_is) (subst (λ k. BuildsAt marks area shown name g' (for_head d) s2 next c2 cells k b) none_left three) in
-      subst (λ ps. GoesOnEqual INFINITY INFINITY marks area shown name s3.heaps.now ps next (registers_of c2) (stack_of c2) b d new) (sym (ap (λ (t : branch.State). t.levels.current.posted) heap))
-      (end_get INFINITY INFINITY marks area shown name s2.heaps.now s2.levels.current.posted next (registers_of c2) (stack_of c2) b f (m.same f atom) given s3.heaps.now new made.grown made.own.0 (made.term name) d four)
+      let two : BuildsAt N marks area shown name g' (for_head d) s from c [] (n - length {A = Cell} []) b = subst (λ k. BuildsAt N marks area shown name g' (for_head d) s from c [] k b) (let e : n ≡ n - length {A = Cell} [] = omega arith in e) v in
+      let three = g.keeps N small marks shown name g' (for_head d) b m (subst (λ l. BuildsAt N marks area shown name g' (for_head d) s from c l (n - length l) b) (sym none) two) in
+      let four : BuildsAt N marks area shown name g' (for_head d) s2 next c2 given 0 b =
+      subst (λ l. BuildsAt N marks area shown name g' (for_head d) s2 next c2 l 0 b) (sym given_is) (subst (λ k. BuildsAt N marks area shown name g' (for_head d) s2 next c2 cells k b) none_left three) in
+      subst (λ ps. GoesOnEqual INFINITY N marks area shown name s3.heaps.now ps next (registers_of c2) (stack_of c2) b d new) (sym (ap (λ (t : branch.State). t.levels.current.posted) heap))
+      (end_get INFINITY N marks area shown name s2.heaps.now s2.levels.current.posted next (registers_of c2) (stack_of c2) b f (m.same f atom) given s3.heaps.now new made.grown made.own.0 (made.term name) d four)
 
   pub built_then : (s4 : branch.State) (equal : Bool) → Equates s3 d new s4 equal → IsSameBelow s3 s4 → BuildsThen area f n d s from c s4 c2 (went_to next equal)
   built_then s4 true q below = record {
@@ -141,19 +142,19 @@ module _ (area : Area) (f : AtomId) (n : ℕ) (d : Cell) (atom : IsAtom area f) 
     leads = g.leads;
     behind = g.behind;
     below = below_both s s2 s4 g.below (below_both s2 s3 s4 (below_heap s2 s3 heap) below);
-    stands = λ marks shown name b m v.
-        let k = goes marks shown name b m v in
-        subst (λ ps. Stands INFINITY INFINITY marks area shown name s4.heaps.now ps next (registers_of c2) (stack_of c2) b) (sym q.posted) (k.unified s4.heaps.now q.touches (q.unified name) q.size);
+    stands = λ N small marks shown name b m v.
+        let k = goes N small marks shown name b m v in
+        subst (λ ps. Stands INFINITY N marks area shown name s4.heaps.now ps next (registers_of c2) (stack_of c2) b) (sym q.posted) (k.unified s4.heaps.now q.touches (q.unified name) q.size);
   }
   built_then s4 false q below = record {
     safe = back_safe area s3 s4 next 0 c2 c2 grown below (same_behind c2) q.1;
     leads = tt;
     behind = g.behind;
     below = below_both s s2 s4 g.below (below_both s2 s3 s4 (below_heap s2 s3 heap) below);
-    stands = λ marks shown name b m v.
-        let k = goes marks shown name b m v in elim q.0 [
+    stands = λ N small marks shown name b m v.
+        let k = goes N small marks shown name b m v in elim q.0 [
           | inl un ↦ k.refuted (un name m.apart)
-          | inr gone ↦ stands_no_model INFINITY INFINITY marks area shown name gone.now (s3.levels.current.posted ++ posts (store_touches gone.touches)) next (registers_of c2) (stack_of c2) b (k.unified gone.now gone.touches (gone.unified name) gone.size) gone.none
+          | inr gone ↦ stands_no_model INFINITY N marks area shown name gone.now (s3.levels.current.posted ++ posts (store_touches gone.touches)) next (registers_of c2) (stack_of c2) b (k.unified gone.now gone.touches (gone.unified name) gone.size) (λ T m. gone.none T (model_wider INFINITY N (s3.levels.current.posted ++ posts (store_touches gone.touches)) small T m))
         ];
   }
 
@@ -187,13 +188,13 @@ module _ (area : Area) (s : branch.State) (at : ℕ) (c : Contents) (safe : IsSa
   get_atom = safe.verified.there at (GetStructure f n a) holds
 
   pub get_back_safe : IsSafeBack area s c
-  get_back_safe = back_safe area s s at 0 c c safe (same_below s) (same_behind c) (record { unspent = safe.sound.unspent; marked = safe.sound.marked; below = safe.sound.below })
+  get_back_safe = back_safe area s s at 0 c c safe (same_below s) (same_behind c) (record { greatest = safe.sound.greatest; unspent = safe.sound.unspent; marked = safe.sound.marked; below = safe.sound.below })
 
   module _ (d : Cell) (here : cell_at c.registers a ≡ Some d) where
     pub get_open : (s' : branch.State) (c' : Contents) (w : Went) → BuildsThen area f n d s (suc at) c s' c' w → KeepsStanding area s at c s' c' w
-    get_open s' c' w g marks shown name b m st =
-        let k = start_get INFINITY INFINITY marks area shown name h s.levels.current.posted at (registers_of c) (stack_of c) b st f n a holds in
-        g.stands marks shown name b m (subst (λ e. Builds INFINITY INFINITY marks area shown name h s.levels.current.posted 0 (suc at) (registers_of c) (e ∷ []) n (stack_of c) b (GetEnd area shown b (name_of area f))) (same_Some k.0 d (sym k.1 ∙ here)) k.3)
+    get_open s' c' w g N small marks shown name b m st =
+        let k = start_get INFINITY N marks area shown name h s.levels.current.posted at (registers_of c) (stack_of c) b st f n a holds in
+        g.stands N small marks shown name b m (subst (λ e. Builds INFINITY N marks area shown name h s.levels.current.posted 0 (suc at) (registers_of c) (e ∷ []) n (stack_of c) b (GetEnd area shown b (name_of area f))) (same_Some k.0 d (sym k.1 ∙ here)) k.3)
 
     -- the term of a structure that is there
     term_there : (name : Naming) (g : AtomId) (args : List Cell) (j : ℕ) → compound_at h j ≡ record { name = g; args = args } → Same h d (cell.Struct j) → term_of name h d ≡ Comp (name g) (terms_by (term_of name h) args)
@@ -204,17 +205,17 @@ module _ (area : Area) (s : branch.State) (at : ℕ) (c : Contents) (safe : IsSa
       args_own = subst (λ k. All (IsCell s) k.args) is (λ k e l. (safe.sound.now.valid.parts j k e l, safe.sound.now.names.args j k e l))
 
       pub get_struct : g ≡ f → length args ≡ n → (cells : List Cell) → cells ≡ args → (told : List Touch) → told ≡ [] → (s' : branch.State) (c' : Contents) (w : Went) → ReadsThen area cells s told (suc at) c s' c' w → KeepsStanding area s at c s' c' w
-      get_struct is_f size cells given told empty s' c' w r marks shown name b m st =
-          let k = step_get_structure INFINITY INFINITY marks area shown name h s.levels.current.posted at (registers_of c) (stack_of c) b st f n a holds in
+      get_struct is_f size cells given told empty s' c' w r N small marks shown name b m st =
+          let k = step_get_structure INFINITY N marks area shown name h s.levels.current.posted at (registers_of c) (stack_of c) b st f n a holds in
           let mine : k.0 ≡ d = same_Some k.0 d (sym k.1 ∙ here) in
           let there : term_of name h k.0 ≡ Comp (name_of area f) (terms_by (term_of name h) args) = ap (term_of name h) mine ∙ term_there name g args j is same ∙ ap (λ x. Comp x (terms_by (term_of name h) args)) (ap name is_f ∙ m.same f get_atom) in
           let reads = k.3 args size there (own_list h args (λ i e l. (args_own i e l).0)) in
           let ps : s.levels.current.posted ≡ posted_with s told = sym (append-nil s.levels.current.posted) ∙ ap (posted_with s) (sym empty) in
-          r.stands marks shown name b m (subst (λ l. ReadsAt marks area shown name s told (suc at) c l b) (sym given) (subst (λ qs. Reads INFINITY INFINITY marks area shown name h qs 0 (suc at) (registers_of c) args (stack_of c) b) ps reads))
+          r.stands N small marks shown name b m (subst (λ l. ReadsAt N marks area shown name s told (suc at) c l b) (sym given) (subst (λ qs. Reads INFINITY N marks area shown name h qs 0 (suc at) (registers_of c) args (stack_of c) b) ps reads))
 
       pub get_other : ((g ≡ f → ⊥) ⊎ (length args ≡ n → ⊥)) → KeepsStanding area s at c s c Back
-      get_other differ marks shown name b m st =
-          let k = step_get_structure INFINITY INFINITY marks area shown name h s.levels.current.posted at (registers_of c) (stack_of c) b st f n a holds in
+      get_other differ N small marks shown name b m st =
+          let k = step_get_structure INFINITY N marks area shown name h s.levels.current.posted at (registers_of c) (stack_of c) b st f n a holds in
           let mine : k.0 ≡ d = same_Some k.0 d (sym k.1 ∙ here) in
           k.4 (λ back us size e. absurd (clash back us size (ap (apply back) (sym (ap (term_of name h) mine ∙ term_there name g args j is same)) ∙ e) differ))
         where
@@ -223,10 +224,10 @@ module _ (area : Area) (s : branch.State) (at : ℕ) (c : Contents) (safe : IsSa
           clash back us size e (inr no_size) = no_size (sym (count_made back (term_of name h) args) ∙ ap term_count (let i : apply_all back (terms_by (term_of name h) args) ≡ us = cc in i) ∙ size)
 
     pub get_constant_seen : (v : Seen) → IsSeen h d v → ((i : ℕ) → v ≡ seen.Open i → ⊥) → ((g : AtomId) (args : Bor (List Cell)) → v ≡ seen.Struct g args → ⊥) → KeepsStanding area s at c s c Back
-    get_constant_seen v k not_open not_struct marks shown name b m st =
-        let e = step_get_structure INFINITY INFINITY marks area shown name h s.levels.current.posted at (registers_of c) (stack_of c) b st f n a holds in
+    get_constant_seen v k not_open not_struct N small marks shown name b m st =
+        let e = step_get_structure INFINITY N marks area shown name h s.levels.current.posted at (registers_of c) (stack_of c) b st f n a holds in
         let mine : e.0 ≡ d = same_Some e.0 d (sym e.1 ∙ here) in
-        e.4 (subst (λ x. IsNone INFINITY INFINITY marks area shown name h s.levels.current.posted at (registers_of c) (stack_of c) b st x (name_of area f) n) (sym mine) (go v k not_open not_struct))
+        e.4 (subst (λ x. IsNone INFINITY N marks area shown name h s.levels.current.posted at (registers_of c) (stack_of c) b st x (name_of area f) n) (sym mine) (go v k not_open not_struct))
       where
         go : (v : Seen) → IsSeen h d v → ((i : ℕ) → v ≡ seen.Open i → ⊥) → ((g : AtomId) (args : Bor (List Cell)) → v ≡ seen.Struct g args → ⊥) → (back : Substitution) (us : Terms) → term_count us ≡ n → apply back (term_of name h d) ≡ Comp (name_of area f) us → (e : ℕ) × (k : ℕ) × IsLinked h e k × IsSymbolic (back e)
         go (seen.Open i) k not_open not_struct back us size e = absurd (not_open i refl)

@@ -83,8 +83,8 @@ module _ (area : Area) (cells : List Cell) (s : branch.State) (told : List Touch
   abbrev left : List Cell
   left = drop (suc i) cells
 
-  opened : (marks : List ℕ) (shown : List ℕ) (name : Naming) (b : Branch) → ReadsAt marks area shown name s told at c (drop i cells) b → Reads INFINITY INFINITY marks area shown name h qs 0 at (registers_of c) (d ∷ left) (stack_of c) b
-  opened marks shown name b m = subst (λ l. ReadsAt marks area shown name s told at c l b) first m
+  opened : (N : ℕ) (small : N ≤ INFINITY) (marks : List ℕ) (shown : List ℕ) (name : Naming) (b : Branch) → ReadsAt N marks area shown name s told at c (drop i cells) b → Reads INFINITY N marks area shown name h qs 0 at (registers_of c) (d ∷ left) (stack_of c) b
+  opened N small marks shown name b m = subst (λ l. ReadsAt N marks area shown name s told at c l b) first m
 
   -- the register takes the argument
   pub reads_variable : (r : Register) → Holds area at (UnifyVariable r) → IsCell s d → (c' : Contents) → IsWritten (registers_of c) r d (registers_of c') → IsSameBehind c c' → length c'.slots ≡ length c.slots → (to : ReadPosition) → to.at ≡ suc at → to.next ≡ suc i → IsReadTo area cells s told from c s told to c'
@@ -103,10 +103,10 @@ module _ (area : Area) (cells : List Cell) (s : branch.State) (told : List Touch
         are_told = are_told;
         behind = same;
         below = same_below s;
-        keeps = λ marks shown name b n m.
-            let k = read_variable INFINITY INFINITY marks area shown name h qs (registers_of c) d left (stack_of c) b at (opened marks shown name b m) r holds (registers_of c') w in
-            let there : ReadsAt marks area shown name s told (suc at) c' left b = subst (λ rs. Reads INFINITY INFINITY marks area shown name h qs 0 (suc at) (registers_of c') left (map saved_of rs) b) (sym same.returns) k in
-            subst (λ a. ReadsAt marks area shown name s told a c' (drop to.next cells) b) (sym at_is) (subst (λ j. ReadsAt marks area shown name s told (suc at) c' (drop j cells) b) (sym next_is) there);
+        keeps = λ N small marks shown name b n m.
+            let k = read_variable INFINITY N marks area shown name h qs (registers_of c) d left (stack_of c) b at (opened N small marks shown name b m) r holds (registers_of c') w in
+            let there : ReadsAt N marks area shown name s told (suc at) c' left b = subst (λ rs. Reads INFINITY N marks area shown name h qs 0 (suc at) (registers_of c') left (map saved_of rs) b) (sym same.returns) k in
+            subst (λ a. ReadsAt N marks area shown name s told a c' (drop to.next cells) b) (sym at_is) (subst (λ j. ReadsAt N marks area shown name s told (suc at) c' (drop j cells) b) (sym next_is) there);
       }
 
   -- so many arguments are passed over
@@ -124,24 +124,24 @@ module _ (area : Area) (cells : List Cell) (s : branch.State) (told : List Touch
         are_told = are_told;
         behind = same_behind c;
         below = same_below s;
-        keeps = λ marks shown name b n m. subst (λ a. ReadsAt marks area shown name s told a c (drop to.next cells) b) (sym at_is) (subst (λ j. ReadsAt marks area shown name s told (suc at) c (drop j cells) b) (sym next_is) (passed marks shown name b m k holds low));
+        keeps = λ N small marks shown name b n m. subst (λ a. ReadsAt N marks area shown name s told a c (drop to.next cells) b) (sym at_is) (subst (λ j. ReadsAt N marks area shown name s told (suc at) c (drop j cells) b) (sym next_is) (passed N small marks shown name b m k holds low));
       }
     where
-      passed : (marks : List ℕ) (shown : List ℕ) (name : Naming) (b : Branch) → ReadsAt marks area shown name s told at c (drop i cells) b → (k : ℕ) → Holds area at (UnifyVoid k) → k ≤ length cells - i → ReadsAt marks area shown name s told (suc at) c (drop (i + k) cells) b
-      passed marks shown name b m zero holds low =
+      passed : (N : ℕ) (small : N ≤ INFINITY) (marks : List ℕ) (shown : List ℕ) (name : Naming) (b : Branch) → ReadsAt N marks area shown name s told at c (drop i cells) b → (k : ℕ) → Holds area at (UnifyVoid k) → k ≤ length cells - i → ReadsAt N marks area shown name s told (suc at) c (drop (i + k) cells) b
+      passed N small marks shown name b m zero holds low =
           let size = shown_count name h m.made.look (Made m.wide m.base) (drop i cells) m.sides m.cells in
           let counted = m.counted in
           let longer = length-drop i cells in
           absurd (no_void area at m.p m.ts m.next m.q (omega (arith, size, counted, longer, more)) holds m.owed)
-      passed marks shown name b m (suc k) holds low =
-          let one = read_void INFINITY INFINITY marks area shown name h qs (registers_of c) d left (stack_of c) b at k (opened marks shown name b m) holds in
+      passed N small marks shown name b m (suc k) holds low =
+          let one = read_void INFINITY N marks area shown name h qs (registers_of c) d left (stack_of c) b at k (opened N small marks shown name b m) holds in
           let longer = length-drop (suc i) cells in
-          let all = pass_over INFINITY INFINITY marks area shown name h qs (registers_of c) (stack_of c) b (suc at) k left (omega (arith, longer, low)) one in
-          subst (λ l. ReadsAt marks area shown name s told (suc at) c l b) (drop-drop k (suc i) cells ∙ ap (λ j. drop j cells) (let e : suc i + k ≡ i + suc k = omega arith in e)) all
+          let all = pass_over INFINITY N marks area shown name h qs (registers_of c) (stack_of c) b (suc at) k left (omega (arith, longer, low)) one in
+          subst (λ l. ReadsAt N marks area shown name s told (suc at) c l b) (drop-drop k (suc i) cells ∙ ap (λ j. drop j cells) (let e : suc i + k ≡ i + suc k = omega arith in e)) all
 
   -- the argument is made equal to another cell
   pub reads_equal : (step : Code) → Holds area at step → goes_on step ≡ true → ((t u : State) → unify_effect step t ≡ Some u → u ≡ with_owed t (t.owed - 1)) → (e : Cell)
-      → ((marks : List ℕ) (shown : List ℕ) (name : Naming) (b : Branch) → IsNaming area name → Reads INFINITY INFINITY marks area shown name h qs 0 at (registers_of c) (d ∷ left) (stack_of c) b → ReadsOnEqual INFINITY INFINITY marks area shown name h qs (suc at) (registers_of c) left (stack_of c) b d e)
+      → ((N : ℕ) (small : N ≤ INFINITY) (marks : List ℕ) (shown : List ℕ) (name : Naming) (b : Branch) → IsNaming area name → Reads INFINITY N marks area shown name h qs 0 at (registers_of c) (d ∷ left) (stack_of c) b → ReadsOnEqual INFINITY N marks area shown name h qs (suc at) (registers_of c) left (stack_of c) b d e)
       → (E : Type 0) → (s' : branch.State) (told' : List Touch) (equal : Bool) → IfTrue {E = E} (Ok equal) (IsEqualled h d e s'.heaps.now told told') → IfFalse {E = E} (Ok equal) (CannotUnify h d e) → (AreTouchesOf s told → IfTrue {E = E} (Ok equal) (AreTouchesOf s' told')) → s' ≡ with_heap s s'.heaps.now
       → IfTrue {E = E} (Ok equal) (IsSound s') → IfFalse {E = E} (Ok equal) (IsSoundBelow s') → (to : ReadPosition) → to.at ≡ suc at → to.next ≡ suc i → ReadsOn area cells s told from c s' told' c (if equal then Some to else None)
   reads_equal step holds on stays e ons E s' told' true done un told_then heap sound back to at_is next_is =
@@ -160,33 +160,33 @@ module _ (area : Area) (cells : List Cell) (s : branch.State) (told : List Touch
         are_told = told_then are_told;
         behind = same_behind c;
         below = below;
-        keeps = λ marks shown name b n m.
-            let g = (ons marks shown name b n (opened marks shown name b m)).unified s'.heaps.now done.more (done.unified name) done.size in
+        keeps = λ N small marks shown name b n m.
+            let g = (ons N small marks shown name b n (opened N small marks shown name b m)).unified s'.heaps.now done.more (done.unified name) done.size in
             let same : qs ++ posts (store_touches done.more) ≡ posted_with s' told' = posts_behind s.levels.current.posted told done.more told' done.touches ∙ ap (λ (l : Levels). l.current.posted ++ posts (store_touches told')) (sym (ap (λ (t : branch.State). t.levels) heap)) in
-            let there : ReadsAt marks area shown name s' told' (suc at) c left b = subst (λ ps. Reads INFINITY INFINITY marks area shown name s'.heaps.now ps 0 (suc at) (registers_of c) left (stack_of c) b) same g in
-            subst (λ a. ReadsAt marks area shown name s' told' a c (drop to.next cells) b) (sym at_is) (subst (λ j. ReadsAt marks area shown name s' told' (suc at) c (drop j cells) b) (sym next_is) there);
+            let there : ReadsAt N marks area shown name s' told' (suc at) c left b = subst (λ ps. Reads INFINITY N marks area shown name s'.heaps.now ps 0 (suc at) (registers_of c) left (stack_of c) b) same g in
+            subst (λ a. ReadsAt N marks area shown name s' told' a c (drop to.next cells) b) (sym at_is) (subst (λ j. ReadsAt N marks area shown name s' told' (suc at) c (drop j cells) b) (sym next_is) there);
       }
   reads_equal step holds on stays e ons E s' told' false done un told_then heap sound back to at_is next_is = record {
     safe = back_safe area s s' at (length cells - i) c c safe (below_heap s s' heap) (same_behind c) back;
     behind = same_behind c;
     below = below_heap s s' heap;
-    none = λ marks shown name b n m. (ons marks shown name b n (opened marks shown name b m)).refuted (un name n.apart);
+    none = λ N small marks shown name b n m. (ons N small marks shown name b n (opened N small marks shown name b m)).refuted (un name n.apart);
   }
 
   -- by each instruction that does so
   abbrev OnsEqual : Cell → Type 0
-  OnsEqual e = (marks : List ℕ) (shown : List ℕ) (name : Naming) (b : Branch) → IsNaming area name → Reads INFINITY INFINITY marks area shown name h qs 0 at (registers_of c) (d ∷ left) (stack_of c) b → ReadsOnEqual INFINITY INFINITY marks area shown name h qs (suc at) (registers_of c) left (stack_of c) b d e
+  OnsEqual e = (N : ℕ) (small : N ≤ INFINITY) (marks : List ℕ) (shown : List ℕ) (name : Naming) (b : Branch) → IsNaming area name → Reads INFINITY N marks area shown name h qs 0 at (registers_of c) (d ∷ left) (stack_of c) b → ReadsOnEqual INFINITY N marks area shown name h qs (suc at) (registers_of c) left (stack_of c) b d e
 
   pub value_equal : (r : Register) → Holds area at (UnifyValue r) → (e : Cell) → cell_in (registers_of c) r ≡ Some e → OnsEqual e
-  value_equal r holds e here marks shown name b n m =
-      let k = read_value INFINITY INFINITY marks area shown name h qs (registers_of c) d left (stack_of c) b at m r holds in
-      subst (λ x. ReadsOnEqual INFINITY INFINITY marks area shown name h qs (suc at) (registers_of c) left (stack_of c) b d x) (same_Some k.0 e (sym k.1 ∙ here)) k.3
+  value_equal r holds e here N small marks shown name b n m =
+      let k = read_value INFINITY N marks area shown name h qs (registers_of c) d left (stack_of c) b at m r holds in
+      subst (λ x. ReadsOnEqual INFINITY N marks area shown name h qs (suc at) (registers_of c) left (stack_of c) b d x) (same_Some k.0 e (sym k.1 ∙ here)) k.3
 
   pub constant_equal : (i : AtomId) → Holds area at (UnifyConstant i) → OnsEqual (cell.Atom i)
-  constant_equal i holds marks shown name b n m = read_constant INFINITY INFINITY marks area shown name h qs (registers_of c) d left (stack_of c) b safe.sound.now.valid at m i holds (n.same i (safe.verified.there at (UnifyConstant i) holds))
+  constant_equal i holds N small marks shown name b n m = read_constant INFINITY N marks area shown name h qs (registers_of c) d left (stack_of c) b safe.sound.now.valid at m i holds (n.same i (safe.verified.there at (UnifyConstant i) holds))
 
   pub integer_equal : (z : ℤ) → Holds area at (UnifyInteger z) → OnsEqual (cell.Int z)
-  integer_equal z holds marks shown name b n m = read_integer INFINITY INFINITY marks area shown name h qs (registers_of c) d left (stack_of c) b safe.sound.now.valid at m z holds
+  integer_equal z holds N small marks shown name b n m = read_integer INFINITY N marks area shown name h qs (registers_of c) d left (stack_of c) b safe.sound.now.valid at m z holds
 
   pub constant_own : (i : AtomId) → Holds area at (UnifyConstant i) → IsCell s (cell.Atom i)
   constant_own i holds = (tt, subst (λ k. i.number < k) (sym safe.atoms) (safe.verified.there at (UnifyConstant i) holds))
@@ -219,7 +219,7 @@ module _ (area : Area) (cells : List Cell) (s : branch.State) (at i : ℕ) (c : 
   -- or one that it can't be
   other_looked : (step : Code) → Holds area at step → goes_on step ≡ true → ((t u : State) → unify_effect step t ≡ Some u → u ≡ with_owed t (t.owed - 1)) → (e : Cell) → OnsEqual area cells s [] at i c safe more own untold d first e → CannotUnify s.heaps.now d e → IsRefused area cells s [] (record { at = at; next = i }) c s c
   other_looked step holds on stays e ons un =
-      reads_equal area cells s [] at i c safe more own untold d first step holds on stays e ons NoMemory s [] false tt un (λ a. tt) refl tt (record { unspent = safe.sound.unspent; marked = safe.sound.marked; below = safe.sound.below }) (record { at = suc at; next = suc i }) refl refl
+      reads_equal area cells s [] at i c safe more own untold d first step holds on stays e ons NoMemory s [] false tt un (λ a. tt) refl tt (record { greatest = safe.sound.greatest; unspent = safe.sound.unspent; marked = safe.sound.marked; below = safe.sound.below }) (record { at = suc at; next = suc i }) refl refl
 
   abbrev Looks : ReadPosition → Look → Type 0
   Looks to l = to.at ≡ suc at → to.next ≡ suc i → LooksOn area cells s (record { at = at; next = i }) c c l
@@ -259,7 +259,7 @@ module _ (area : Area) (cells : List Cell) (s : branch.State) (at i : ℕ) (c : 
 -- ---- many arguments
 
 pub read_start : (area : Area) (cells : List Cell) (s : branch.State) (told : List Touch) (from : ReadPosition) (c : Contents) → IsSafe area s from.at (length cells - from.next) c → from.next ≤ length cells → All (IsCell s) cells → AreTouchesOf s told → IsReadTo area cells s told from c s told from c
-read_start area cells s told from c safe within own are = record { safe = safe; within = within; leads = among_none area from.at; own = own; are_told = are; behind = same_behind c; below = same_below s; keeps = λ marks shown name b n m. m }
+read_start area cells s told from c safe within own are = record { safe = safe; within = within; leads = among_none area from.at; own = own; are_told = are; behind = same_behind c; below = same_below s; keeps = λ N small marks shown name b n m. m }
 
 module _ (area : Area) (cells : List Cell) (s : branch.State) (told : List Touch) (from : ReadPosition) (c : Contents) (s1 : branch.State) (told1 : List Touch) (to : ReadPosition) (c1 : Contents) (g : IsReadTo area cells s told from c s1 told1 to c1) where
   pub read_both : (s2 : branch.State) (told2 : List Touch) (to2 : ReadPosition) (c2 : Contents) → IsReadTo area cells s1 told1 to c1 s2 told2 to2 c2 → IsReadTo area cells s told from c s2 told2 to2 c2
@@ -271,11 +271,11 @@ module _ (area : Area) (cells : List Cell) (s : branch.State) (told : List Touch
     are_told = k.are_told;
     behind = behind_both c c1 c2 g.behind k.behind;
     below = below_both s s1 s2 g.below k.below;
-    keeps = λ marks shown name b n m. k.keeps marks shown name b n (g.keeps marks shown name b n m);
+    keeps = λ N small marks shown name b n m. k.keeps N small marks shown name b n (g.keeps N small marks shown name b n m);
   }
 
   pub read_refused : (s2 : branch.State) (c2 : Contents) → IsRefused area cells s1 told1 to c1 s2 c2 → IsRefused area cells s told from c s2 c2
-  read_refused s2 c2 k = record { safe = k.safe; behind = behind_both c c1 c2 g.behind k.behind; below = below_both s s1 s2 g.below k.below; none = λ marks shown name b n m. k.none marks shown name b n (g.keeps marks shown name b n m) }
+  read_refused s2 c2 k = record { safe = k.safe; behind = behind_both c c1 c2 g.behind k.behind; below = below_both s s1 s2 g.below k.below; none = λ N small marks shown name b n m. k.none N small marks shown name b n (g.keeps N small marks shown name b n m) }
 
   -- the last one is read
   pub read_all : length cells ≤ to.next → IsReadTo area cells s told from c s1 told1 (record { at = to.at; next = length cells }) c1

@@ -1,5 +1,5 @@
 -- Structures, from their instruction to the place behind the unify group.
-use Rattle.std.specs.Prelude.{IfOk, OnOk}
+use Rattle.std.specs.Prelude.{◌≤◌, IfOk, OnOk}
 use Rattle.std.proofs.Common.{◌≡◌, ℕ, suc, ◌-◌, ◌==◌, true, ◌||◌, List, [], ◌∷◌, length, map, Result, Ok, Err, refl, ap, sym, ◌∙◌, subst, inl, inr, arith, ℤ}
 use Rattle.std.proofs.lemmas.Bool.{cases_Bool}
 use Rattle.fd_language.specs.declared.TheConstants.{INFINITY}
@@ -117,17 +117,17 @@ module _ (area : Area) (s : branch.State) (at : ℕ) (c : Contents) (safe : IsSa
         register_safe area s3 next 0 c2 (grown_safe area s2 s3 next 0 c2 there heap sound (made_keeps f given s2 s3 new made heap)) a new made.own c3 w3 same3 size
 
     pub put_stands : KeepsStanding area s at c s3 c3 (On next)
-    put_stands marks shown name b m st =
+    put_stands N small marks shown name b m st =
         let named = m.same f (safe.verified.there at (PutStructure f n a) holds) in
-        let one = start_put INFINITY INFINITY marks area shown name s.heaps.now s.levels.current.posted at (registers_of c) (stack_of c) b st f n a holds (registers_of c1) w1.0.else w1.1 w1.2 w1.3 in
-        let two : BuildsAt marks area shown name (name_of area f) (for_goal a) s (suc at) c1 [] (n - length {A = Cell} []) b = subst (λ k. BuildsAt marks area shown name (name_of area f) (for_goal a) s (suc at) c1 [] k b) (let e : n ≡ n - length {A = Cell} [] = omega arith in e)
-        (subst (λ rs. Builds INFINITY INFINITY marks area shown name s.heaps.now s.levels.current.posted 0 (suc at) (registers_of c1) [] n (map saved_of rs) b (PutEnd area shown b (name_of area f) a)) (sym same1.returns) one) in
-        let three = g.keeps marks shown name (name_of area f) (for_goal a) b m (subst (λ l. BuildsAt marks area shown name (name_of area f) (for_goal a) s (suc at) c1 l (n - length l) b) (sym none) two) in
-        let four : BuildsAt marks area shown name (name_of area f) (for_goal a) s2 next c2 given 0 b =
-        subst (λ l. BuildsAt marks area shown name (name_of area f) (for_goal a) s2 next c2 l 0 b) (sym given_is) (subst (λ k. BuildsAt marks area shown name (name_of area f) (for_goal a) s2 next c2 cells k b) (let e : n - length cells ≡ 0 = omega (arith, all) in e) three) in
-        let five = end_put INFINITY INFINITY marks area shown name s2.heaps.now s2.levels.current.posted next (registers_of c2) (stack_of c2) b f named given s3.heaps.now new made.grown made.own.0 (made.term name) a four (registers_of c3) w3 in
-        subst (λ rs. Stands INFINITY INFINITY marks area shown name s3.heaps.now s3.levels.current.posted next (registers_of c3) (map saved_of rs) b) (sym same3.returns)
-        (subst (λ ps. Stands INFINITY INFINITY marks area shown name s3.heaps.now ps next (registers_of c3) (stack_of c2) b) (sym (ap (λ (t : branch.State). t.levels.current.posted) heap)) five)
+        let one = start_put INFINITY N marks area shown name s.heaps.now s.levels.current.posted at (registers_of c) (stack_of c) b st f n a holds (registers_of c1) w1.0.else w1.1 w1.2 w1.3 in
+        let two : BuildsAt N marks area shown name (name_of area f) (for_goal a) s (suc at) c1 [] (n - length {A = Cell} []) b = subst (λ k. BuildsAt N marks area shown name (name_of area f) (for_goal a) s (suc at) c1 [] k b) (let e : n ≡ n - length {A = Cell} [] = omega arith in e)
+        (subst (λ rs. Builds INFINITY N marks area shown name s.heaps.now s.levels.current.posted 0 (suc at) (registers_of c1) [] n (map saved_of rs) b (PutEnd area shown b (name_of area f) a)) (sym same1.returns) one) in
+        let three = g.keeps N small marks shown name (name_of area f) (for_goal a) b m (subst (λ l. BuildsAt N marks area shown name (name_of area f) (for_goal a) s (suc at) c1 l (n - length l) b) (sym none) two) in
+        let four : BuildsAt N marks area shown name (name_of area f) (for_goal a) s2 next c2 given 0 b =
+        subst (λ l. BuildsAt N marks area shown name (name_of area f) (for_goal a) s2 next c2 l 0 b) (sym given_is) (subst (λ k. BuildsAt N marks area shown name (name_of area f) (for_goal a) s2 next c2 cells k b) (let e : n - length cells ≡ 0 = omega (arith, all) in e) three) in
+        let five = end_put INFINITY N marks area shown name s2.heaps.now s2.levels.current.posted next (registers_of c2) (stack_of c2) b f named given s3.heaps.now new made.grown made.own.0 (made.term name) a four (registers_of c3) w3 in
+        subst (λ rs. Stands INFINITY N marks area shown name s3.heaps.now s3.levels.current.posted next (registers_of c3) (map saved_of rs) b) (sym same3.returns)
+        (subst (λ ps. Stands INFINITY N marks area shown name s3.heaps.now ps next (registers_of c3) (stack_of c2) b) (sym (ap (λ (t : branch.State). t.levels.current.posted) heap)) five)
 
   -- The register takes it.
   pub put_done : (c1 : Contents) (z : ℤ) → IsWritten (registers_of c) (X a) (cell.Int z) (registers_of c1) → IsSameBehind c c1 → (from : ℕ) → from ≡ suc at → (s' : branch.State) (c' : Contents) {E : Type 0} (r : Result Went E) → IfOk r (PutsOn area f n a s from c1 [] s' c')

@@ -23,8 +23,8 @@ use Rattle.term_instructions.specs.Arguments.{LeadsAmong, LeadsFrom}
 
 -- The cells left are to be equal to the terms that the code gives from the place on, where what was
 -- touched is still to be posted.
-abbrev pub ReadsAt : List ℕ → Area → List ℕ → Naming → branch.State → List Touch → ℕ → Contents → List Cell → Branch → Type 0
-ReadsAt marks area shown name s told at c left b = Reads INFINITY INFINITY marks area shown name s.heaps.now (posted_with s told) 0 at (registers_of c) left (stack_of c) b
+abbrev pub ReadsAt : ℕ → List ℕ → Area → List ℕ → Naming → branch.State → List Touch → ℕ → Contents → List Cell → Branch → Type 0
+ReadsAt N marks area shown name s told at c left b = Reads INFINITY N marks area shown name s.heaps.now (posted_with s told) 0 at (registers_of c) left (stack_of c) b
 
 -- It is safe to read on, and the machine stands for the same branches.
 pub record IsReadTo (area : Area) (cells : List Cell) (s : branch.State) (told : List Touch) (from : ReadPosition) (c : Contents) (s' : branch.State) (told' : List Touch) (to : ReadPosition) (c' : Contents) : Type 0 where
@@ -35,14 +35,14 @@ pub record IsReadTo (area : Area) (cells : List Cell) (s : branch.State) (told :
   pub are_told : AreTouchesOf s' told'
   pub behind : IsSameBehind c c'
   pub below : IsSameBelow s s'
-  pub keeps : (marks : List ℕ) (shown : List ℕ) (name : Naming) (b : Branch) → IsNaming area name → ReadsAt marks area shown name s told from.at c (drop from.next cells) b → ReadsAt marks area shown name s' told' to.at c' (drop to.next cells) b
+  pub keeps : (N : ℕ) (small : N ≤ INFINITY) (marks : List ℕ) (shown : List ℕ) (name : Naming) (b : Branch) → IsNaming area name → ReadsAt N marks area shown name s told from.at c (drop from.next cells) b → ReadsAt N marks area shown name s' told' to.at c' (drop to.next cells) b
 
 -- It is safe to go back, and no such branch has a model.
 pub record IsRefused (area : Area) (cells : List Cell) (s : branch.State) (told : List Touch) (from : ReadPosition) (c : Contents) (s' : branch.State) (c' : Contents) : Type 0 where
   pub safe : IsSafeBack area s' c'
   pub behind : IsSameBehind c c'
   pub below : IsSameBelow s s'
-  pub none : (marks : List ℕ) (shown : List ℕ) (name : Naming) (b : Branch) → IsNaming area name → ReadsAt marks area shown name s told from.at c (drop from.next cells) b → HasNoModel b
+  pub none : (N : ℕ) (small : N ≤ INFINITY) (marks : List ℕ) (shown : List ℕ) (name : Naming) (b : Branch) → IsNaming area name → ReadsAt N marks area shown name s told from.at c (drop from.next cells) b → HasNoModel N b
 
 abbrev pub ReadsOn : Area → List Cell → branch.State → List Touch → ReadPosition → Contents → branch.State → List Touch → Contents → Option ReadPosition → Type 0
 ReadsOn area cells s told from c s' told' c' (Some to) = IsReadTo area cells s told from c s' told' to c'
@@ -64,7 +64,7 @@ pub record ReadsThen (area : Area) (cells : List Cell) (s : branch.State) (told 
   pub leads : LeadsFrom area at w
   pub behind : IsSameBehind c c'
   pub below : IsSameBelow s s'
-  pub stands : (marks : List ℕ) (shown : List ℕ) (name : Naming) (b : Branch) → IsNaming area name → ReadsAt marks area shown name s told at c cells b → StandsThen marks area shown name s' c' w b
+  pub stands : (N : ℕ) (small : N ≤ INFINITY) (marks : List ℕ) (shown : List ℕ) (name : Naming) (b : Branch) → IsNaming area name → ReadsAt N marks area shown name s told at c cells b → StandsThen N marks area shown name s' c' w b
 
 -- constants of one kind that differ
 abbrev pub AreOther : Cell → Cell → Type 0

@@ -43,8 +43,8 @@ gathered (for_goal r) cells = cells
 
 -- These cells are the first arguments of a structure with a name, of which so many are left to be
 -- given from the place on.
-abbrev pub BuildsAt : List ℕ → Area → List ℕ → Naming → Name → Purpose → branch.State → ℕ → Contents → List Cell → ℕ → Branch → Type 0
-BuildsAt marks area shown name f use' s at c cells left b = Builds INFINITY INFINITY marks area shown name s.heaps.now s.levels.current.posted 0 at (registers_of c) (gathered use' cells) left (stack_of c) b (end_of area shown b f use')
+abbrev pub BuildsAt : ℕ → List ℕ → Area → List ℕ → Naming → Name → Purpose → branch.State → ℕ → Contents → List Cell → ℕ → Branch → Type 0
+BuildsAt N marks area shown name f use' s at c cells left b = Builds INFINITY N marks area shown name s.heaps.now s.levels.current.posted 0 at (registers_of c) (gathered use' cells) left (stack_of c) b (end_of area shown b f use')
 
 -- It is safe to go on to a structure's n arguments, and the machine stands for the same branches.
 pub record IsGatheredTo (area : Area) (n : ℕ) (s : branch.State) (at : ℕ) (c : Contents) (cells : List Cell) (s' : branch.State) (at' : ℕ) (c' : Contents) (cells' : List Cell) : Type 0 where
@@ -56,7 +56,7 @@ pub record IsGatheredTo (area : Area) (n : ℕ) (s : branch.State) (at : ℕ) (c
   pub behind : IsSameBehind c c'
   pub below : IsSameBelow s s'
   pub grown : IsGrown s.heaps.now s'.heaps.now
-  pub keeps : (marks : List ℕ) (shown : List ℕ) (name : Naming) (f : Name) (use' : Purpose) (b : Branch) → IsNaming area name → BuildsAt marks area shown name f use' s at c cells (n - length cells) b → BuildsAt marks area shown name f use' s' at' c' cells' (n - length cells') b
+  pub keeps : (N : ℕ) (small : N ≤ INFINITY) (marks : List ℕ) (shown : List ℕ) (name : Naming) (f : Name) (use' : Purpose) (b : Branch) → IsNaming area name → BuildsAt N marks area shown name f use' s at c cells (n - length cells) b → BuildsAt N marks area shown name f use' s' at' c' cells' (n - length cells') b
 
 -- An instruction gave the cell d, the first of so many arguments that are left, whatever was gathered before.
 abbrev pub GivesOne : Area → ℕ → branch.State → ℕ → Contents → branch.State → Contents → Cell
@@ -88,7 +88,7 @@ pub record BuildsThen (area : Area) (f : AtomId) (n : ℕ) (d : Cell) (s : branc
   pub leads : LeadsFrom area at w
   pub behind : IsSameBehind c c'
   pub below : IsSameBelow s s'
-  pub stands : (marks : List ℕ) (shown : List ℕ) (name : Naming) (b : Branch) → IsNaming area name → BuildsAt marks area shown name (name_of area f) (for_head d) s at c [] n b → StandsThen marks area shown name s' c' w b
+  pub stands : (N : ℕ) (small : N ≤ INFINITY) (marks : List ℕ) (shown : List ℕ) (name : Naming) (b : Branch) → IsNaming area name → BuildsAt N marks area shown name (name_of area f) (for_head d) s at c [] n b → StandsThen N marks area shown name s' c' w b
 
 -- so for each cell that comes to a variable
 abbrev pub BuildsFor : Area → AtomId → ℕ → ℕ → branch.State → ℕ → Contents → branch.State

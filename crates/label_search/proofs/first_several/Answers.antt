@@ -4,13 +4,13 @@ use Rattle.label_search.proofs.first_several.Given as given
 use Rattle.label_search.proofs.first_several.Goals as goal
 
 pub returns-then-value_count_of-gt1-clause-picked : goal.returns-then-value_count_of-gt1-clause-picked
-returns-then-value_count_of-gt1-clause-picked g c = picked_first _ _ c.loop-i.i c.loop-i-test.true (omega (arith, c.value_count_of.ensures)) c.loop-i.invariant
+returns-then-value_count_of-gt1-clause-picked g c = picked_first _ _ _ c.loop-i.i c.loop-i-test.true (omega (arith, c.value_count_of.ensures)) c.loop-i.invariant
 
-passed : (g : given.Over) (c : goal.After-loop-i g) → ArePassed (g.V.View.sets c.args.view.now) c.args.list.now (length c.args.list.now)
+passed : (g : given.Over) (c : goal.After-loop-i g) → ArePassed c.args.infinity (g.V.View.sets c.args.view.now) c.args.list.now (length c.args.list.now)
 passed g c k l = c.loop-i.invariant k (omega arith)
 
 pub returns-clause-picked : goal.returns-clause-picked
-returns-clause-picked g c = picked_none _ _ (passed g c)
+returns-clause-picked g c = picked_none _ _ _ (passed g c)
 
 pub returns-clause-several : goal.returns-clause-several
-returns-clause-several g c = several_none _ _ (passed g c)
+returns-clause-several g c = several_none _ _ _ (passed g c)

@@ -1,14 +1,19 @@
-use Rattle.std.proofs.Common.{◌≡◌, ◌-◌, length, Some, None, ap, sym, ◌∙◌, subst, arith}
+use Rattle.std.proofs.Common.{◌≡◌, ℕ, ◌-◌, ◌++◌, length, Some, None, ap, sym, ◌∙◌, subst, arith}
 use Rattle.fd_language.specs.declared.TheConstants.{INFINITY}
 use Rattle.fd_language.specs.Monotonicity.{IsMonotone}
 use Rattle.fd_model.specs.BestPosted.{IsCostOf, SoughtValues}
 use Rattle.fd_model.specs.Closed.{AllPosted}
 use Rattle.fd_model.specs.Levels.{Levels}
 use Rattle.bound_search.specs.Members.{AreOwn, member_of, members_of}
+use Rattle.branch_state.specs.Bounding.{new_bounds}
+use Rattle.branch_state.specs.States.{State}
 use Rattle.branch_goals.specs.Searches.{firsts, IsPrepared, IsSought}
 use Rattle.branch_goals.proofs.Listing.{is_list_naming, list_naming}
 use Rattle.branch_goals.proofs.Seeking.{as_many, match_none, match_some, open_is, prepared_cost, prepared_more, prepared_own, sought_is}
 use Rattle.branch_goals.proofs.searches.seek.Goals as goal
+
+counted : (next vars : ℕ) (s : State) (ls : Levels) → vars ≡ length ls.current.sets → ls ≡ s.levels → next - vars ≡ next - length s.levels.current.sets
+counted next vars s ls e f = ap (λ n. next - n) (e ∙ ap (λ (l : Levels). length l.current.sets) f)
 
 pub returns-in-Err-clause-found : goal.returns-in-Err-clause-found
 returns-in-Err-clause-found g c = λ name names. subst (IsPrepared name c.args.branch.now c.args.list c.args.cost) c.in-Err.is (c.in_ok-prepared.ensures name names)
@@ -36,8 +41,8 @@ with_values-requires g c =
     let p = subst (IsPrepared list_naming c.args.branch.now c.args.list c.args.cost) c.in-Ok.is (c.in_ok-prepared.ensures list_naming is_list_naming) in
     let found = match_some c.in_ok-values.field-0 c.in-Some.values _ _ c.in-Some.is c.in_ok-values.ensures.found in
     ap length c.deref-in-Some.ensures.value
-    ∙ as_many list_naming c.args.branch.now c.requires.sound c.args.list c.args.cost c.in-Ok.prepared p c.args.order c.args.least c.in-Some.values.items
-    (subst (λ ms. SoughtValues INFINITY c.args.order (members_of ms) (member_of c.in-Ok.prepared.cost) c.args.least c.args.branch.now.levels.current.posted (Some c.in-Some.values.items)) c.deref.ensures.value found)
+    ∙ as_many list_naming c.args.branch.now c.requires.sound c.args.list c.args.cost c.in-Ok.prepared p c.args.order c.args.least _ c.in-Some.values.items
+    (subst (λ ms. SoughtValues INFINITY c.args.order (members_of ms) (member_of c.in-Ok.prepared.cost) c.args.least (c.args.branch.now.levels.current.posted ++ new_bounds c.args.branch.now.infinity (length c.args.branch.now.levels.current.sets) (c.in-Ok.prepared.named.next - c.vars.result)) (Some c.in-Some.values.items)) c.deref.ensures.value found)
     ∙ sym (ap length c.deref-in-Some-2.ensures.value)
 
 pub returns-in-Some-clause-found : goal.returns-in-Some-clause-found
@@ -49,8 +54,8 @@ returns-in-Some-clause-found g c = λ name names.
       p.0,
       c.in_ok-with_values-in-Some.ensures.firsts ∙ ap firsts c.deref-in-Some.ensures.value ∙ open_is name c.args.branch.now c.requires.sound c.args.list c.args.cost c.in-Ok.prepared p,
       subst (λ ns. IsSought name c.args.branch.now c.args.order c.args.least c.args.list c.args.cost p.0 (Some ns)) (sym values)
-          (sought_is name c.args.branch.now c.requires.sound c.args.list c.args.cost c.in-Ok.prepared p mono c.args.order c.args.least (Some c.in-Some.values.items)
-          (subst (λ ms. SoughtValues INFINITY c.args.order (members_of ms) (member_of c.in-Ok.prepared.cost) c.args.least c.args.branch.now.levels.current.posted (Some c.in-Some.values.items)) c.deref.ensures.value found)),
+          (sought_is name c.args.branch.now c.requires.sound c.args.list c.args.cost c.in-Ok.prepared p (c.in-Ok.prepared.named.next - c.vars.result) (counted c.in-Ok.prepared.named.next c.vars.result c.args.branch.now c.store-store.result.now c.vars.ensures c.store-store.ensures) mono c.args.order c.args.least (Some c.in-Some.values.items)
+          (subst (λ ms. SoughtValues INFINITY c.args.order (members_of ms) (member_of c.in-Ok.prepared.cost) c.args.least (c.args.branch.now.levels.current.posted ++ new_bounds c.args.branch.now.infinity (length c.args.branch.now.levels.current.sets) (c.in-Ok.prepared.named.next - c.vars.result)) (Some c.in-Some.values.items)) c.deref.ensures.value found)),
     )
 
 pub returns-clause-found : goal.returns-clause-found
@@ -59,6 +64,6 @@ returns-clause-found g c = λ name names.
     let found = match_none c.in_ok-values.field-0 _ _ c.in-None.is c.in_ok-values.ensures.found in
     let mono = subst (λ (l : Levels). AllPosted (λ q. IsMonotone INFINITY q.range) l.current.posted) c.store-store.ensures c.known.ensures.monotone in (
       p.0,
-      sought_is name c.args.branch.now c.requires.sound c.args.list c.args.cost c.in-Ok.prepared p mono c.args.order c.args.least None
-          (subst (λ ms. SoughtValues INFINITY c.args.order (members_of ms) (member_of c.in-Ok.prepared.cost) c.args.least c.args.branch.now.levels.current.posted None) c.deref.ensures.value found),
+      sought_is name c.args.branch.now c.requires.sound c.args.list c.args.cost c.in-Ok.prepared p (c.in-Ok.prepared.named.next - c.vars.result) (counted c.in-Ok.prepared.named.next c.vars.result c.args.branch.now c.store-store.result.now c.vars.ensures c.store-store.ensures) mono c.args.order c.args.least None
+          (subst (λ ms. SoughtValues INFINITY c.args.order (members_of ms) (member_of c.in-Ok.prepared.cost) c.args.least (c.args.branch.now.levels.current.posted ++ new_bounds c.args.branch.now.infinity (length c.args.branch.now.levels.current.sets) (c.in-Ok.prepared.named.next - c.vars.result)) None) c.deref.ensures.value found),
     )

@@ -1,3 +1,4 @@
+use Rattle.fd_language.specs.declared.TheConstants.{INFINITY}
 use Rattle.std.proofs.Common.{◌∙◌, ◌++◌, ap, sym, subst, List, length, map}
 use Rattle.fd_language.specs.Range.{Indexical}
 use Rattle.propagate_queue.specs.declared.instance.Instance.{Instance}
@@ -23,4 +24,4 @@ returns-clause-posted g c =
 pub returns-clause-none : goal.returns-clause-none
 returns-clause-none g c =
     let listed = c.in_ok-add_touches.ensures ∙ ap (λ (l : List Instance). map posting l ++ postings c.args.touches.now) c.in_ok-list.ensures.items in
-    if_false_by c.post_list.result _ _ _ (λ e h. subst HasNoModel (e ∙ ap (λ (l : List Indexical). c.args.store.now.current.posted ++ l) (posted_is c.add_touches.new.list.items c.args.touches.now listed)) h) c.post_list.ensures.posted c.post_list.ensures.none
+    if_false_by c.post_list.result _ _ _ (λ e h. subst (HasNoModel INFINITY) (e ∙ ap (λ (l : List Indexical). c.args.store.now.current.posted ++ l) (posted_is c.add_touches.new.list.items c.args.touches.now listed)) h) c.post_list.ensures.posted c.post_list.ensures.none

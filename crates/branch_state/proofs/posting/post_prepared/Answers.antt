@@ -1,22 +1,27 @@
-use Rattle.std.proofs.Common.{◌≡◌, ◌∙◌, ◌∷◌, ◌++◌, ap, sym, subst, List, length, map, rules}
+use Rattle.std.proofs.Common.{◌≡◌, ◌∙◌, ◌∷◌, ◌++◌, ◌-◌, ap, sym, subst, List, length, map, rules}
 use Rattle.std.specs.List.{list_all}
 use Rattle.fd_language.specs.Range.{Indexical}
 use Rattle.propagate_queue.specs.Instances.{posting}
 use Rattle.propagate_queue.specs.Postings.{Posting}
 use Rattle.unify_core.specs.declared.Touch.{Touch}
 use Rattle.branch_state.specs.Posting.{is_natural, postings}
+use Rattle.fd_language.specs.declared.TheConstants.{INFINITY}
+use Rattle.branch_state.specs.Bounding.{new_bounds}
+use Rattle.branch_state.specs.Naming.{goal_ranges}
 use Rattle.branch_state.specs.States.{HasNoModel}
+use Rattle.branch_state.proofs.Bounding.{none_behind}
 use Rattle.branch_state.proofs.Sound.{ok_true, if_false_by}
 use Rattle.branch_state.proofs.Touches.{goal_posted, goal_fits, goal_outside}
 use Rattle.branch_state.proofs.posting.post_prepared.Goals as goal
 
 pub returns-then-not-are_natural-clause-none : goal.returns-then-not-are_natural-clause-none
 returns-then-not-are_natural-clause-none g c =
-    goal_outside c.args.store.now.current.posted c.args.code.now.value c.args.prepared.target c.args.prepared.args.items c.args.prepared.fixed.items
-    (ap (λ (l : List Touch). list_all is_natural l) (sym c.deref.ensures.value) ∙ sym c.are_natural.ensures ∙ c.if-not-are_natural.true)
+    none_behind (c.args.store.now.current.posted ++ goal_ranges c.args.code.now.value c.args.prepared.target c.args.prepared.args.items c.args.prepared.fixed.items) _
+    (goal_outside c.args.store.now.current.posted c.args.code.now.value c.args.prepared.target c.args.prepared.args.items c.args.prepared.fixed.items
+    (ap (λ (l : List Touch). list_all is_natural l) (sym c.deref.ensures.value) ∙ sym c.are_natural.ensures ∙ c.if-not-are_natural.true))
 
-pub post_list-requires : goal.post_list-requires
-post_list-requires g c =
+pub post_bounded-requires-clause-list : goal.post_bounded-requires-clause-list
+post_bounded-requires-clause-list g c =
     let first : Posting = record { range = c.args.code.now.value; target = c.args.prepared.target; args = c.args.prepared.args.items } in
     let listed : map posting c.add_touches.new.list.items ≡ first ∷ postings c.args.prepared.fixed.items = search rules in
     goal_fits (length c.args.store.now.current.sets) c.add_touches.new.list.items c.args.code.now.value c.args.prepared.target c.args.prepared.args.items c.args.prepared.fixed.items listed c.requires.target c.requires.frame c.requires.fixed
@@ -26,10 +31,10 @@ pub returns-clause-posted : goal.returns-clause-posted
 returns-clause-posted g c =
     let first : Posting = record { range = c.args.code.now.value; target = c.args.prepared.target; args = c.args.prepared.args.items } in
     let listed : map posting c.add_touches.new.list.items ≡ first ∷ postings c.args.prepared.fixed.items = search rules in
-    ok_true c.post_list.result _ _ (λ e. e ∙ ap (λ (l : List Indexical). c.args.store.now.current.posted ++ l) (goal_posted c.add_touches.new.list.items c.args.code.now.value c.args.prepared.target c.args.prepared.args.items c.args.prepared.fixed.items listed)) c.post_list.ensures.posted
+    ok_true c.post_bounded.result _ _ (λ e. e ∙ ap (λ (l : List Indexical). (c.args.store.now.current.posted ++ l) ++ new_bounds c.args.made.infinity c.args.made.first (length c.args.store.now.current.sets - c.args.made.first)) (goal_posted c.add_touches.new.list.items c.args.code.now.value c.args.prepared.target c.args.prepared.args.items c.args.prepared.fixed.items listed)) c.post_bounded.ensures.posted
 
 pub returns-clause-none : goal.returns-clause-none
 returns-clause-none g c =
     let first : Posting = record { range = c.args.code.now.value; target = c.args.prepared.target; args = c.args.prepared.args.items } in
     let listed : map posting c.add_touches.new.list.items ≡ first ∷ postings c.args.prepared.fixed.items = search rules in
-    if_false_by c.post_list.result _ _ _ (λ e h. subst HasNoModel (e ∙ ap (λ (l : List Indexical). c.args.store.now.current.posted ++ l) (goal_posted c.add_touches.new.list.items c.args.code.now.value c.args.prepared.target c.args.prepared.args.items c.args.prepared.fixed.items listed)) h) c.post_list.ensures.posted c.post_list.ensures.none
+    if_false_by c.post_bounded.result _ _ _ (λ e h. subst (HasNoModel INFINITY) (e ∙ ap (λ (l : List Indexical). (c.args.store.now.current.posted ++ l) ++ new_bounds c.args.made.infinity c.args.made.first (length c.args.store.now.current.sets - c.args.made.first)) (goal_posted c.add_touches.new.list.items c.args.code.now.value c.args.prepared.target c.args.prepared.args.items c.args.prepared.fixed.items listed)) h) c.post_bounded.ensures.posted c.post_bounded.ensures.none

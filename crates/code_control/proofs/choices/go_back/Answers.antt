@@ -8,7 +8,7 @@ use Rattle.code_control.proofs.choices.go_back.Goals as goal
 
 pub undo-requires-clause-sound : goal.undo-requires-clause-sound
 undo-requires-clause-sound g c =
-    record { unspent = c.requires.safe.sound.unspent; marked = c.requires.safe.sound.marked; below = c.requires.safe.sound.below }
+    record { greatest = c.requires.safe.sound.greatest; unspent = c.requires.safe.sound.unspent; marked = c.requires.safe.sound.marked; below = c.requires.safe.sound.below }
 
 pub undo-requires-clause-marked : goal.undo-requires-clause-marked
 undo-requires-clause-marked g c =

@@ -1,4 +1,6 @@
-use Rattle.std.proofs.Common.{◌<◌, length, ap, sym, subst, ◌∙◌}
+use Rattle.std.proofs.Common.{◌<◌, ◌≤◌, length, ap, sym, subst, ◌∙◌}
+use Rattle.fd_language.specs.declared.TheConstants.{INFINITY}
+use Rattle.fd_language.specs.Family.{universe}
 use Rattle.fd_model.specs.Levels.{Levels}
 use Rattle.heap_cells.specs.Cells.{Heaps}
 use Rattle.heap_cells.specs.declared.Cell.TheVariants as cell
@@ -27,5 +29,8 @@ returns-clause-values g c =
           ∙ values_linked s i w.in-Constrained.k (own_link s.heaps.now valid i c.requires.variable w.in-Constrained.field-0 w.in-Constrained.k seen))
       | in_default w ↦
           (let seen = subst (λ (h : Heaps). IsSeen h.now (cell.Ref i) c.deref.result) c.heap.ensures c.deref.ensures.seen in
-          w.all-is ∙ w.full-all.ensures ∙ values_all s i (no_link s.heaps.now valid i c.requires.variable c.deref.result seen (λ j k e. w.in_default.not-Constrained j k e)))
+          w.all-is ∙ w.numbers_to-all.ensures ∙ ap universe w.infinity.ensures ∙ values_all s i (no_link s.heaps.now valid i c.requires.variable c.deref.result seen (λ j k e. w.in_default.not-Constrained j k e)))
     ]
+
+pub numbers_to-all-requires : goal.numbers_to-all-requires
+numbers_to-all-requires g c = subst (λ n. n ≤ INFINITY) (sym c.infinity.ensures) c.requires.sound.greatest.1

@@ -11,13 +11,13 @@ use Rattle.branch_state.proofs.state.BranchState.bind_built.Goals as goal
 
 pub bind-requires-clause-absent : goal.bind-requires-clause-absent
 bind-requires-clause-absent g c =
-    let now : State = record { atoms = c.self.inside.atoms; heaps = c.self.inside.heap; levels = c.self.inside.store } in
+    let now : State = record { atoms = c.self.inside.atoms; infinity = c.self.inside.infinity; heaps = c.self.inside.heap; levels = c.self.inside.store } in
     let made : IsCompoundOf now.heaps.now c.args.args.now c.args.built = subst (λ (s : State). IsCompoundOf s.heaps.now c.args.args.now c.args.built) (sym c.self.view_is) c.requires.compound in
     compound_absent now.heaps.now c.args.var c.args.args.now c.args.built made (c.are_others.ensures.absent c.if-not-are_others.false)
 
 bound : (g : _) → (c : goal.In_ok-bind g) → IsBehind c.self.inside.heap.now (cell.Ref c.args.var) c.args.built c.bind.new.self.now [] c.args.touches.now.items c.args.touches.now.items
 bound g c =
-    let now : State = record { atoms = c.self.inside.atoms; heaps = c.self.inside.heap; levels = c.self.inside.store } in
+    let now : State = record { atoms = c.self.inside.atoms; infinity = c.self.inside.infinity; heaps = c.self.inside.heap; levels = c.self.inside.store } in
     let o : IsSound now = subst IsSound (sym c.self.view_is) c.requires.sound in
     let made : IsCompoundOf now.heaps.now c.args.args.now c.args.built = subst (λ (s : State). IsCompoundOf s.heaps.now c.args.args.now c.args.built) (sym c.self.view_is) c.requires.compound in
     let there : c.args.var < length now.heaps.now.slots = subst (λ (s : State). c.args.var < length s.heaps.now.slots) (sym c.self.view_is) c.requires.there in
@@ -27,14 +27,14 @@ bound g c =
 
 pub returns-clause-equal : goal.returns-clause-equal
 returns-clause-equal g c =
-    let now : State = record { atoms = c.self.inside.atoms; heaps = c.self.inside.heap; levels = c.self.inside.store } in
+    let now : State = record { atoms = c.self.inside.atoms; infinity = c.self.inside.infinity; heaps = c.self.inside.heap; levels = c.self.inside.store } in
     let ts = c.args.touches.now.items in
     subst (λ (s : State). IsEqualled s.heaps.now (cell.Ref c.args.var) c.args.built c.bind.new.self.now ts ts) c.self.view_is
     (equalled now.heaps.now c.bind.new.self.now (cell.Ref c.args.var) c.args.built [] ts ts refl (bound g c))
 
 pub returns-clause-sound : goal.returns-clause-sound
 returns-clause-sound g c =
-    let now : State = record { atoms = c.self.inside.atoms; heaps = c.self.inside.heap; levels = c.self.inside.store } in
+    let now : State = record { atoms = c.self.inside.atoms; infinity = c.self.inside.infinity; heaps = c.self.inside.heap; levels = c.self.inside.store } in
     let o : IsSound now = subst IsSound (sym c.self.view_is) c.requires.sound in
     let own : IsCell now c.args.built = subst (λ (s : State). IsCell s c.args.built) (sym c.self.view_is) c.requires.own in
     let there : c.args.var < length now.heaps.now.slots = subst (λ (s : State). c.args.var < length s.heaps.now.slots) (sym c.self.view_is) c.requires.there in

@@ -15,13 +15,13 @@ use Rattle.branch_state.proofs.state.BranchState.constrain.Goals as goal
 
 pub expand_goal-expanded-requires-clause-linked : goal.expand_goal-expanded-requires-clause-linked
 expand_goal-expanded-requires-clause-linked g c =
-    let now : State = record { atoms = c.self.inside.atoms; heaps = c.self.inside.heap; levels = c.self.inside.store } in
+    let now : State = record { atoms = c.self.inside.atoms; infinity = c.self.inside.infinity; heaps = c.self.inside.heap; levels = c.self.inside.store } in
     let o : IsSound now = subst IsSound (sym c.self.view_is) c.requires.sound in
     λ i k e. o.now.linked i k (ap (λ (x : Heaps). link_in x.now i) (sym c.in_ok-fresh.ensures.same) ∙ e)
 
 pub returns-in-Err-clause-step : goal.returns-in-Err-clause-step
 returns-in-Err-clause-step g c =
-    let now : State = record { atoms = c.self.inside.atoms; heaps = c.self.inside.heap; levels = c.self.inside.store } in
+    let now : State = record { atoms = c.self.inside.atoms; infinity = c.self.inside.infinity; heaps = c.self.inside.heap; levels = c.self.inside.store } in
     let o : IsSound now = subst IsSound (sym c.self.view_is) c.requires.sound in
     let names = c.args.pool.now.names in
     let kind = c.args.kind in
@@ -33,18 +33,18 @@ returns-in-Err-clause-step g c =
     let read = row_read names now o atoms kind cell own fresh c.in_ok-fresh.ensures.count in
     let moved = ap (λ (x : Heaps). expand INFINITY kind (arguments (seen_term (name_in names) x.now (family_of now.levels.current.sets) cell)) fresh) (sym same) in
     let fault : row_of names now kind cell ≡ Err c.in_ok-fault_of-in-Err.field-0 = sym read ∙ moved ∙ fault_read _ c.in-Err.fault c.in_ok-fault_of-in-Err.field-0 c.in-Err.ensures.row c.in_ok-fault_of-in-Err.ensures in
-    let unmoved : record { atoms = now.atoms; heaps = c.count_variables.new.heap; levels = now.levels } ≡ now = ap (λ (x : Heaps). record { atoms = now.atoms; heaps = x; levels = now.levels }) same in
+    let unmoved : record { atoms = now.atoms; infinity = now.infinity; heaps = c.count_variables.new.heap; levels = now.levels } ≡ now = ap (λ (x : Heaps). record { atoms = now.atoms; infinity = now.infinity; heaps = x; levels = now.levels }) same in
     (subst (λ (v : State). row_of names v kind cell ≡ Err c.in_ok-fault_of-in-Err.field-0) c.self.view_is fault, unmoved ∙ c.self.view_is)
 
 pub prepare_row-requires-clause-links : goal.prepare_row-requires-clause-links
 prepare_row-requires-clause-links g c =
-    let now : State = record { atoms = c.self.inside.atoms; heaps = c.self.inside.heap; levels = c.self.inside.store } in
+    let now : State = record { atoms = c.self.inside.atoms; infinity = c.self.inside.infinity; heaps = c.self.inside.heap; levels = c.self.inside.store } in
     let o : IsSound now = subst IsSound (sym c.self.view_is) c.requires.sound in
     subst (λ (x : Heaps). OwnLinks (length now.levels.current.sets) x.now) (sym c.in_ok-fresh.ensures.same) (own_links now o)
 
 pub prepare_row-requires-clause-row : goal.prepare_row-requires-clause-row
 prepare_row-requires-clause-row g c =
-    let now : State = record { atoms = c.self.inside.atoms; heaps = c.self.inside.heap; levels = c.self.inside.store } in
+    let now : State = record { atoms = c.self.inside.atoms; infinity = c.self.inside.infinity; heaps = c.self.inside.heap; levels = c.self.inside.store } in
     let o : IsSound now = subst IsSound (sym c.self.view_is) c.requires.sound in
     let names = c.args.pool.now.names in
     let kind = c.args.kind in
@@ -62,7 +62,7 @@ prepare_row-requires-clause-row g c =
 
 pub post_rows-requires-clause-list : goal.post_rows-requires-clause-list
 post_rows-requires-clause-list g c =
-    let now : State = record { atoms = c.self.inside.atoms; heaps = c.self.inside.heap; levels = c.self.inside.store } in
+    let now : State = record { atoms = c.self.inside.atoms; infinity = c.self.inside.infinity; heaps = c.self.inside.heap; levels = c.self.inside.store } in
     let o : IsSound now = subst IsSound (sym c.self.view_is) c.requires.sound in
     let names = c.args.pool.now.names in
     let kind = c.args.kind in
@@ -84,7 +84,7 @@ post_rows-requires-clause-list g c =
 
 pub post_rows-requires-clause-fixed : goal.post_rows-requires-clause-fixed
 post_rows-requires-clause-fixed g c =
-    let now : State = record { atoms = c.self.inside.atoms; heaps = c.self.inside.heap; levels = c.self.inside.store } in
+    let now : State = record { atoms = c.self.inside.atoms; infinity = c.self.inside.infinity; heaps = c.self.inside.heap; levels = c.self.inside.store } in
     let o : IsSound now = subst IsSound (sym c.self.view_is) c.requires.sound in
     let names = c.args.pool.now.names in
     let kind = c.args.kind in
@@ -106,7 +106,7 @@ post_rows-requires-clause-fixed g c =
 
 pub returns-clause-step : goal.returns-clause-step
 returns-clause-step g c =
-    let now : State = record { atoms = c.self.inside.atoms; heaps = c.self.inside.heap; levels = c.self.inside.store } in
+    let now : State = record { atoms = c.self.inside.atoms; infinity = c.self.inside.infinity; heaps = c.self.inside.heap; levels = c.self.inside.store } in
     let o : IsSound now = subst IsSound (sym c.self.view_is) c.requires.sound in
     let names = c.args.pool.now.names in
     let kind = c.args.kind in
@@ -124,9 +124,15 @@ returns-clause-step g c =
     let list = c.in_ok-listed.listed.list.items in
     let fixed = c.in_ok-listed.listed.fixed.items in
     let ready : IsRowReady now.heaps.now now.levels.current.sets y c.prepare_row.new.heap.now S list fixed = subst (λ (x : Heaps). IsRowReady x.now now.levels.current.sets y c.prepare_row.new.heap.now S list fixed) same c.in_ok-listed.ensures.ready in
-    let next : State = record { atoms = now.atoms; heaps = c.prepare_row.new.heap; levels = c.post_rows.new.store } in
+    let next : State = record { atoms = now.atoms; infinity = now.infinity; heaps = c.prepare_row.new.heap; levels = c.post_rows.new.store } in
     let below = c.prepare_row.ensures.below ∙ ap (λ (x : Heaps). x.below) same in
     subst (λ (v : State). Constrains names v kind cell next c.step_of.result) c.self.view_is
     (subst (Constrains names now kind cell next) (sym c.step_of.ensures)
     (constraint_step names now o kind cell y is row c.prepare_row.new.heap.now S list fixed ready
-    c.prepare_row.new.heap refl below c.prepare_row.new.store c.post_rows.new.store c.in_ok-listed.ensures.store c.post_rows.ensures.below c.in_ok-kept.ensures.unspent c.in_ok-kept.ensures.vars c.in_ok-kept.kept c.in_ok-kept.ensures.posted c.in_ok-kept.ensures.kept c.in_ok-kept.ensures.none))
+    c.prepare_row.new.heap refl below c.prepare_row.new.store c.post_rows.new.store c.in_ok-listed.ensures.store c.post_rows.ensures.below c.in_ok-kept.ensures.unspent c.in_ok-kept.ensures.vars c.vars.result c.vars.ensures c.in_ok-kept.kept c.in_ok-kept.ensures.posted c.in_ok-kept.ensures.kept c.in_ok-kept.ensures.none))
+
+pub post_rows-requires-clause-greatest : goal.post_rows-requires-clause-greatest
+post_rows-requires-clause-greatest g c =
+    let now : State = record { atoms = c.self.inside.atoms; infinity = c.self.inside.infinity; heaps = c.self.inside.heap; levels = c.self.inside.store } in
+    let o : IsSound now = subst IsSound (sym c.self.view_is) c.requires.sound in
+    o.greatest.1

@@ -14,7 +14,7 @@ use Rattle.branch_state.proofs.state.BranchState.post_cells.Goals as goal
 
 pub find_cells_offence-offence-requires-clause-cells : goal.find_cells_offence-offence-requires-clause-cells
 find_cells_offence-offence-requires-clause-cells g c =
-    let now : State = record { atoms = c.self.inside.atoms; heaps = c.self.inside.heap; levels = c.self.inside.store } in
+    let now : State = record { atoms = c.self.inside.atoms; infinity = c.self.inside.infinity; heaps = c.self.inside.heap; levels = c.self.inside.store } in
     own_cells now c.args.cells.now (subst (λ (s : State). All (IsCell s) c.args.cells.now) (sym c.self.view_is) c.requires.cells)
 
 pub find_cells_offence-offence-requires-clause-counted : goal.find_cells_offence-offence-requires-clause-counted
@@ -22,7 +22,7 @@ find_cells_offence-offence-requires-clause-counted g c = subst (λ (q : Range). 
 
 pub returns-in-Some-clause-step : goal.returns-in-Some-clause-step
 returns-in-Some-clause-step g c = λ name.
-    let now : State = record { atoms = c.self.inside.atoms; heaps = c.self.inside.heap; levels = c.self.inside.store } in
+    let now : State = record { atoms = c.self.inside.atoms; infinity = c.self.inside.infinity; heaps = c.self.inside.heap; levels = c.self.inside.store } in
     let o : IsSound now = subst IsSound (sym c.self.view_is) c.requires.sound in
     let r = c.args.code.now.value in
     let cells = c.args.cells.now in
@@ -34,7 +34,7 @@ returns-in-Some-clause-step g c = λ name.
 
 pub prepare_cells-requires-clause-cells : goal.prepare_cells-requires-clause-cells
 prepare_cells-requires-clause-cells g c =
-    let now : State = record { atoms = c.self.inside.atoms; heaps = c.self.inside.heap; levels = c.self.inside.store } in
+    let now : State = record { atoms = c.self.inside.atoms; infinity = c.self.inside.infinity; heaps = c.self.inside.heap; levels = c.self.inside.store } in
     own_cells now c.args.cells.now (subst (λ (s : State). All (IsCell s) c.args.cells.now) (sym c.self.view_is) c.requires.cells)
 
 pub prepare_cells-requires-clause-counted : goal.prepare_cells-requires-clause-counted
@@ -45,7 +45,7 @@ prepare_cells-requires-clause-looks g c = (_, c.look_cell-look.ensures unnamed)
 
 pub prepare_cells-requires-clause-fine : goal.prepare_cells-requires-clause-fine
 prepare_cells-requires-clause-fine g c =
-    let now : State = record { atoms = c.self.inside.atoms; heaps = c.self.inside.heap; levels = c.self.inside.store } in
+    let now : State = record { atoms = c.self.inside.atoms; infinity = c.self.inside.infinity; heaps = c.self.inside.heap; levels = c.self.inside.store } in
     let r = c.args.code.now.value in
     let cells = c.args.cells.now in
     let fine : IsFineGoal now.heaps.now now.levels.current.sets r c.look_cell-look.result cells = goal_fine now.heaps.now now.levels.current.sets c.deref-2.result.now r c.look_cell-look.result cells c.find_cells_offence-offence.result c.deref-2.ensures c.find_cells_offence-offence.ensures c.in_default.not-Some in
@@ -53,7 +53,7 @@ prepare_cells-requires-clause-fine g c =
 
 pub post_prepared-requires-clause-target : goal.post_prepared-requires-clause-target
 post_prepared-requires-clause-target g c =
-    let now : State = record { atoms = c.self.inside.atoms; heaps = c.self.inside.heap; levels = c.self.inside.store } in
+    let now : State = record { atoms = c.self.inside.atoms; infinity = c.self.inside.infinity; heaps = c.self.inside.heap; levels = c.self.inside.store } in
     let o : IsSound now = subst IsSound (sym c.self.view_is) c.requires.sound in
     let r = c.args.code.now.value in
     let cells = c.args.cells.now in
@@ -69,7 +69,7 @@ post_prepared-requires-clause-target g c =
 
 pub post_prepared-requires-clause-frame : goal.post_prepared-requires-clause-frame
 post_prepared-requires-clause-frame g c =
-    let now : State = record { atoms = c.self.inside.atoms; heaps = c.self.inside.heap; levels = c.self.inside.store } in
+    let now : State = record { atoms = c.self.inside.atoms; infinity = c.self.inside.infinity; heaps = c.self.inside.heap; levels = c.self.inside.store } in
     let o : IsSound now = subst IsSound (sym c.self.view_is) c.requires.sound in
     let r = c.args.code.now.value in
     let cells = c.args.cells.now in
@@ -85,7 +85,7 @@ post_prepared-requires-clause-frame g c =
 
 pub post_prepared-requires-clause-fixed : goal.post_prepared-requires-clause-fixed
 post_prepared-requires-clause-fixed g c =
-    let now : State = record { atoms = c.self.inside.atoms; heaps = c.self.inside.heap; levels = c.self.inside.store } in
+    let now : State = record { atoms = c.self.inside.atoms; infinity = c.self.inside.infinity; heaps = c.self.inside.heap; levels = c.self.inside.store } in
     let o : IsSound now = subst IsSound (sym c.self.view_is) c.requires.sound in
     let r = c.args.code.now.value in
     let cells = c.args.cells.now in
@@ -101,7 +101,7 @@ post_prepared-requires-clause-fixed g c =
 
 pub returns-clause-step : goal.returns-clause-step
 returns-clause-step g c = λ name.
-    let now : State = record { atoms = c.self.inside.atoms; heaps = c.self.inside.heap; levels = c.self.inside.store } in
+    let now : State = record { atoms = c.self.inside.atoms; infinity = c.self.inside.infinity; heaps = c.self.inside.heap; levels = c.self.inside.store } in
     let o : IsSound now = subst IsSound (sym c.self.view_is) c.requires.sound in
     let r = c.args.code.now.value in
     let cells = c.args.cells.now in
@@ -113,8 +113,14 @@ returns-clause-step g c = λ name.
     let looks = c.look_cell-look.ensures name in
     let t = term_in name now target in
     let ready = subst (λ q. IsPrepared t (slots_in name now q cells) now.heaps.now now.levels.current.sets q c.prepare_cells.new.heap.now S p.fixed.items p.target p.args.items) c.deref-3.ensures (c.in_ok-prepared.ensures.ready name t looks) in
-    let next : State = record { atoms = now.atoms; heaps = c.prepare_cells.new.heap; levels = c.post_prepared.new.store } in
+    let next : State = record { atoms = now.atoms; infinity = now.infinity; heaps = c.prepare_cells.new.heap; levels = c.post_prepared.new.store } in
     subst (λ (v : State). PostsNamed name v target cells r next c.step_of.result) c.self.view_is
     (subst (PostsNamed name now target cells r next) (sym c.step_of.ensures)
     (cells_step name now o.now target cells r accepted (fine name t looks) c.prepare_cells.new.heap.now S p.fixed.items p.target p.args.items ready
-    o c.prepare_cells.new.heap refl c.prepare_cells.ensures.below c.prepare_cells.new.store c.post_prepared.new.store c.in_ok-prepared.ensures.store c.post_prepared.ensures.below c.in_ok-kept.ensures.unspent c.in_ok-kept.ensures.vars c.in_ok-kept.kept c.in_ok-kept.ensures.posted c.in_ok-kept.ensures.kept c.in_ok-kept.ensures.none))
+    o c.prepare_cells.new.heap refl c.prepare_cells.ensures.below c.prepare_cells.new.store c.post_prepared.new.store c.in_ok-prepared.ensures.store c.post_prepared.ensures.below c.in_ok-kept.ensures.unspent c.in_ok-kept.ensures.vars c.vars.result c.vars.ensures c.in_ok-kept.kept c.in_ok-kept.ensures.posted c.in_ok-kept.ensures.kept c.in_ok-kept.ensures.none))
+
+pub post_prepared-requires-clause-greatest : goal.post_prepared-requires-clause-greatest
+post_prepared-requires-clause-greatest g c =
+    let now : State = record { atoms = c.self.inside.atoms; infinity = c.self.inside.infinity; heaps = c.self.inside.heap; levels = c.self.inside.store } in
+    let o : IsSound now = subst IsSound (sym c.self.view_is) c.requires.sound in
+    o.greatest.1

@@ -6,7 +6,7 @@ use Rattle.branch_state.proofs.state.BranchState.show.Goals as goal
 
 pub show_cells-requires-clause-atoms : goal.show_cells-requires-clause-atoms
 show_cells-requires-clause-atoms g c =
-    let now : State = record { atoms = c.self.inside.atoms; heaps = c.self.inside.heap; levels = c.self.inside.store } in
+    let now : State = record { atoms = c.self.inside.atoms; infinity = c.self.inside.infinity; heaps = c.self.inside.heap; levels = c.self.inside.store } in
     let o : IsSound now = subst IsSound (sym c.self.view_is) c.requires.sound in
     subst (λ n. HasAtomsBelow n now.heaps.now) (ap (λ (s : State). s.atoms) c.self.view_is ∙ sym c.requires.atoms) o.now.names
 
@@ -17,7 +17,7 @@ show_cells-requires-clause-cells g c =
 
 pub show_cells-requires-clause-linked : goal.show_cells-requires-clause-linked
 show_cells-requires-clause-linked g c =
-    let now : State = record { atoms = c.self.inside.atoms; heaps = c.self.inside.heap; levels = c.self.inside.store } in
+    let now : State = record { atoms = c.self.inside.atoms; infinity = c.self.inside.infinity; heaps = c.self.inside.heap; levels = c.self.inside.store } in
     let o : IsSound now = subst IsSound (sym c.self.view_is) c.requires.sound in
     o.now.linked
 

@@ -1,0 +1,56 @@
+//! The bounds of new variables of the store.
+
+ghost use Rattle.std.specs.Prelude.{◌≡◌, ◌≤◌, ◌-◌, ◌++◌, map, OnOk};
+ghost use Rattle.propagate_queue.specs.Instances.{posting};
+ghost use Rattle.branch_state.specs.Bounding.{bound_postings, new_postings};
+ghost use Rattle.branch_state.specs.Codes.{bound_range};
+
+use crate::posting::instance;
+use fd_language::{INFINITY, NoMemory};
+use propagate_queue::Instance;
+use range_code::{Arg, RangeCode};
+use std::alloc::Global;
+use std::rc::Rc;
+
+/// The variables of the store from `first` on are new, and none may have a number beyond `infinity`.
+#[derive(Clone, Copy)]
+pub(crate) struct NewVars {
+    pub first: usize,
+    pub infinity: u32,
+}
+
+/// Puts the bounds of new variables behind the list, where `vars` is the number of all.
+fn add_bounds(
+    alloc: Global,
+    bound: &Rc<RangeCode>,
+    made: NewVars,
+    vars: usize,
+    list: &mut Vec<Instance>,
+) -> Result<(), NoMemory>
+    requires bound { bound.now.value ≡ bound_range }
+    ensures { OnOk result (map posting list.new.items ≡ map posting list.old.items
+        ++ bound_postings made.infinity made.first (vars - made.first)) }
+{
+    for k in made.first..vars {
+        list.push(instance(alloc, bound, k, Arg::Int(i64::from(made.infinity)))?)?;
+    }
+    Ok(())
+}
+
+/// The same, unless these may have each number of the universe.
+pub(crate) fn add_new_bounds(
+    alloc: Global,
+    bound: &Rc<RangeCode>,
+    made: NewVars,
+    vars: usize,
+    list: &mut Vec<Instance>,
+) -> Result<(), NoMemory>
+    requires bound { bound.now.value ≡ bound_range }
+    ensures { OnOk result (map posting list.new.items ≡ map posting list.old.items
+        ++ new_postings made.infinity made.first (vars - made.first)) }
+{
+    if made.infinity == INFINITY {
+        return Ok(());
+    }
+    add_bounds(alloc, bound, made, vars, list)
+}
