@@ -643,6 +643,13 @@ a cost that isn't labelled |  | ?- X in 1..2, fd_minimize(fd_labeling([X]), Y). 
 the greatest cost by the cheapest first | --agenda cheapest | ?- X in 0..2, Y in 0..2, X #\\= Y, C #= X + Y, fd_maximize(fd_labeling([X,Y,C]), C). | query 1; X = 1, Y = 2, C = 3; end
 a search for a cost spends one step | --steps 2 | ?- X in 0..9, fd_maximize(fd_labeling([X]), X). | query 1; X = 9; end
 and has to have it | --steps 1 | ?- X in 0..9, fd_maximize(fd_labeling([X]), X). | query 1; budget
+a smaller universe | --infinity 9 | ?- X in 3..infinity, Y in -{0}. ?- X in 0..20. ?- 12 in 0..20. | query 1; X = _1(3..9), Y = _2(1..9); end; query 2; X = _1(0..9); end; query 3; end
+infinity is a number of the text | --infinity 9 | ?- X in infinity-1..infinity+5. ?- X in (0..3)+(infinity-2). ?- X in 0..infinity, fd_size(X, S), fd_dom(X, D). | query 1; X = _1(8..9); end; query 2; X = _1(7..9); end; query 3; X = _1(0..9), S = 10, D = [0..9]; end
+a free member of a labelling | --infinity 2 | ?- fd_labeling([X]). ?- Y in 1..5, fd_labeling([X,Y]). | query 1; X = 0; X = 1; X = 2; end; query 2; Y = 1, X = 0; Y = 2, X = 0; Y = 1, X = 1; Y = 2, X = 1; Y = 1, X = 2; Y = 2, X = 2; end
+a sum past the greatest number | --infinity 9 | ?- X + Y #>= 17, fd_labeling([X,Y]). ?- X in 6..20, Y in 2..20, X + Y #= Z, fd_labeling([X,Y,Z]). ?- X in 6..9, Y in 5..9, X + Y #= Z. | query 1; X = 8, Y = 9; X = 9, Y = 8; X = 9, Y = 9; end; query 2; X = 6, Y = 2, Z = 8; X = 6, Y = 3, Z = 9; X = 7, Y = 2, Z = 9; end; query 3; end
+a product past the greatest number | --infinity 9 | ?- X in 2..9, Y in 4..9, X*Y #= Z. ?- X in 2..6, Y in 2..6, X*Y #= 12. | query 1; X = 2, Y = 4, Z = 8; end; query 2; end
+different numbers of few | --infinity 2 | ?- fd_all_different([X,Y,Z]), fd_labeling([X,Y,Z]). ?- fd_all_different([X,Y,Z,W]), fd_labeling([X,Y,Z,W]). ?- fd_all_different([3]). | query 1; X = 0, Y = 1, Z = 2; X = 0, Y = 2, Z = 1; X = 1, Y = 0, Z = 2; X = 1, Y = 2, Z = 0; X = 2, Y = 0, Z = 1; X = 2, Y = 1, Z = 0; end; query 2; end; query 3; end
+costs of few numbers | --infinity 6 | ?- X + Y #>= 3, C #= 2*X + 3*Y, fd_minimize(fd_labeling([X,Y,C]), C). ?- X + Y #>= 4, C #= 2*X + 3*Y, fd_minimize(fd_labeling([X,Y,C]), C). ?- X #\\= Y, C #= X + Y, fd_maximize(fd_labeling([X,Y,C]), C). | query 1; X = 3, Y = 0, C = 6; end; query 2; end; query 3; X = 0, Y = 6, C = 6; end
 two answers of first fail | --answers 2 | ?- X in 1..3, Y in 1..2, fd_labelingff([X,Y]). | query 1; X = 1, Y = 1; X = 2, Y = 1; limit
 quoted atoms and operators |  | ?- true. ?- X = f(Y,-(1),1-(2-3)), Y = 'A b'. | query 1; true; end; query 2; X = f('A b',-(1),1-(2-3)), Y = 'A b'; end
 an atom is no number |  | ?- X in 1..2, X = a. ?- X = a, X in 1..2. ?- X = -1, X in 0..9. | query 1; end; query 2; error: type; query 3; end
@@ -1154,7 +1161,8 @@ fn asked(alloc: Global, line: &str, text: &str) -> Result<(Status, Vec<u8>), Fai
 
 #[test]
 fn words_that_are_refused(rt: HostRuntime) -> Result<(), Fail> {
-    let usage = "usage: clpfd [--steps N] [--answers K] [--agenda fifo|cheapest] [--gen N]\n";
+    let usage =
+        "usage: clpfd [--steps N] [--answers K] [--agenda fifo|cheapest] [--infinity M] [--gen N]\n";
     let lines = [
         "--steps 0",
         "--agenda lifo",
@@ -1164,6 +1172,8 @@ fn words_that_are_refused(rt: HostRuntime) -> Result<(), Fail> {
         "--steps 05",
         "--steps +5",
         "--steps 5 --steps 5",
+        "--infinity 0",
+        "--infinity 268435456",
         "--",
     ];
     for line in lines {
@@ -1228,7 +1238,7 @@ const SUMMARIES: [(&str, &str, Status); 8] = [
         Status::Done,
     ),
     (
-        "--gen 8 --agenda cheapest",
+        "--gen 8 --agenda cheapest --infinity 8",
         "gen 8\nanswers 92\nreductions 524\nend\n",
         Status::Done,
     ),

@@ -1,6 +1,7 @@
 //! What words that are accepted ask for.
 
 use command_words::{AgendaName, Options, WordsFault, read_words};
+use fd_language::INFINITY;
 use std::alloc::Global;
 use std::test::Fail;
 
@@ -19,22 +20,24 @@ fn options_in_any_order(rt: HostRuntime) -> Result<(), Fail> {
         steps: 10,
         answers: Some(1_000_000_000_000),
         agenda: AgendaName::Cheapest,
+        infinity: 9,
         generate: Some(4),
     };
     let none = Options {
         steps: 1_000_000,
         answers: None,
         agenda: AgendaName::Fifo,
+        infinity: INFINITY,
         generate: None,
     };
     let lines = [
         ("", none),
         (
-            "--gen 4 --steps 10 --answers 1000000000000 --agenda cheapest",
+            "--gen 4 --steps 10 --answers 1000000000000 --infinity 9 --agenda cheapest",
             all,
         ),
         (
-            "--agenda cheapest --answers 1000000000000 --steps 10 --gen 4",
+            "--agenda cheapest --answers 1000000000000 --steps 10 --gen 4 --infinity 9",
             all,
         ),
     ];

@@ -190,10 +190,10 @@ ascii_at (b ∷ bs) h zero = ltb-true b 128 (and_parts (nat_lt b 128) (all_ascii
 ascii_at (b ∷ bs) h (suc i) = ascii_at bs (and_parts (nat_lt b 128) (all_ascii bs) h).1 i
 
 -- a program with one query
-pub record OneQuery (M : ℕ) (text : List ℕ) : Type 0 where
+pub record OneQuery (M N : ℕ) (text : List ℕ) : Type 0 where
   pub program : Program
   pub query : Query
-  pub verdict : IsVerdict M M text (accepted program)
+  pub verdict : IsVerdict M N text (accepted program)
   pub one : program.queries ≡ query ∷ []
 
 only_query : (qs : List Query) → one_query qs ≡ true → (q : Query) × (qs ≡ q ∷ [])
@@ -202,21 +202,21 @@ only_query (q ∷ []) h = (q, refl)
 only_query (q ∷ p ∷ qs) h = absurd (cc)
 
 -- a text that passes is a program with one query
-pub passed : (M : ℕ) (text : List ℕ) → Passes text → OneQuery M text
-passed M text p =
+pub passed : (M N : ℕ) (text : List ℕ) → Passes text → OneQuery M N text
+passed M N text p =
     let ss = sentences_in text in
     let ls = lexemes_of text in
     let ts = terminals [] ls in
     let read : IsRead ts (terms_in text) = record { text = sound ts (terms_in text) p.reads; shallow = shallow ts p.few } in
     let reading : IsSentences text ss = record { lexemes = ls; tokens = lexed 300 0 true text p.ends; terms = subst (IsRead ts) (sym p.terms) read; names = p.names } in
-    let only = only_query (program_of M ss).queries (p.query M) in
+    let only = only_query (program_of N ss).queries (p.query N) in
     record {
-      program = program_of M ss;
+      program = program_of N ss;
       query = only.0;
-      verdict = inr (inr (p.size, IsUtf8-from_ascii text (ascii_at text p.ascii), (sentences ss, reading, sym (ap (sentences_verdict M ss) (p.refusal M M)))));
+      verdict = inr (inr (p.size, IsUtf8-from_ascii text (ascii_at text p.ascii), (sentences ss, reading, sym (ap (sentences_verdict N ss) (p.refusal M N)))));
       one = only.1;
     }
 
 -- the generator's texts are programs with one query
-pub queens_program : (M n : ℕ) → 4 ≤ n → n ≤ 12 → OneQuery M (queens_text n)
-queens_program M n least most = passed M (queens_text n) (each_passes n least most)
+pub queens_program : (M N n : ℕ) → 4 ≤ n → n ≤ 12 → OneQuery M N (queens_text n)
+queens_program M N n least most = passed M N (queens_text n) (each_passes n least most)

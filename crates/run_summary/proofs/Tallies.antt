@@ -107,14 +107,14 @@ pub queries_one : (p : FlatProgram) (q : Query) → (program_in p).queries ≡ q
 queries_one p q e = let size = length-map p.queries (query_in p) in let count = ap length e in omega (arith, size, count)
 
 -- the run of its first query
-pub run_of_first : (p : FlatProgram) (prog : Program) (q : Query) (steps : ℕ) (answers : Option ℕ) (es : List Event) (r : ℕ) → prog ≡ program_in p → prog.queries ≡ q ∷ []
-    → Run INFINITY INFINITY prog q steps answers (start_of q ∷ []) es r → IsRunOf p 0 steps answers es r
-run_of_first p prog q steps answers es r same one h =
+pub run_of_first : (N : ℕ) (p : FlatProgram) (prog : Program) (q : Query) (steps : ℕ) (answers : Option ℕ) (es : List Event) (r : ℕ) → prog ≡ program_in p → prog.queries ≡ q ∷ []
+    → Run INFINITY N prog q steps answers (start_of q ∷ []) es r → IsRunOf N p 0 steps answers es r
+run_of_first N p prog q steps answers es r same one h =
     let queries : (program_in p).queries ≡ q ∷ [] = ap (λ (x : Program). x.queries) (sym same) ∙ one in
     let some : 0 < length p.queries = queries_one p q queries in
     let first : query_in p (query_at p 0) ≡ q = ap (first_of (query_in p (query_at p 0))) (sym (queries_from p 0 some) ∙ drop_none (program_in p).queries ∙ queries) in
-    subst (λ (x : Query). Run INFINITY INFINITY (program_in p) x steps answers (start_of x ∷ []) es r) (sym first)
-    (subst (λ (x : Program). Run INFINITY INFINITY x q steps answers (start_of q ∷ []) es r) same h)
+    subst (λ (x : Query). Run INFINITY N (program_in p) x steps answers (start_of x ∷ []) es r) (sym first)
+    (subst (λ (x : Program). Run INFINITY N x q steps answers (start_of q ∷ []) es r) same h)
   where
     first_of : Query → List Query → Query
     first_of d [] = d
@@ -132,18 +132,18 @@ same_program p q e = ap program_or e
     program_or (refused place reason) = p
 
 -- the text is this program's
-pub verdict_program : (text : List ℕ) (prog : Program) (p : FlatProgram) → IsVerdict INFINITY INFINITY text (accepted prog) → IsVerdict INFINITY INFINITY text (accepted (program_in p)) → prog ≡ program_in p
-verdict_program text prog p a b = same_program prog (program_in p) (one_verdict INFINITY INFINITY text (accepted prog) (accepted (program_in p)) a b)
+pub verdict_program : (N : ℕ) (text : List ℕ) (prog : Program) (p : FlatProgram) → IsVerdict INFINITY N text (accepted prog) → IsVerdict INFINITY N text (accepted (program_in p)) → prog ≡ program_in p
+verdict_program N text prog p a b = same_program prog (program_in p) (one_verdict INFINITY N text (accepted prog) (accepted (program_in p)) a b)
 
 -- a text that is a program with one query is found to be it
-pub found_one : (text : List ℕ) (p : FlatProgram) → OneQuery INFINITY text → IsVerdict INFINITY INFINITY text (accepted (program_in p)) → 0 < length p.queries
-found_one text p made v =
-    queries_one p made.query (ap (λ (x : Program). x.queries) (sym (verdict_program text made.program p made.verdict v)) ∙ made.one)
+pub found_one : (N : ℕ) (text : List ℕ) (p : FlatProgram) → OneQuery INFINITY N text → IsVerdict INFINITY N text (accepted (program_in p)) → 0 < length p.queries
+found_one N text p made v =
+    queries_one p made.query (ap (λ (x : Program). x.queries) (sym (verdict_program N text made.program p made.verdict v)) ∙ made.one)
 
 -- and isn't refused
-pub found_refused : (text : List ℕ) (place : ℕ) (reason : List ℕ) → OneQuery INFINITY text → IsVerdict INFINITY INFINITY text (refused place reason) → ⊥
-found_refused text place reason made v =
-    let same = one_verdict INFINITY INFINITY text (accepted made.program) (refused place reason) made.verdict v in cc (same)
+pub found_refused : (N : ℕ) (text : List ℕ) (place : ℕ) (reason : List ℕ) → OneQuery INFINITY N text → IsVerdict INFINITY N text (refused place reason) → ⊥
+found_refused N text place reason made v =
+    let same = one_verdict INFINITY N text (accepted made.program) (refused place reason) made.verdict v in cc (same)
 
 -- the four lines are those of the summary
 pub summary_bytes : (n : ℕ) (es : List Event) (r : ℕ) (t : Tally) → IsTally es r t

@@ -85,13 +85,16 @@ fn count_query<A: Agenda + Drop>(
 ) -> Result<Tally, NoMemory>
     requires query { 0 < length program.queries }
     requires limit { IsLimit options.answers }
+    requires infinity { (1 ≤ options.infinity) × (options.infinity ≤ TOP) }
     ensures last { IfOk result (λ t. is_fixed t.last ≡ true) }
     ensures whole { (es : List Event) (r : ℕ)
-        → IsRunOf program 0 options.steps options.answers es r → IfOk result (IsTally es r) }
+        → IsRunOf options.infinity program 0 options.steps options.answers es r
+        → IfOk result (IsTally es r) }
 {
     let limits = Limits {
         steps: options.steps,
         answers: options.answers,
+        infinity: options.infinity,
     };
     program.known();
     let code = compile(alloc, program)?;
@@ -103,9 +106,11 @@ fn count_query<A: Agenda + Drop>(
 fn count_program(alloc: Global, program: Program, options: Options) -> Result<Tally, NoMemory>
     requires query { 0 < length program.queries }
     requires limit { IsLimit options.answers }
+    requires infinity { (1 ≤ options.infinity) × (options.infinity ≤ TOP) }
     ensures last { IfOk result (λ t. is_fixed t.last ≡ true) }
     ensures whole { (es : List Event) (r : ℕ)
-        → IsRunOf program 0 options.steps options.answers es r → IfOk result (IsTally es r) }
+        → IsRunOf options.infinity program 0 options.steps options.answers es r
+        → IfOk result (IsTally es r) }
 {
     match options.agenda {
         AgendaName::Fifo => count_query(alloc, program, options, Fifo::new(alloc)),
@@ -118,14 +123,17 @@ fn count_queens(alloc: Global, size: u32, options: Options) -> Result<Tally, NoM
     requires least { 4 ≤ size }
     requires most { size ≤ 12 }
     requires limit { IsLimit options.answers }
+    requires infinity { (1 ≤ options.infinity) × (options.infinity ≤ TOP) }
     ensures last { IfOk result (λ t. is_fixed t.last ≡ true) }
     ensures whole { (program : model.Program) (query : Query) (es : List Event) (r : ℕ)
-        → IsVerdict TOP TOP (queens_bytes size) (accepted program) → program.queries ≡ query ∷ []
-        → Run TOP TOP program query options.steps options.answers (start_of query ∷ []) es r
+        → IsVerdict TOP options.infinity (queens_bytes size) (accepted program)
+        → program.queries ≡ query ∷ []
+        → Run TOP options.infinity program query options.steps options.answers
+        (start_of query ∷ []) es r
         → IfOk result (IsTally es r) }
 {
     let text = queens_text(alloc, size)?;
-    match judge_text(alloc, text.as_bytes())? {
+    match judge_text(alloc, text.as_bytes(), options.infinity)? {
         Verdict::Accepted(program) => count_program(alloc, program, options),
         Verdict::Refused { .. } => unreachable!(),
     }
@@ -136,6 +144,7 @@ fn summary(alloc: Global, size: u32, options: Options) -> Result<(Vec<u8>, Statu
     requires least { 4 ≤ size }
     requires most { size ≤ 12 }
     requires limit { IsLimit options.answers }
+    requires infinity { (1 ≤ options.infinity) × (options.infinity ≤ TOP) }
     ensures { (out : List ℕ) (st : Status) → IsSummary TOP size (asked options) out st
         → IfOk result (λ s. (s.0.items ≡ out) × (s.1 ≡ st)) }
 {
@@ -154,6 +163,7 @@ pub fn put_summary<K: Sink>(alloc: Global, size: u32, options: Options, sink: &m
     requires least { 4 ≤ size }
     requires most { size ≤ 12 }
     requires limit { IsLimit options.answers }
+    requires infinity { (1 ≤ options.infinity) × (options.infinity ≤ TOP) }
     ensures { (out : List ℕ) (st : Status) → IsSummary TOP size (asked options) out st
         → Ending (sink_at (K.written sink.old) (K.faults sink.old)) (sink_at (K.written sink.new)
         (K.faults sink.new)) result st out }

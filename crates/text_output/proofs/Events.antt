@@ -96,18 +96,18 @@ last_written m old now new es r e k h w =
 -- ---- queries
 
 -- of the output of queries, what is still to be written for those from the n-th on
-pub record Behind (steps : ℕ) (answers : Option ℕ) (prog : Program) (n : ℕ) (qs : List Query) (old now : SinkState) (stopped : Bool) (out : List ℕ) (stop : Bool) : Type 0 where
+pub record Behind (N steps : ℕ) (answers : Option ℕ) (prog : Program) (n : ℕ) (qs : List Query) (old now : SinkState) (stopped : Bool) (out : List ℕ) (stop : Bool) : Type 0 where
   pub done : List ℕ
   pub rest : List ℕ
   pub later : Bool
   pub is : out ≡ done ++ rest
   pub wrote : WroteAll old now done
-  pub queries : Queries INFINITY INFINITY prog steps answers n qs rest later
+  pub queries : Queries INFINITY N prog steps answers n qs rest later
   pub stops : stop ≡ or_stop stopped later
 
 -- at the end
-pub behind_all : (steps : ℕ) (answers : Option ℕ) (prog : Program) (n : ℕ) (old now : SinkState) (stopped : Bool) (out : List ℕ) (stop : Bool) → Behind steps answers prog n [] old now stopped out stop → WroteAll old now out × (stopped ≡ stop)
-behind_all steps answers prog n old now stopped out stop k =
+pub behind_all : (N steps : ℕ) (answers : Option ℕ) (prog : Program) (n : ℕ) (old now : SinkState) (stopped : Bool) (out : List ℕ) (stop : Bool) → Behind N steps answers prog n [] old now stopped out stop → WroteAll old now out × (stopped ≡ stop)
+behind_all N steps answers prog n old now stopped out stop k =
     (subst (WroteAll old now) (sym (k.is ∙ ap (λ (b : List ℕ). k.done ++ b) k.queries.0 ∙ append-nil k.done)) k.wrote, sym (k.stops ∙ ap (or_stop stopped) k.queries.1 ∙ no_more stopped))
   where
     no_more : (b : Bool) → or_stop b false ≡ b
@@ -115,20 +115,20 @@ behind_all steps answers prog n old now stopped out stop k =
     no_more false = refl
 
 -- the next query: its run, and what its lines are
-pub record Next (steps : ℕ) (answers : Option ℕ) (prog : Program) (n : ℕ) (q : Query) (qs : List Query) (old now : SinkState) (stopped : Bool) (out : List ℕ) (stop : Bool) : Type 0 where
+pub record Next (N steps : ℕ) (answers : Option ℕ) (prog : Program) (n : ℕ) (q : Query) (qs : List Query) (old now : SinkState) (stopped : Bool) (out : List ℕ) (stop : Bool) : Type 0 where
   pub done : List ℕ
   pub events : List Event
   pub spent : ℕ
   pub rest : List ℕ
   pub later : Bool
-  pub run : Run INFINITY INFINITY prog q steps answers (start_of q ∷ []) events spent
+  pub run : Run INFINITY N prog q steps answers (start_of q ∷ []) events spent
   pub is : out ≡ done ++ (line (codes "query " ++ decimal n) ++ (events_bytes events ++ rest))
   pub wrote : WroteAll old now done
-  pub queries : Queries INFINITY INFINITY prog steps answers (n + 1) qs rest later
+  pub queries : Queries INFINITY N prog steps answers (n + 1) qs rest later
   pub stops : stop ≡ or_stop stopped (or_stop (is_stop events) later)
 
-pub next_query : (steps : ℕ) (answers : Option ℕ) (prog : Program) (n : ℕ) (q : Query) (qs : List Query) (old now : SinkState) (stopped : Bool) (out : List ℕ) (stop : Bool) → Behind steps answers prog n (q ∷ qs) old now stopped out stop → Next steps answers prog n q qs old now stopped out stop
-next_query steps answers prog n q qs old now stopped out stop k =
+pub next_query : (N steps : ℕ) (answers : Option ℕ) (prog : Program) (n : ℕ) (q : Query) (qs : List Query) (old now : SinkState) (stopped : Bool) (out : List ℕ) (stop : Bool) → Behind N steps answers prog n (q ∷ qs) old now stopped out stop → Next N steps answers prog n q qs old now stopped out stop
+next_query N steps answers prog n q qs old now stopped out stop k =
     let h = k.queries in record {
       done = k.done;
       events = h.0;
@@ -143,9 +143,9 @@ next_query steps answers prog n q qs old now stopped out stop k =
     }
 
 -- its lines are written
-pub query_written : (steps : ℕ) (answers : Option ℕ) (prog : Program) (n : ℕ) (q : Query) (qs : List Query) (old now mid new : SinkState) (stopped here then : Bool) (out : List ℕ) (stop : Bool) (k : Next steps answers prog n q qs old now stopped out stop)
-    → WroteAll now mid (line (codes "query " ++ decimal n)) → WroteAll mid new (events_bytes k.events) → here ≡ is_stop k.events → then ≡ or_stop stopped here → Behind steps answers prog (n + 1) qs old new then out stop
-query_written steps answers prog n q qs old now mid new stopped here then out stop k w v s t =
+pub query_written : (N steps : ℕ) (answers : Option ℕ) (prog : Program) (n : ℕ) (q : Query) (qs : List Query) (old now mid new : SinkState) (stopped here then : Bool) (out : List ℕ) (stop : Bool) (k : Next N steps answers prog n q qs old now stopped out stop)
+    → WroteAll now mid (line (codes "query " ++ decimal n)) → WroteAll mid new (events_bytes k.events) → here ≡ is_stop k.events → then ≡ or_stop stopped here → Behind N steps answers prog (n + 1) qs old new then out stop
+query_written N steps answers prog n q qs old now mid new stopped here then out stop k w v s t =
     let first = line (codes "query " ++ decimal n) in
     let events = events_bytes k.events in record {
       done = (k.done ++ first) ++ events;
@@ -206,35 +206,35 @@ queries_from p i l =
     ∙ ap (λ (q : Query). q ∷ drop (suc i) qs) (get_or-map (query_in p) p.queries i no_query (query_in p no_query) l)
     ∙ ap (λ (n : ℕ). query_in p (query_at p i) ∷ drop n qs) one
 
-pub program_next : (steps : ℕ) (answers : Option ℕ) (p : FlatProgram) (i : ℕ) (old now : SinkState) (stopped : Bool) (out : List ℕ) (stop : Bool) → i < length p.queries → Behind steps answers (program_in p) (i + 1) (drop i (program_in p).queries) old now stopped out stop
-    → Next steps answers (program_in p) (i + 1) (query_in p (query_at p i)) (drop (i + 1) (program_in p).queries) old now stopped out stop
-program_next steps answers p i old now stopped out stop l k =
-    next_query steps answers (program_in p) (i + 1) (query_in p (query_at p i)) (drop (i + 1) (program_in p).queries) old now stopped out stop
-    (subst (λ (qs : List Query). Behind steps answers (program_in p) (i + 1) qs old now stopped out stop) (queries_from p i l) k)
+pub program_next : (N steps : ℕ) (answers : Option ℕ) (p : FlatProgram) (i : ℕ) (old now : SinkState) (stopped : Bool) (out : List ℕ) (stop : Bool) → i < length p.queries → Behind N steps answers (program_in p) (i + 1) (drop i (program_in p).queries) old now stopped out stop
+    → Next N steps answers (program_in p) (i + 1) (query_in p (query_at p i)) (drop (i + 1) (program_in p).queries) old now stopped out stop
+program_next N steps answers p i old now stopped out stop l k =
+    next_query N steps answers (program_in p) (i + 1) (query_in p (query_at p i)) (drop (i + 1) (program_in p).queries) old now stopped out stop
+    (subst (λ (qs : List Query). Behind N steps answers (program_in p) (i + 1) qs old now stopped out stop) (queries_from p i l) k)
 
 drop_all : (n : ℕ) (qs : List Query) → n ≡ length qs → drop n qs ≡ []
 drop_all n qs e = drop_of_length-le qs (omega (arith, e))
 
 -- all queries are written
-pub program_written : (steps : ℕ) (answers : Option ℕ) (p : FlatProgram) (i : ℕ) (old now : SinkState) (stopped : Bool) (out : List ℕ) (stop : Bool) → i ≡ length p.queries → Behind steps answers (program_in p) (i + 1) (drop i (program_in p).queries) old now stopped out stop
+pub program_written : (N steps : ℕ) (answers : Option ℕ) (p : FlatProgram) (i : ℕ) (old now : SinkState) (stopped : Bool) (out : List ℕ) (stop : Bool) → i ≡ length p.queries → Behind N steps answers (program_in p) (i + 1) (drop i (program_in p).queries) old now stopped out stop
     → WroteAll old now out × (stopped ≡ stop)
-program_written steps answers p i old now stopped out stop e k =
-    behind_all steps answers (program_in p) (i + 1) old now stopped out stop
-    (subst (λ (qs : List Query). Behind steps answers (program_in p) (i + 1) qs old now stopped out stop) (drop_all i (program_in p).queries (e ∙ sym (length-map p.queries (query_in p)))) k)
+program_written N steps answers p i old now stopped out stop e k =
+    behind_all N steps answers (program_in p) (i + 1) old now stopped out stop
+    (subst (λ (qs : List Query). Behind N steps answers (program_in p) (i + 1) qs old now stopped out stop) (drop_all i (program_in p).queries (e ∙ sym (length-map p.queries (query_in p)))) k)
 
 -- the first line of a query was cut short
-pub line_cut : {A : Type 0} (steps : ℕ) (answers : Option ℕ) (prog : Program) (n : ℕ) (q : Query) (qs : List Query) (old now new : SinkState) (stopped : Bool) (out : List ℕ) (stop : Bool) (bytes : List ℕ) (f : Fault) (result : Result A Fault) → Next steps answers prog n q qs old now stopped out stop
+pub line_cut : {A : Type 0} (N steps : ℕ) (answers : Option ℕ) (prog : Program) (n : ℕ) (q : Query) (qs : List Query) (old now new : SinkState) (stopped : Bool) (out : List ℕ) (stop : Bool) (bytes : List ℕ) (f : Fault) (result : Result A Fault) → Next N steps answers prog n q qs old now stopped out stop
     → bytes ≡ line (codes "query " ++ decimal n) → CutBy now new f bytes → result ≡ Err f → Wrote old new result out
-line_cut {A} steps answers prog n q qs old now new stopped out stop bytes f result k b c is =
+line_cut {A} N steps answers prog n q qs old now new stopped out stop bytes f result k b c is =
     let first = line (codes "query " ++ decimal n) in
     let later = events_bytes k.events ++ k.rest in
     wrote_cut old new result f out is
     (subst (CutBy old new f) (sym k.is) (cut_then old now new k.done (first ++ later) f k.wrote (cut_longer now new first later f (subst (CutBy now new f) b c))))
 
 -- its events were cut short
-pub events_cut : {A : Type 0} (steps : ℕ) (answers : Option ℕ) (prog : Program) (n : ℕ) (q : Query) (qs : List Query) (old now mid new : SinkState) (stopped : Bool) (out : List ℕ) (stop : Bool) (bytes : List ℕ) (f : Fault) (result : Result A Fault) (k : Next steps answers prog n q qs old now stopped out stop)
+pub events_cut : {A : Type 0} (N steps : ℕ) (answers : Option ℕ) (prog : Program) (n : ℕ) (q : Query) (qs : List Query) (old now mid new : SinkState) (stopped : Bool) (out : List ℕ) (stop : Bool) (bytes : List ℕ) (f : Fault) (result : Result A Fault) (k : Next N steps answers prog n q qs old now stopped out stop)
     → bytes ≡ line (codes "query " ++ decimal n) → WroteAll now mid bytes → CutBy mid new f (events_bytes k.events) → result ≡ Err f → Wrote old new result out
-events_cut {A} steps answers prog n q qs old now mid new stopped out stop bytes f result k b w c is =
+events_cut {A} N steps answers prog n q qs old now mid new stopped out stop bytes f result k b w c is =
     let first = line (codes "query " ++ decimal n) in
     let events = events_bytes k.events in
     let before = all_then old now mid k.done first k.wrote (subst (WroteAll now mid) b w) in

@@ -57,8 +57,8 @@ has_query area p stands i l =
     slice_get_within area.queries i c.0 c.1
 
 -- A run of the program's query is one by its code.
-pub run_by : (area : Area) (p : FlatProgram) → IsProgram p → StandsForProgram area (program_in p) → (i : ℕ) → i < length p.queries → (steps : ℕ) (answers : Option ℕ) (es : List Event) (r : ℕ) → IsRunOf p i steps answers es r → IsRunBy area i steps answers es r
-run_by area p known stands i l steps answers es r run = (program_in p, query_in p (query_at p i), may_run area p known stands i l, run)
+pub run_by : (N : ℕ) (area : Area) (p : FlatProgram) → IsProgram p → StandsForProgram area (program_in p) → (i : ℕ) → i < length p.queries → (steps : ℕ) (answers : Option ℕ) (es : List Event) (r : ℕ) → IsRunOf N p i steps answers es r → IsRunBy N area i steps answers es r
+run_by N area p known stands i l steps answers es r run = (program_in p, query_in p (query_at p i), may_run area p known stands i l, run)
 
 names_own : (a : Area) → IsVerified a → (i : ℕ) → i < length a.queries → All (IsAtom a) (slice_index_or a.queries i no_span).names
 names_own a v i l = v.1.query_names i no_span l

@@ -37,16 +37,16 @@ abbrev pub fault_status : Fault → Status
 fault_status fault.WriteFault = WriteFault
 fault_status fault.NoMemory = NoMemory
 
--- the run of a program's query with these limits
-abbrev pub IsRunOf : FlatProgram → ℕ → ℕ → Option ℕ → List Event → ℕ → Type 0
-IsRunOf p q steps answers es r =
+-- The run of a program's query with these limits. N is the greatest number that a variable may have.
+abbrev pub IsRunOf : ℕ → FlatProgram → ℕ → ℕ → Option ℕ → List Event → ℕ → Type 0
+IsRunOf N p q steps answers es r =
     let query = query_in p (query_at p q) in
-    Run INFINITY INFINITY (program_in p) query steps answers (start_of query ∷ []) es r
+    Run INFINITY N (program_in p) query steps answers (start_of query ∷ []) es r
 
 -- The run of the query that code has under a number, for some program that the code stands for.
-abbrev pub IsRunBy : Area → ℕ → ℕ → Option ℕ → List Event → ℕ → Type 0
-IsRunBy area number steps answers es r =
-    (prog : Program) × (query : Query) × MayRun area number prog query × Run INFINITY INFINITY prog query steps answers (start_of query ∷ []) es r
+abbrev pub IsRunBy : ℕ → Area → ℕ → ℕ → Option ℕ → List Event → ℕ → Type 0
+IsRunBy N area number steps answers es r =
+    (prog : Program) × (query : Query) × MayRun area number prog query × Run INFINITY N prog query steps answers (start_of query ∷ []) es r
 
 -- whether the event is the last one, and then whether it stops its query
 abbrev pub IsEnding : MachineEvent → Option Bool → Type 0

@@ -1,6 +1,7 @@
 //! The output of a text, written line by line: its refusal, or the events of its queries.
 
-ghost use Rattle.std.specs.Prelude.{◌≡◌, ◌<◌, ℕ, Bool, List, length, map, All, IfOk};
+ghost use Rattle.std.specs.Prelude.{◌≡◌, ◌<◌, ◌≤◌, ℕ, Bool, List, length, map, All, IfOk};
+ghost use Rattle.fd_language.specs.declared.TheConstants.{INFINITY as TOP};
 ghost use Rattle.fd_model.specs.Goal.{Event};
 ghost use Rattle.fd_model.specs.Run.{IsLimit};
 ghost use Rattle.fd_model.specs.Lines.{event_bytes, events_bytes};
@@ -20,7 +21,7 @@ use clause_check::Program;
 use clause_compiler::compile;
 use code_machine::Machine;
 use command_words::{AgendaName, Options};
-use fd_language::{INFINITY, NoMemory};
+use fd_language::NoMemory;
 use fd_model::Status;
 use machine_events::{Limits, MachineEvent};
 use propagate_queue::{Agenda, Cheapest, Fifo};
@@ -130,17 +131,19 @@ fn put_run<A: Agenda + Drop, K: Sink>(
 ) -> Result<bool, Fault>
     requires query { query < length code.now.value.queries }
     requires limit { IsLimit options.answers }
+    requires infinity { (1 ≤ options.infinity) × (options.infinity ≤ TOP) }
     ensures wrote { (es : List Event) (r : ℕ)
-        → IsRunBy code.now.value query options.steps options.answers es r
+        → IsRunBy options.infinity code.now.value query options.steps options.answers es r
         → Wrote (sink_at (K.written sink.old) (K.faults sink.old)) (sink_at (K.written sink.new)
         (K.faults sink.new)) result (events_bytes es) }
     ensures stopped { (es : List Event) (r : ℕ)
-        → IsRunBy code.now.value query options.steps options.answers es r
+        → IsRunBy options.infinity code.now.value query options.steps options.answers es r
         → IfOk result (λ stopped. stopped ≡ is_stop es) }
 {
     let limits = Limits {
         steps: options.steps,
         answers: options.answers,
+        infinity: options.infinity,
     };
     let mut machine = Machine::new(alloc, Rc::clone(code)?, query, limits, agenda)?;
     let parts = code.parts();
@@ -163,12 +166,13 @@ fn put_query<K: Sink>(
 ) -> Result<bool, Fault>
     requires query { query < length code.now.value.queries }
     requires limit { IsLimit options.answers }
+    requires infinity { (1 ≤ options.infinity) × (options.infinity ≤ TOP) }
     ensures wrote { (es : List Event) (r : ℕ)
-        → IsRunBy code.now.value query options.steps options.answers es r
+        → IsRunBy options.infinity code.now.value query options.steps options.answers es r
         → Wrote (sink_at (K.written sink.old) (K.faults sink.old)) (sink_at (K.written sink.new)
         (K.faults sink.new)) result (events_bytes es) }
     ensures stopped { (es : List Event) (r : ℕ)
-        → IsRunBy code.now.value query options.steps options.answers es r
+        → IsRunBy options.infinity code.now.value query options.steps options.answers es r
         → IfOk result (λ stopped. stopped ≡ is_stop es) }
 {
     match options.agenda {
@@ -184,14 +188,15 @@ fn put_program<K: Sink>(
     options: Options,
     sink: &mut K,
 ) -> Result<bool, Fault>
-    requires { IsLimit options.answers }
+    requires limit { IsLimit options.answers }
+    requires infinity { (1 ≤ options.infinity) × (options.infinity ≤ TOP) }
     ensures wrote { (out : List ℕ) (stop : Bool)
-        → Queries INFINITY INFINITY (program_in program) options.steps options.answers 1
+        → Queries TOP options.infinity (program_in program) options.steps options.answers 1
         (program_in program).queries out stop
         → Wrote (sink_at (K.written sink.old) (K.faults sink.old)) (sink_at (K.written sink.new)
         (K.faults sink.new)) result out }
     ensures stopped { (out : List ℕ) (stop : Bool)
-        → Queries INFINITY INFINITY (program_in program) options.steps options.answers 1
+        → Queries TOP options.infinity (program_in program) options.steps options.answers 1
         (program_in program).queries out stop
         → IfOk result (λ stopped. stopped ≡ stop) }
 {
@@ -213,7 +218,8 @@ fn put_program<K: Sink>(
 fn put_output<K: Sink>(alloc: Global, verdict: Verdict, options: Options, sink: &mut K) -> Status
     requires names { HasNames verdict }
     requires limit { IsLimit options.answers }
-    ensures { (out : List ℕ) (st : Status) → VerdictOutput INFINITY INFINITY (verdict_of verdict)
+    requires infinity { (1 ≤ options.infinity) × (options.infinity ≤ TOP) }
+    ensures { (out : List ℕ) (st : Status) → VerdictOutput TOP options.infinity (verdict_of verdict)
         options.steps options.answers out st
         → Ending (sink_at (K.written sink.old) (K.faults sink.old)) (sink_at (K.written sink.new)
         (K.faults sink.new)) result st out }
@@ -244,8 +250,10 @@ pub fn answer<K: Sink>(
 ) -> Status
     requires names { IfOk verdict HasNames }
     requires limit { IsLimit options.answers }
-    ensures { (out : List ℕ) (st : Status) → IfOk verdict (λ v. VerdictOutput INFINITY INFINITY (verdict_of
-        v) options.steps options.answers out st)
+    requires infinity { (1 ≤ options.infinity) × (options.infinity ≤ TOP) }
+    ensures { (out : List ℕ) (st : Status)
+        → IfOk verdict (λ v. VerdictOutput TOP options.infinity (verdict_of v)
+        options.steps options.answers out st)
         → Ending (sink_at (K.written sink.old) (K.faults sink.old)) (sink_at (K.written sink.new)
         (K.faults sink.new)) result st out }
 {

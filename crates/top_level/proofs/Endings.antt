@@ -27,14 +27,14 @@ use Rattle.top_level.proofs.OneOutput.{one_output, verdict_output, large_output}
 -- ---- verdicts
 
 pub verdict_outputs : (words : List (List ℕ)) (o : command.Options) (text : List ℕ) (v : Result Verdict OutOfMemory) (out : List ℕ) (st : Status) → options_of words ≡ Some (asked o) → o.generate ≡ None
-    → IfOk v (IsVerdictOn text) → Output INFINITY (options_of words) text out st → IfOk v (λ v. VerdictOutput INFINITY INFINITY (verdict_of v) o.steps o.answers out st)
+    → IfOk v (IsVerdictOn o.infinity text) → Output INFINITY (options_of words) text out st → IfOk v (λ v. VerdictOutput INFINITY o.infinity (verdict_of v) o.steps o.answers out st)
 verdict_outputs words o text (Ok v) out st e read h p =
     verdict_output INFINITY (asked o) text (verdict_of v) out st read h.verdict (subst (λ (a : Option Options). Output INFINITY a text out st) e p)
 verdict_outputs words o text (Err f) out st e read h p = tt
 
-pub large_verdicts : (text : List ℕ) (v : Result Verdict OutOfMemory) → max_text < length text → IfOk v (λ v. (pool : Contents) × (v ≡ verdict.Refused max_text TooLarge pool)) → IfOk v (IsVerdictOn text)
-large_verdicts text (Ok v) l h = subst (IsVerdictOn text) (sym h.1) (record { names = tt; verdict = large_verdict INFINITY INFINITY text l })
-large_verdicts text (Err e) l h = tt
+pub large_verdicts : (N : ℕ) (text : List ℕ) (v : Result Verdict OutOfMemory) → max_text < length text → IfOk v (λ v. (pool : Contents) × (v ≡ verdict.Refused max_text TooLarge pool)) → IfOk v (IsVerdictOn N text)
+large_verdicts N text (Ok v) l h = subst (IsVerdictOn N text) (sym h.1) (record { names = tt; verdict = large_verdict INFINITY N text l })
+large_verdicts N text (Err e) l h = tt
 
 -- ---- texts
 
@@ -65,7 +65,7 @@ decided_stop : (b : Bool) → IsDecided (stop_status b)
 decided_stop true = tt
 decided_stop false = tt
 
-decided_verdict : (o : Options) (v : model.Verdict) (out : List ℕ) (st : Status) → VerdictOutput INFINITY INFINITY v o.steps o.answers out st → IsDecided st
+decided_verdict : (o : Options) (v : model.Verdict) (out : List ℕ) (st : Status) → VerdictOutput INFINITY o.infinity v o.steps o.answers out st → IsDecided st
 decided_verdict o (model.refused place reason) out st p = subst IsDecided (sym p.1) tt
 decided_verdict o (model.accepted prog) out st p = subst IsDecided (sym p.2) (decided_stop p.0)
 
@@ -84,7 +84,7 @@ usage_stop false e = cc
 usage_text : (o : Options) (size : Option ℕ) (text out : List ℕ) (st : Status) → TextOutput INFINITY o size text out st → st ≡ Usage → ⊥
 usage_text o None text out st t e = by_verdict t.0 t.2
   where
-    by_verdict : (v : model.Verdict) → VerdictOutput INFINITY INFINITY v o.steps o.answers out st → ⊥
+    by_verdict : (v : model.Verdict) → VerdictOutput INFINITY o.infinity v o.steps o.answers out st → ⊥
     by_verdict (model.refused place reason) p = cc (e, p.1)
     by_verdict (model.accepted prog) p = usage_stop p.0 (sym p.2 ∙ e)
 usage_text o (Some n) text out st s e = usage_stop (is_stop s.events) (sym s.status ∙ e)

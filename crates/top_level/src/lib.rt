@@ -1,7 +1,8 @@
 //! The top level: for words and a text its whole output, written to a sink.
 #![tactic(auto)]
 
-ghost use Rattle.std.specs.Prelude.{◌≡◌, ℕ, List, Some, None, false, map, string_bytes};
+ghost use Rattle.std.specs.Prelude.{◌≡◌, ◌≤◌, ℕ, List, Some, None, false, map, string_bytes};
+ghost use Rattle.fd_language.specs.declared.TheConstants.{INFINITY};
 ghost use Rattle.fd_model.specs.Run.{IsLimit};
 ghost use Rattle.command_words.specs.Words.{asked, options_of};
 ghost use Rattle.byte_ports.specs.Ends.{ends};
@@ -27,6 +28,7 @@ fn answer_source<S: Source, K: Sink>(
     sink: &mut K,
 ) -> Status
     requires limit { IsLimit options.answers }
+    requires infinity { (1 ≤ options.infinity) × (options.infinity ≤ INFINITY) }
     requires size { options.generate ≡ None }
     ensures { (words : List (List ℕ)) → options_of words ≡ Some (asked options)
         → Headline words
@@ -35,7 +37,10 @@ fn answer_source<S: Source, K: Sink>(
         result }
 {
     match read_text(alloc, source) {
-        Ok(text) => answer(alloc, judge_text(alloc, &text), options, sink),
+        Ok(text) => {
+            let verdict = judge_text(alloc, &text, options.infinity);
+            answer(alloc, verdict, options, sink)
+        }
         Err(ReadTextFault::ReadFault) => Status::ReadFault,
         Err(ReadTextFault::TooLarge) => {
             answer(

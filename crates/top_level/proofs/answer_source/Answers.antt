@@ -11,13 +11,13 @@ returns-in-Ok g c = λ words some.
     let took = subst (Took (g.S.Source.left c.args.source.now) (g.S.Source.left c.read_text.new.src)) (sym c.deref.ensures.value) c.in-Ok.ensures.ok in
     with_read words (asked c.args.options) _ _ c.answer.result text some c.requires.size took c.in-Ok.ensures.end
     (stays (g.S.Source.faults c.args.source.now) (g.S.Source.faults c.read_text.new.src) c.in-Ok.ensures.later (λ l. let e = c.in-Ok.ensures.told l in cc (e)))
-    (λ out st o. c.answer.ensures out st (verdict_outputs words c.args.options text c.judge_text.result out st some c.requires.size c.judge_text.ensures o))
+    (λ out st o. c.answer.ensures out st (verdict_outputs words c.args.options text c.judge_text-verdict.result out st some c.requires.size c.judge_text-verdict.ensures o))
 
 pub returns-in-Err-TooLarge : goal.returns-in-Err-TooLarge
 returns-in-Err-TooLarge g c = λ words some.
     with_large words (asked c.args.options) _ _ c.answer-in-Err-TooLarge.result some c.requires.size (c.in-Err-TooLarge.ensures.large (ap Err c.in-Err-TooLarge.field-0-is))
     (stays (g.S.Source.faults c.args.source.now) (g.S.Source.faults c.read_text.new.src) c.in-Err-TooLarge.ensures.later (λ l. let e = c.in-Err-TooLarge.ensures.told l in let f = c.in-Err-TooLarge.field-0-is in cc (e, f)))
-    (λ text long out st o. c.answer-in-Err-TooLarge.ensures out st (verdict_outputs words c.args.options text c.refused.result out st some c.requires.size (large_verdicts text c.refused.result long c.refused.ensures) o))
+    (λ text long out st o. c.answer-in-Err-TooLarge.ensures out st (verdict_outputs words c.args.options text c.refused.result out st some c.requires.size (large_verdicts c.args.options.infinity text c.refused.result long c.refused.ensures) o))
 
 pub returns-in-Err-NoMemory : goal.returns-in-Err-NoMemory
 returns-in-Err-NoMemory g c = λ words some.

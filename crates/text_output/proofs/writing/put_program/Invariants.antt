@@ -8,5 +8,5 @@ use Rattle.text_output.proofs.writing.put_program.Given as goal
 
 abbrev pub invariant-loop-query : goal.invariant-loop-query
 invariant-loop-query g l =
-    (out : List ℕ) (stop : Bool) → Queries INFINITY INFINITY (program_in l.fn.program) l.fn.options.steps l.fn.options.answers 1 (program_in l.fn.program).queries out stop
-    → Behind l.fn.options.steps l.fn.options.answers (program_in l.fn.program) (l.query + 1) (drop l.query (program_in l.fn.program).queries) (sink_at (g.K.Sink.written l.fn.sink) (g.K.Sink.faults l.fn.sink)) (sink_at (g.K.Sink.written l.sink) (g.K.Sink.faults l.sink)) l.stopped out stop
+    (out : List ℕ) (stop : Bool) → Queries INFINITY l.fn.options.infinity (program_in l.fn.program) l.fn.options.steps l.fn.options.answers 1 (program_in l.fn.program).queries out stop
+    → Behind l.fn.options.infinity l.fn.options.steps l.fn.options.answers (program_in l.fn.program) (l.query + 1) (drop l.query (program_in l.fn.program).queries) (sink_at (g.K.Sink.written l.fn.sink) (g.K.Sink.faults l.fn.sink)) (sink_at (g.K.Sink.written l.sink) (g.K.Sink.faults l.sink)) l.stopped out stop
