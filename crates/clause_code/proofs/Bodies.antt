@@ -20,7 +20,7 @@ use Rattle.clause_code.specs.Pieces.{Base, past, Does}
 use Rattle.clause_code.specs.Laws.{other_side, sides}
 use Rattle.clause_code.specs.Safe.{unplaced, IsThereIn, may_enter}
 use Rattle.clause_code.specs.Flowing.{is_simple, MayEnter}
-use Rattle.clause_code.specs.Steps.{Step, get_variable, get_constant, get_integer, get_structure, unify_variable, unify_register, unify_constant, unify_integer, put_variable, put_constant, put_integer, put_structure, home, is_made, is_register, marked_by, marked_by_all, instructions, code_of, puts, AllSuit}
+use Rattle.clause_code.specs.Steps.{Step, get_variable, get_constant, get_integer, get_structure, unify_variable, unify_register, unify_new, unify_constant, unify_integer, put_variable, put_constant, put_integer, put_structure, home, is_made, is_register, marked_by, marked_by_all, instructions, code_of, puts, AllSuit}
 use Rattle.clause_code.specs.ArgumentHomes.{AllLand}
 use Rattle.clause_code.specs.Bodies.{is_x, is_y, found_home, Levels, HasDepths, IsNoHome, AreFree, between_goals, InBody, IsRest, IsGoalsCode}
 use Rattle.clause_code.proofs.Pieces.{does_nothing, does_both, does_either}
@@ -133,6 +133,7 @@ step_enters homes made (unify_variable x) = by (is_made made x)
     by true = single_enters (UnifyValue (home homes x)) refl
     by false = single_enters (UnifyVariable (home homes x)) refl
 step_enters homes made (unify_register r) = single_enters (UnifyValue (X r)) refl
+step_enters homes made (unify_new r) = single_enters (UnifyVariable (X r)) refl
 step_enters homes made (unify_constant c) = single_enters (UnifyConstant c) refl
 step_enters homes made (unify_integer z) = single_enters (UnifyInteger z) refl
 step_enters homes made (put_variable x a) = by (is_made made x) (is_register (home homes x) a)

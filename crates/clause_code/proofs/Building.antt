@@ -1,5 +1,5 @@
 -- Terms that are built, and the arguments of goals and heads.
-use Rattle.std.proofs.Common.{◌≡◌, ℕ, suc, ◌+◌, ◌<◌, ◌≤◌, Bool, true, List, ◌∷◌, ◌++◌, Some, length, refl, ap, sym, ◌∙◌, subst, arith, inl, inr}
+use Rattle.std.proofs.Common.{◌≡◌, ℕ, suc, ◌+◌, ◌<◌, ◌≤◌, Bool, true, false, List, ◌∷◌, ◌++◌, Some, length, refl, ap, sym, ◌∙◌, subst, arith, inl, inr}
 use Rattle.std.proofs.lemmas.Bool.{cases_eq}
 use Rattle.fd_language.proofs.Lemmas.{first_member}
 use Rattle.fd_language.specs.Family.{has}
@@ -11,18 +11,20 @@ use Rattle.term_pool.specs.Contents.{atom_name}
 use Rattle.wam_code.specs.declared.instruction.Register.{Register}
 use Rattle.wam_code.specs.declared.instruction.Register.TheVariants.{X}
 use Rattle.wam_code.specs.declared.instruction.Code.{Code}
-use Rattle.wam_code.specs.declared.instruction.Code.TheVariants.{GetStructure, PutStructure}
+use Rattle.wam_code.specs.declared.instruction.Code.TheVariants.{PutStructure}
 use Rattle.wam_code.specs.Area.{State}
 use Rattle.wam_code.specs.Effect.{with_set, with_owed}
 use Rattle.wam_code.specs.Places.{Places, write, without, Hold}
-use Rattle.clause_code.specs.Pieces.{Base, past, Does}
-use Rattle.clause_code.specs.Steps.{Step, put_structure, get_structure, marked_by_all, code_of, atom_of, compounds, parts, build, builds, put, puts, get, gets, HasAtom, Suits, AllSuit}
-use Rattle.clause_code.specs.ArgumentHomes.{Waits, AllWait, Lands, AllLand}
+use Rattle.clause_code.specs.Pieces.{Base, past}
+use Rattle.clause_code.specs.Steps.{Step, put_structure, marked_by_all, code_of, atom_of, compounds, parts, build, builds, put, puts, get, gets, HasAtom, Suits, AllSuit}
+use Rattle.clause_code.specs.ArgumentHomes.{AllWait, Lands, AllLand}
 use Rattle.wam_code.proofs.Lemmas.{put_here, put_else}
-use Rattle.clause_code.proofs.Pieces.{equation, does_get_structure, does_put_structure}
-use Rattle.clause_code.proofs.Making.{drop_else, has_more, Clear, Spared, clear_spared, AreApart}
-use Rattle.clause_code.proofs.Going.{when_true, plain_of, moved, moved_all, count_moved, AllMade, At, Went, WentBy, went_nothing, went_steps}
-use Rattle.clause_code.proofs.Sparing.{get_spared, inner_spared}
+use Rattle.clause_code.proofs.Pieces.{equation, does_put_structure}
+use Rattle.clause_code.proofs.Making.{drop_else, has_more, Clear, clear_spared, AreApart, Unknown}
+use Rattle.clause_code.proofs.Restating.{EachUnder, under_more}
+use Rattle.clause_code.proofs.Reading.{reading_went}
+use Rattle.clause_code.proofs.Going.{plain_of, moved, moved_all, count_moved, AllMade, At, Went, WentBy, went_nothing, went_steps}
+use Rattle.clause_code.proofs.Sparing.{get_spared}
 use Rattle.clause_code.proofs.Stepping.{at_wrote, at_owed, at_without, went_get_variable, went_get_constant, went_get_integer, Put, put_variable_step, put_constant_step, put_integer_step, InRegisters, registers_kept, parts_gave}
 
 module _ (b : Base) (n : ℕ) (homes : List Register) (apart : AreApart homes) where
@@ -37,7 +39,7 @@ module _ (b : Base) (n : ℕ) (homes : List Register) (apart : AreApart homes) w
 
   -- a structure is put, whose compound arguments are there
   close : (made : List Bool) (at r free : ℕ) (f : Name) (us : Terms) (p : Places) (s : State) (es : List Equation) → At n homes made p s → s.owed ≡ 0 → HasAtom b.pool f → AllSuit b.pool (length homes) us → Clear homes r → r < free → ((i : ℕ) → free ≤ i → Clear homes i)
-      → InRegisters b n homes apart p s free us → PutBy r free made at p s es (put_structure (atom_of b.pool f) (term_count us) r ∷ parts b.pool free us) (Comp f (moved_all n us))
+      → InRegisters b n homes apart p s free us → PutBy r free made at p s es (put_structure (atom_of b.pool f) (term_count us) r ∷ parts b.pool false free us) (Comp f (moved_all n us))
   close made at r free f us p s es w o h su c l cs g =
       let a : AtomId = atom_of b.pool f in
       let u : State = with_owed (with_set s (X r)) (term_count us) in
@@ -48,8 +50,8 @@ module _ (b : Base) (n : ℕ) (homes : List Register) (apart : AreApart homes) w
       let g1 : InRegisters b n homes apart (without p r) u free us = registers_kept b n homes apart p (without p r) s u free us (λ i m k. drop_else r p.x i (λ e. omega (arith, e, m, l))) (λ i e. has_more r i s.regs e) g in
       let v = parts_gave b n homes apart made (suc at) free us (without p r) u w1 su refl g1 cs in
       let t : Term = Comp (atom_name b.pool a) (moved_all n us) in
-      let is : List Code = code_of homes made (parts b.pool free us) in
-      let end : At n homes (marked_by_all made (parts b.pool free us)) (write v.q (X r) t) (with_set v.t (X r)) = at_wrote b n homes apart (marked_by_all made (parts b.pool free us)) v.q v.t v.there r t c in record {
+      let is : List Code = code_of homes made (parts b.pool false free us) in
+      let end : At n homes (marked_by_all made (parts b.pool false free us)) (write v.q (X r) t) (with_set v.t (X r)) = at_wrote b n homes apart (marked_by_all made (parts b.pool false free us)) v.q v.t v.there r t c in record {
         went = record {
           q = write v.q (X r) t;
           t = v.t;
@@ -65,6 +67,7 @@ module _ (b : Base) (n : ℕ) (homes : List Register) (apart : AreApart homes) w
             more = v.more;
             depths = record { levels = v.depths.levels; noted = v.depths.noted };
             slots = v.slots;
+            grown = record { top = v.grown.top; unknown = v.grown.unknown };
           };
         };
         here = put_here r t v.q.x ∙ ap (λ x. Some (Comp x (moved_all n us))) h.name;
@@ -76,7 +79,7 @@ module _ (b : Base) (n : ℕ) (homes : List Register) (apart : AreApart homes) w
       → BuiltBy free made at p s es (builds b.pool free (free + compounds us) us) us → PutBy r free made at p s es (build b.pool r free (Comp f us)) (Comp f (moved_all n us))
   closed made at r free f us p s es h su c l cs a =
       let inner : List Step = builds b.pool free (free + compounds us) us in
-      let one : List Step = put_structure (atom_of b.pool f) (term_count us) r ∷ parts b.pool free us in
+      let one : List Step = put_structure (atom_of b.pool f) (term_count us) r ∷ parts b.pool false free us in
       let z = close (marked_by_all made inner) (past at (code_of homes made inner)) r free f us a.went.q a.went.t es a.went.there a.went.owed h su c l cs a.there in
       let v = went_steps b n homes r free free free r free made at inner one p s es es es (omega arith) (inr (omega arith)) (omega arith) (inl refl) a.went z.went in
       record { went = v.0; here = ap (λ (x : Places). x.x r) v.1 ∙ z.here; set = ap (λ (x : State). has x.regs r) v.2 ∙ z.set }
@@ -152,58 +155,30 @@ module _ (b : Base) (n : ℕ) (homes : List Register) (apart : AreApart homes) w
   abbrev pub AreCells : State → ℕ → Terms → Type 0
   AreCells s i ts = (j : ℕ) → i ≤ j → j < i + term_count ts → has s.regs j ≡ true
 
-  get_structure_went : (made : List Bool) (at i free : ℕ) (f : Name) (us : Terms) (a : Term) (p : Places) (s : State) (es : List Equation) → At n homes made p s → s.owed ≡ 0 → HasAtom b.pool f → AllSuit b.pool (length homes) us → i < free → Spared homes made (marked_by_all made (builds b.pool free (free + compounds us) us)) i → ((j : ℕ) → free ≤ j → Clear homes j)
-      → p.x i ≡ Some a → has s.regs i ≡ true → WentBy b n homes free free made at p s (equation a (Comp f (moved_all n us)) ∷ es) (get b.pool i free (Comp f us)) es
-  get_structure_went made at i free f us a p s es w o h su l c cs e g =
-      let inner : List Step = builds b.pool free (free + compounds us) us in
-      let k : AtomId = atom_of b.pool f in
-      let one : List Step = get_structure k (term_count us) i ∷ parts b.pool free us in
-      let mid : List Bool = marked_by_all made inner in
-      let from : ℕ = past at (code_of homes made inner) in
-      let d = builds_put made at free (free + compounds us) us p s (equation a (Comp f (moved_all n us)) ∷ es) w o su (omega arith) cs in
-      let q : Places = d.went.q in
-      let t : State = d.went.t in
-      let u : State = with_owed t (term_count us) in
-      let w1 : At n homes mid q u = at_owed b n homes apart mid q t d.went.there (term_count us) in
-      let g1 : InRegisters b n homes apart q u free us = registers_kept b n homes apart q q t u free us (λ i m k. refl) (λ i e. e) d.there in
-      let v = parts_gave b n homes apart mid (suc from) free us q u w1 su refl g1 cs in
-      let is : List Code = code_of homes mid (parts b.pool free us) in
-      let here : q.x i ≡ Some a = d.went.keeps.xs i c l (λ x. omega (arith, x, l)) ∙ e in
-      let taken : Went b n homes free free mid from (GetStructure k (term_count us) i ∷ is) q t (equation a (Comp f (moved_all n us)) ∷ es) (marked_by_all mid (parts b.pool free us)) es = record {
-        q = v.q;
-        t = v.t;
-        does = λ gs. subst (λ x. Does b from (GetStructure k (term_count us) i ∷ is) q (equation a (Comp x (moved_all n us)) ∷ es) gs v.q es gs) h.name (does_get_structure b from k (term_count us) i is a (moved_all n us) q v.q es gs here (count_moved n us) v.parts);
-        runs = (u, plain_of b (GetStructure k (term_count us) i) t d.went.owed ∙ when_true _ u (d.went.keeps.regs i g), refl, h.within, v.runs);
-        there = v.there;
-        owed = v.owed;
-        keeps = record { xs = λ j y m x. v.xs j y; regs = v.regs; frame = v.frame; shape = v.shape; more = v.more; depths = v.depths; slots = v.slots };
-      } in
-      (went_steps b n homes free free free free free free made at inner one p s (equation a (Comp f (moved_all n us)) ∷ es) (equation a (Comp f (moved_all n us)) ∷ es) es (omega arith) (inl refl) (omega arith) (inl refl) d.went taken).0
-
-  pub get_went : (made : List Bool) (at i free : ℕ) (t a : Term) (p : Places) (s : State) (es : List Equation) → At n homes made p s → s.owed ≡ 0 → Suits b.pool (length homes) t → i < free → (k : ℕ) → i ≤ k → Waits homes i k t → ((j : ℕ) → free ≤ j → Clear homes j)
-      → p.x i ≡ Some a → has s.regs i ≡ true → WentBy b n homes free free made at p s (equation a (moved n t) ∷ es) (get b.pool i free t) es
-  get_went made at i free (Var x) a p s es w o su l k m c cs e g = went_get_variable b n homes apart made at x i a p s es w o su e g free
-  get_went made at i free (Int z) a p s es w o su l k m c cs e g = went_get_integer b n homes apart made at z i a p s es w o e g free
-  get_went made at i free (Atom k) a p s es w o su l n' m c cs e g =
+  pub get_went : (made : List Bool) (at i free : ℕ) (t a : Term) (p : Places) (s : State) (es : List Equation) → At n homes made p s → s.owed ≡ 0 → Suits b.pool (length homes) t → i < free → ((j : ℕ) → free ≤ j → Clear homes j)
+      → Unknown p → EachUnder p.top (equation a (moved n t) ∷ es) → p.x i ≡ Some a → has s.regs i ≡ true → WentBy b n homes free free made at p s (equation a (moved n t) ∷ es) (get b.pool i free t) es
+  get_went made at i free (Var x) a p s es w o su l cs un sc e g = went_get_variable b n homes apart made at x i a p s es w o su e g free
+  get_went made at i free (Int z) a p s es w o su l cs un sc e g = went_get_integer b n homes apart made at z i a p s es w o e g free
+  get_went made at i free (Atom k) a p s es w o su l cs un sc e g =
       let h : HasAtom b.pool k = su in
       subst (λ x. Went b n homes free free made at (code_of homes made (get b.pool i free (Atom k))) p s (equation a (Atom x) ∷ es) made es) h.name (went_get_constant b n homes apart made at (atom_of b.pool k) i a p s es w o h.within e g free)
-  get_went made at i free (Comp f us) a p s es w o su l k m c cs e g = get_structure_went made at i free f us a p s es w o su.0 su.3 l (inner_spared homes b.pool made i k free (free + compounds us) us m c) cs e g
+  get_went made at i free (Comp f us) a p s es w o su l cs un sc e g = reading_went b n homes apart made at i free f us a p s es w o su.0 su.3 l cs un sc e g
 
   hold_kept : (p q : Places) (i : ℕ) (ts : Terms) → ((j : ℕ) → i ≤ j → j < i + term_count ts → q.x j ≡ p.x j) → Hold p i ts → Hold q i ts
   hold_kept p q i no_terms h g = tt
   hold_kept p q i (term t ts) h g = (h i (omega arith) (omega arith) ∙ g.0, hold_kept p q (suc i) ts (λ j l m. h j (omega (arith, l)) (omega (arith, m))) g.1)
 
   pub gets_went : (made : List Bool) (at i free : ℕ) (ts as' : Terms) (p : Places) (s : State) (es : List Equation) → At n homes made p s → s.owed ≡ 0 → AllSuit b.pool (length homes) ts → term_count as' ≡ term_count ts → i + term_count ts ≤ free
-      → (last : ℕ) → i + term_count ts ≤ suc last → AllWait homes i last ts → ((j : ℕ) → free ≤ j → Clear homes j) → Hold p i as' → AreCells s i ts
+      → (last : ℕ) → i + term_count ts ≤ suc last → AllWait homes i last ts → ((j : ℕ) → free ≤ j → Clear homes j) → Unknown p → EachUnder p.top (paired as' (moved_all n ts) ++ es) → Hold p i as' → AreCells s i ts
       → WentBy b n homes free free made at p s (paired as' (moved_all n ts) ++ es) (gets b.pool i free ts) es
-  gets_went made at i free no_terms no_terms p s es w o su k l last up ca cs h g = went_nothing b n homes free free made at p s es w o
-  gets_went made at i free no_terms (term a as') p s es w o su k l last up ca cs h g = absurd (omega (arith, k))
-  gets_went made at i free (term t ts) no_terms p s es w o su k l last up ca cs h g = absurd (omega (arith, k))
-  gets_went made at i free (term t ts) (term a as') p s es w o su k l last up ca cs h g =
+  gets_went made at i free no_terms no_terms p s es w o su k l last up ca cs un sc h g = went_nothing b n homes free free made at p s es w o
+  gets_went made at i free no_terms (term a as') p s es w o su k l last up ca cs un sc h g = absurd (omega (arith, k))
+  gets_went made at i free (term t ts) no_terms p s es w o su k l last up ca cs un sc h g = absurd (omega (arith, k))
+  gets_went made at i free (term t ts) (term a as') p s es w o su k l last up ca cs un sc h g =
       let one : List Step = get b.pool i free t in
       let others : List Step = gets b.pool (suc i) free ts in
       let later : List Equation = paired as' (moved_all n ts) ++ es in
-      let x = get_went made at i free t a p s later w o su.0 (omega (arith, l)) last (omega (arith, up)) ca.0 cs h.0 (g i (omega arith) (omega arith)) in
+      let x = get_went made at i free t a p s later w o su.0 (omega (arith, l)) cs un sc h.0 (g i (omega arith) (omega arith)) in
       let kept : Hold x.q (suc i) as' = hold_kept p x.q (suc i) as' (λ j m y. x.keeps.xs j (get_spared homes b.pool j made i last free t (omega (arith, m)) (omega (arith, y, k, up)) ca.0) (omega (arith, y, l, k)) (λ e. omega (arith, e, y, l, k))) h.1 in
-      let z = gets_went (marked_by_all made one) (past at (code_of homes made one)) (suc i) free ts as' x.q x.t es x.there x.owed su.1 (omega (arith, k)) (omega (arith, l)) last (omega (arith, up)) ca.1 cs kept (λ j m y. x.keeps.regs j (g j (omega (arith, m)) (omega (arith, y)))) in
+      let z = gets_went (marked_by_all made one) (past at (code_of homes made one)) (suc i) free ts as' x.q x.t es x.there x.owed su.1 (omega (arith, k)) (omega (arith, l)) last (omega (arith, up)) ca.1 cs (x.keeps.grown.unknown un) (under_more p.top x.q.top later x.keeps.grown.top sc.1) kept (λ j m y. x.keeps.regs j (g j (omega (arith, m)) (omega (arith, y)))) in
       (went_steps b n homes free free free free free free made at one others p s (equation a (moved n t) ∷ later) later es (omega arith) (inl refl) (omega arith) (inl refl) x z).0

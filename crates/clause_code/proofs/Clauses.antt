@@ -4,14 +4,15 @@ use Rattle.std.proofs.lemmas.Bool.{cases_eq, cases_lt, true≢false}
 use Rattle.std.proofs.lemmas.List.{get_or-replicate, length-replicate, length-append}
 use Rattle.std.proofs.lemmas.Option.{slice_get-get_or}
 use Rattle.fd_language.specs.Family.{has}
-use Rattle.fd_language.specs.Term.{Terms, Var, Atom, no_terms, term, term_count}
+use Rattle.fd_language.specs.Term.{Term, Terms, Var, Int, Atom, Comp, no_terms, term, term_count}
 use Rattle.fd_language.specs.Unifier.{Equation}
 use Rattle.fd_model.specs.Goal as goal
 use Rattle.fd_model.specs.Goal.{Goal, Clause, Query, marked_all}
 use Rattle.fd_model.specs.Renaming.{rename_goal}
 use Rattle.fd_model.specs.Constraining.{arguments}
 use Rattle.fd_model.specs.Children.{paired}
-use Rattle.term_pool.specs.Contents.{atom_name}
+use Rattle.machine_relation.specs.Heap.{Of, AllOf}
+use Rattle.term_pool.specs.Contents.{Contents, atom_name}
 use Rattle.wam_code.specs.declared.instruction.Register.{Register}
 use Rattle.wam_code.specs.declared.instruction.Register.TheVariants.{Y}
 use Rattle.wam_code.specs.declared.instruction.Code.{Code}
@@ -23,16 +24,17 @@ use Rattle.wam_code.specs.Places.{Depth, no_depth, Places, put_at, read, no_slot
 use Rattle.wam_code.specs.Means.{Caller, Shows, Means}
 use Rattle.wam_code.specs.Tries.{IsBefore}
 use Rattle.wam_code.proofs.Lemmas.{covers_self, put_here, put_else}
-use Rattle.machine_relation.proofs.Lemmas.{functions}
+use Rattle.machine_relation.proofs.Lemmas.{functions, more_all}
 use Rattle.clause_code.specs.Pieces.{Base, Predicate, past, Does, Ends}
 use Rattle.clause_code.specs.Safe.{unplaced, aims, is_plain, IsThereIn, IsSafePiece, IsClauseCode, IsQueryPiece}
 use Rattle.clause_code.specs.Flowing.{is_inner, Runs, Flows, MayEnter}
-use Rattle.clause_code.specs.Steps.{home, is_made, marked_by_all, code_of, gets, puts, fills, filled, AllSuit}
+use Rattle.clause_code.specs.Steps.{home, is_made, marked_by_all, code_of, gets, puts, fills, filled, Suits, AllSuit}
 use Rattle.clause_code.specs.Bodies.{Levels, HasDepths, AreFree, between_goals, InBody, IsRest, IsGoalsCode}
 use Rattle.clause_code.specs.Whole.{front, back, unmade, head_code, level_codes, levels_code, levels_behind, no_levels, IsHoused}
 use Rattle.clause_code.specs.ArgumentHomes.{AllWait}
 use Rattle.clause_code.proofs.Pieces.{does_both, does_allocate, ends_behind, ends_proceed, ends_execute, ends_answer, does_deallocate}
-use Rattle.clause_code.proofs.Making.{AreApart, KeepsSlots, has_more}
+use Rattle.clause_code.proofs.Making.{AreApart, Unknown, KeepsSlots, has_more}
+use Rattle.clause_code.proofs.Restating.{EachUnder}
 use Rattle.clause_code.proofs.Leveling.{levels_done, levels_run}
 use Rattle.clause_code.proofs.Going.{when_true, both, plain_of, moved, moved_all, count_moved, AllMade, At, Went, went_both, runs_both}
 use Rattle.clause_code.proofs.Building.{gets_went, PutAllBy, puts_put}
@@ -107,7 +109,35 @@ pub record Start (b : Base) (homes : List Register) (framed : Bool) (l : Levels)
   pub rested : IsRest homes framed l rest
   pub flows : Flows b at is first rest
   pub enters : MayEnter is
-  pub does : (n : ℕ) (as' : Terms) (d : Depth) (p : Places) → term_count as' ≡ term_count ts → Hold p 1 as' → p.noted ≡ Some d → IsBefore p n (length homes) → Begun b homes l at is ts n as' d p
+  pub does : (n : ℕ) (as' : Terms) (d : Depth) (p : Places) → term_count as' ≡ term_count ts → AllOf (λ v. v < n) as' → Hold p 1 as' → p.noted ≡ Some d → IsBefore p n (length homes) → Begun b homes l at is ts n as' d p
+
+-- ---- the equations of a head
+
+mutual
+  moved_under : (c : Contents) (n v k : ℕ) → n + v ≤ k → (t : Term) → Suits c v t → Of (λ x. x < k) (moved n t)
+  moved_under c n v k l (Var x) s = omega (arith, l, s)
+  moved_under c n v k l (Int z) s = tt
+  moved_under c n v k l (Atom a) s = tt
+  moved_under c n v k l (Comp f ts) s = all_moved_under c n v k l ts s.3
+
+  all_moved_under : (c : Contents) (n v k : ℕ) → n + v ≤ k → (ts : Terms) → AllSuit c v ts → AllOf (λ x. x < k) (moved_all n ts)
+  all_moved_under c n v k l no_terms s = tt
+  all_moved_under c n v k l (term t ts) s = (moved_under c n v k l t s.0, all_moved_under c n v k l ts s.1)
+
+paired_under : (k : ℕ) (as' ts : Terms) → AllOf (λ x. x < k) as' → AllOf (λ x. x < k) ts → EachUnder k (paired as' ts ++ [])
+paired_under k no_terms ts h g = tt
+paired_under k (term a as') no_terms h g = tt
+paired_under k (term a as') (term t ts) h g = ((h.0, g.0), paired_under k as' ts h.1 g.1)
+
+-- Their variables are those before the clause and the clause's own.
+head_under : (c : Contents) (p : Places) (n v : ℕ) (as' ts : Terms) → IsBefore p n v → AllOf (λ x. x < n) as' → AllSuit c v ts → EachUnder p.top (paired as' (moved_all n ts) ++ [])
+head_under c p n v as' ts before h s =
+    let e = before.top in
+    paired_under p.top as' (moved_all n ts) (more_all (λ x. x < n) (λ x. x < p.top) (λ x o. omega (arith, o, e)) as' h) (all_moved_under c n v p.top (omega (arith, e)) ts s)
+
+-- and none that is still to come is known
+before_unknown : (p : Places) (n v : ℕ) → IsBefore p n v → Unknown p
+before_unknown p n v before i l = let e = before.top in before.fresh i (omega (arith, l, e))
 
 is_unmade : (homes : List Register) (x : ℕ) → x < length homes → is_made (unmade homes) x ≡ false
 is_unmade homes x l = get_or-replicate (length homes) x false true l
@@ -160,15 +190,15 @@ module _ (b : Base) (homes : List Register) (framed : Bool) (slots k free : ℕ)
     owed : t.owed ≡ 0
     shape : has_frame t.frame ≡ has_frame (first_frame framed slots)
 
-  headed : (n at : ℕ) (as' : Terms) (p : Places) → term_count as' ≡ term_count ts → Hold p 1 as' → IsBefore p n (length homes) → Headed n at as' p
-  headed n at as' p size hold before =
+  headed : (n at : ℕ) (as' : Terms) (p : Places) → term_count as' ≡ term_count ts → AllOf (λ v. v < n) as' → Hold p 1 as' → IsBefore p n (length homes) → Headed n at as' p
+  headed n at as' p size below hold before =
       let made0 : List Bool = unmade homes in
       let s0 : State = first_state framed slots (term_count ts) in
       let heads : List Code = code_of homes made0 (gets b.pool 1 free ts) in
       let mid : List Bool = marked_by_all made0 (gets b.pool 1 free ts) in
       let es : List Equation = paired as' (moved_all n ts) in
       let above : k < free = housed.above in
-      let a0 = gets_went b n homes housed.apart made0 at 1 free ts as' p s0 [] (at_first n p before) refl suit size (omega (arith, above, few)) (term_count ts) (omega arith) waits housed.clear hold (λ j l m. firsts_have (term_count ts) j l (omega (arith, m))) in
+      let a0 = gets_went b n homes housed.apart made0 at 1 free ts as' p s0 [] (at_first n p before) refl suit size (omega (arith, above, few)) (term_count ts) (omega arith) waits housed.clear (before_unknown p n (length homes) before) (head_under b.pool p n (length homes) as' ts before below suit) hold (λ j l m. firsts_have (term_count ts) j l (omega (arith, m))) in
       let a : Went b n homes free free made0 at heads p s0 es mid [] = subst (λ e. Went b n homes free free made0 at heads p s0 e mid []) (append-nil es) a0 in
       let f = fills_went b n homes housed.apart mid (past at heads) free free (length homes) a.q a.t [] a.there a.owed (omega arith) (housed.clear free (omega arith)) (omega arith) in
       let w = went_both b n homes free free free free free free made0 mid (filled mid (length homes)) at heads (fills homes free mid (length homes)) p s0 es [] [] (omega arith) (inl refl) (omega arith) (inl refl) a f in
@@ -196,6 +226,11 @@ atoms_count : (ts : Terms) → term_count (atoms ts) ≡ term_count ts
 unfolding atoms
 atoms_count no_terms = refl
 atoms_count (term t ts) = ap suc (atoms_count ts)
+
+atoms_under : (n : ℕ) (ts : Terms) → AllOf (λ v. v < n) (atoms ts)
+unfolding atoms
+atoms_under n no_terms = tt
+atoms_under n (term t ts) = (tt, atoms_under n ts)
 
 abbrev some_place : ℕ → Places
 some_place v = record { x = λ i. Some (Atom []); y = λ i. None; levels = nothing_held; noted = None; known = λ x. false; own = v; top = v }
@@ -238,7 +273,7 @@ no_depths d = record { cut = λ c. absurd (let z = c.1 in omega (arith, z)); oth
 -- The code of a head without a frame.
 pub start_short : (b : Base) (homes : List Register) (slots k free at : ℕ) (ts : Terms) → IsHoused homes false slots k free → AllSuit b.pool (length homes) ts → term_count ts ≤ k → AllWait homes 1 (term_count ts) ts → Start b homes false no_levels at (head_code b.pool homes free ts) ts
 start_short b homes slots k free at ts housed suit few waits =
-    let h = headed b homes false slots k free housed ts suit few waits 0 at (atoms ts) (some_place (length homes)) (atoms_count ts) (atoms_hold (length homes) 1 ts) (some_before (length homes)) in
+    let h = headed b homes false slots k free housed ts suit few waits 0 at (atoms ts) (some_place (length homes)) (atoms_count ts) (atoms_under 0 ts) (atoms_hold (length homes) 1 ts) (some_before (length homes)) in
     record {
       first = before_frame (term_count ts);
       rest = h.t;
@@ -246,7 +281,7 @@ start_short b homes slots k free at ts housed suit few waits =
       rested = record { set = h.set; levels = λ j a z. absurd (omega (arith, z)); owed = h.owed; frame = h.shape; regs = λ e. absurd (true≢false (sym e)) };
       flows = flows_runs b at (head_code b.pool homes free ts) (before_frame (term_count ts)) h.t h.runs;
       enters = enters_runs b (head_code b.pool homes free ts) (before_frame (term_count ts)) h.t h.runs;
-      does = λ n as' d p size hold noted before. let g = headed b homes false slots k free housed ts suit few waits n at as' p size hold before in record { q = g.q; depths = nothing_held; has = no_depths d; there = g.there; does = g.does };
+      does = λ n as' d p size below hold noted before. let g = headed b homes false slots k free housed ts suit few waits n at as' p size below hold before in record { q = g.q; depths = nothing_held; has = no_depths d; there = g.there; does = g.does };
     }
 
 -- The code of a head with a frame, and then its level slots, so many, are set.
@@ -302,7 +337,7 @@ module _ (b : Base) (homes : List Register) (slots k free at : ℕ) (ts : Terms)
 
   pub start_framed : Start b homes true l at (front true slots ++ (heads ++ levels_code l)) ts
   start_framed =
-      let h = headed b homes true slots k free housed ts suit few waits 0 (suc at) (atoms ts) (some_place (length homes)) (atoms_count ts) (atoms_hold (length homes) 1 ts) (some_before (length homes)) in
+      let h = headed b homes true slots k free housed ts suit few waits 0 (suc at) (atoms ts) (some_place (length homes)) (atoms_count ts) (atoms_under 0 ts) (atoms_hold (length homes) 1 ts) (some_before (length homes)) in
       let r = levels_run b many l.first h.t h.owed (free_slot h.t h.slots_kept) in
       let rest : State = record r.t { regs = [] } in
       let cover : Covers r.t rest = record { frame = refl; owed = refl; regs = λ n e. absurd (true≢false (sym e)) } in
@@ -324,13 +359,13 @@ module _ (b : Base) (homes : List Register) (slots k free at : ℕ) (ts : Terms)
         };
         flows = runs_less b at (Allocate slots) (heads ++ levels_code l) (before_frame (term_count ts)) r.t rest runs cover;
         enters = enters_runs b (Allocate slots ∷ (heads ++ levels_code l)) (before_frame (term_count ts)) r.t runs;
-        does = λ n as' d p size hold noted before. begun n as' d p size hold noted before;
+        does = λ n as' d p size below hold noted before. begun n as' d p size below hold noted before;
       }
     where
-      begun : (n : ℕ) (as' : Terms) (d : Depth) (p : Places) → term_count as' ≡ term_count ts → Hold p 1 as' → p.noted ≡ Some d → IsBefore p n (length homes) → Begun b homes l at (front true slots ++ (heads ++ levels_code l)) ts n as' d p
-      begun n as' d p size hold noted before =
+      begun : (n : ℕ) (as' : Terms) (d : Depth) (p : Places) → term_count as' ≡ term_count ts → AllOf (λ v. v < n) as' → Hold p 1 as' → p.noted ≡ Some d → IsBefore p n (length homes) → Begun b homes l at (front true slots ++ (heads ++ levels_code l)) ts n as' d p
+      begun n as' d p size below hold noted before =
           let before' : IsBefore (no_slots p) n (length homes) = record { known = before.known; fresh = before.fresh; own = before.own; top = before.top } in
-          let g = headed b homes true slots k free housed ts suit few waits n (suc at) as' (no_slots p) size (hold_slots p 1 as' hold) before' in
+          let g = headed b homes true slots k free housed ts suit few waits n (suc at) as' (no_slots p) size below (hold_slots p 1 as' hold) before' in
           let w = levels_done b (past (suc at) heads) many l.first d g.q (g.noted ∙ noted) in
           let es : List Equation = paired as' (moved_all n ts) in
           record {
@@ -500,7 +535,7 @@ whole_clause b homes framed l at c is js ks i gs hs size body start goals tail =
       means = λ area base stand n as' d after shown p count' below hold noted before.
           let w : Caller = record { goals = after; shown = shown } in
           let before' : IsBefore p n (length homes) = subst (IsBefore p n) size before in
-          let begun = start.does n as' d p count' hold noted before' in
+          let begun = start.does n as' d p count' below hold noted before' in
           let rest : List Goal = marked_all d.branches (map (rename_goal (λ x. n + x)) hs) ++ after in
           let all : List Goal = marked_all d.branches (map (rename_goal (λ x. n + x)) gs) ++ rest in
           let done = goals.does start.rest start.rested n begun.depths d begun.has begun.q rest begun.there in
@@ -570,7 +605,7 @@ whole_query b homes l at q is js size slots start goals =
       means = λ area base stand p noted before.
           let w : Caller = record { goals = []; shown = q.shown } in
           let before' : IsBefore p 0 (length homes) = subst (IsBefore p 0) size before in
-          let begun = start.does 0 no_terms no_depth p refl tt noted before' in
+          let begun = start.does 0 no_terms no_depth p refl tt tt noted before' in
           let all : List Goal = marked_all 0 (map (rename_goal (λ x. 0 + x)) q.goals) ++ [] in
           let done = goals.does rest start.rested 0 begun.depths no_depth begun.has begun.q [] begun.there in
           let run : Does b at (is ++ js) p [] all done.q [] [] = does_both b at is js p begun.q done.q [] [] [] all all [] (begun.does all) done.does in

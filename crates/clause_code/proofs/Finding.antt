@@ -4,7 +4,7 @@ use Rattle.std.proofs.lemmas.Bool.{cases_eq}
 use Rattle.std.proofs.lemmas.List.Elements.{All-append}
 use Rattle.fd_language.specs.Term.{Name, Term, Terms, Var, Comp, no_terms, term, term_count}
 use Rattle.machine_relation.specs.Heap.{Of, AllOf}
-use Rattle.machine_relation.proofs.Lemmas.{more_all}
+use Rattle.machine_relation.proofs.Lemmas.{more_of}
 use Rattle.term_pool.specs.declared.TermId.{TermId}
 use Rattle.term_pool.specs.Contents.{Contents, comp}
 use Rattle.term_pool.specs.Terms.{term_of, terms_by, shape_term, total_size}
@@ -14,7 +14,7 @@ use Rattle.wam_code.specs.declared.instruction.Register.TheVariants.{X}
 use Rattle.clause_code.specs.Short.{InRegisters}
 use Rattle.clause_code.specs.Simple.{IsOwn}
 use Rattle.clause_code.specs.Steps.{home, Suits, AllSuit}
-use Rattle.clause_code.specs.ArgumentHomes.{IsOutside, PartWaits, PartsWait, Waits, AllWait, Lands, AllLand, nth, MayStay, Stayed, MovedBack, Leaves, AreHomes}
+use Rattle.clause_code.specs.ArgumentHomes.{IsOutside, Waits, AllWait, Lands, AllLand, nth, MayStay, Stayed, MovedBack, Leaves, AreHomes}
 use Rattle.clause_code.proofs.Rests.{rest, rest_cons}
 
 -- ---- homes that move back
@@ -39,22 +39,8 @@ outside_still old new first least last x b m o i l n k e =
       | inr back ↦ let d : X (first + x) ≡ X i = sym back ∙ e in let z : first + x ≡ i = cc in omega (arith, z, k, b)
     ]
 
-all_still : (old new : List Register) (first least last : ℕ) → last < first → MovedBack old new first → (ts : Terms) → AllOf (IsOutside old least last) ts → AllOf (IsOutside new least last) ts
-all_still old new first least last b m ts h = more_all (IsOutside old least last) (IsOutside new least last) (λ x o. outside_still old new first least last x b m o) ts h
-
-part_still : (old new : List Register) (first j last : ℕ) → last < first → MovedBack old new first → (t : Term) → PartWaits old j last t → PartWaits new j last t
-part_still old new first j last b m (Var x) h = outside_still old new first (suc j) last x b m h
-part_still old new first j last b m (Comp f us) h = all_still old new first j last b m us h
-part_still old new first j last b m _ h = tt
-
-parts_still : (old new : List Register) (first j last : ℕ) → last < first → MovedBack old new first → (ts : Terms) → PartsWait old j last ts → PartsWait new j last ts
-parts_still old new first j last b m no_terms h = tt
-parts_still old new first j last b m (term t ts) h = (part_still old new first j last b m t h.0, parts_still old new first j last b m ts h.1)
-
 argument_still : (old new : List Register) (first j last : ℕ) → last < first → MovedBack old new first → (t : Term) → Waits old j last t → Waits new j last t
-argument_still old new first j last b m (Var x) h = outside_still old new first (suc j) last x b m h
-argument_still old new first j last b m (Comp f us) h = parts_still old new first j last b m us h
-argument_still old new first j last b m _ h = tt
+argument_still old new first j last b m t h = more_of (IsOutside old (suc j) last) (IsOutside new (suc j) last) (λ x o. outside_still old new first (suc j) last x b m o) t h
 
 -- ---- a walk
 
@@ -118,18 +104,23 @@ pub record Walking (c : Contents) (least last first : ℕ) (before : List Regist
   pub outside : (h : List Register) → MovedBack homes h first → AllOf (IsOutside h least last) (terms_by (term_of c) terms) → AllOf (IsOutside h least last) (terms_by (term_of c) all)
   pub own : All (IsOwn c (length homes)) terms
 
--- ---- the arguments of a structure, and of a head, one after the other
+-- ---- the arguments of a head, one after the other
 
-pub record Waiting (c : Contents) (register last first : ℕ) (ids : List TermId) (before homes : List Register) (i : ℕ) : Type 0 where
-  pub back : MovedBack before homes first
-  pub waits : (h : List Register) → MovedBack homes h first → PartsWait h register last (rest c ids i) → PartsWait h register last (terms_by (term_of c) ids)
+-- one argument alone is walked
+pub one_own : (c : Contents) (v : ℕ) (old new : List TermId) (t : TermId) → old ≡ [] → new ≡ old ++ (t ∷ []) → IsOwn c v t → All (IsOwn c v) new
+one_own c v old new t none e own =
+    let same : new ≡ t ∷ [] = e ∙ ap (λ l. l ++ (t ∷ [])) none in
+    subst (All (IsOwn c v)) (sym same) (λ k d l. one k d l)
+  where
+    one : (k : ℕ) (d : TermId) → k < length (t ∷ []) → IsOwn c v (get_or (t ∷ []) k d)
+    one zero d l = own
+    one (suc k) d l = absurd (omega (arith, l))
 
-pub waiting_next : (c : Contents) (register last first : ℕ) (ids : List TermId) (before homes new : List Register) (i : ℕ) (d : TermId) → last < first → i < length ids → MovedBack homes new first → PartWaits new register last (term_of c (get_or ids i d))
-    → Waiting c register last first ids before homes i → Waiting c register last first ids before new (i + 1)
-waiting_next c register last first ids before homes new i d b l m p w = record {
-  back = moved_both before homes new first w.back m;
-  waits = λ h n r. w.waits h (moved_both homes new h first m n) (subst (PartsWait h register last) (sym (rest_cons c ids i d l)) (part_still new h first register last b n (term_of c (get_or ids i d)) p, r));
-}
+pub one_waits : (c : Contents) (homes : List Register) (old new : List TermId) (t : TermId) (least j last : ℕ) → old ≡ [] → new ≡ old ++ (t ∷ []) → least ≡ suc j → AllOf (IsOutside homes least last) (terms_by (term_of c) new) → Waits homes j last (term_of c t)
+one_waits c homes old new t least j last none e m h =
+    let same : new ≡ t ∷ [] = e ∙ ap (λ l. l ++ (t ∷ [])) none in
+    let all : AllOf (IsOutside homes least last) (terms_by (term_of c) (t ∷ [])) = subst (λ l. AllOf (IsOutside homes least last) (terms_by (term_of c) l)) same h in
+    subst (λ n. Of (IsOutside homes n last) (term_of c t)) m all.0
 
 pub record HeadWaiting (c : Contents) (last first : ℕ) (ids : List TermId) (before homes : List Register) (register i : ℕ) : Type 0 where
   pub back : MovedBack before homes first

@@ -16,7 +16,7 @@ use Rattle.clause_code.specs.Flowing.{Runs}
 use Rattle.clause_code.specs.Steps.{Step, is_made, marked_by, marked_by_all, instructions, code_of}
 use Rattle.wam_code.proofs.Lemmas.{put_else}
 use Rattle.clause_code.proofs.Pieces.{does_nothing, does_both}
-use Rattle.clause_code.proofs.Making.{Spared, Grows, KeepsDepths, depths_same, depths_both, KeepsSlots, Fits, Tracks}
+use Rattle.clause_code.proofs.Making.{Spared, Grows, KeepsDepths, depths_same, depths_both, Grown, grown_same, grown_both, KeepsSlots, Fits, Tracks}
 
 -- ---- single instructions
 
@@ -84,6 +84,7 @@ pub record Keeps (homes : List Register) (r free : ℕ) (made later : List Bool)
   pub more : Grows homes made later
   pub depths : KeepsDepths homes p q
   pub slots : KeepsSlots homes s t
+  pub grown : Grown p q
 
 -- A piece leads from places, a state and equations to others, with more variables made.
 pub record Went (b : Base) (n : ℕ) (homes : List Register) (r free : ℕ) (made : List Bool) (at : ℕ) (is : List Code) (p : Places) (s : State) (es : List Equation) (later : List Bool) (ds : List Equation) : Type 0 where
@@ -110,6 +111,7 @@ pub record Gave (b : Base) (n : ℕ) (homes : List Register) (made : List Bool) 
   pub more : Grows homes made later
   pub depths : KeepsDepths homes p q
   pub slots : KeepsSlots homes s t
+  pub grown : Grown p q
 
 keeps_less : (homes : List Register) (r free r' free' : ℕ) (made later : List Bool) (p q : Places) (s t : State) → free ≤ free' → (r' ≡ r) ⊎ (free ≤ r') → Keeps homes r' free' made later p q s t → Keeps homes r free made later p q s t
 keeps_less homes r free r' free' made later p q s t l o f = record {
@@ -120,6 +122,7 @@ keeps_less homes r free r' free' made later p q s t l o f = record {
   more = f.more;
   depths = f.depths;
   slots = f.slots;
+  grown = f.grown;
 }
   where
     other : (r' ≡ r) ⊎ (free ≤ r') → (i : ℕ) → i < free → (i ≡ r → ⊥) → i ≡ r' → ⊥
@@ -135,11 +138,12 @@ keeps_both homes r free made mid later p q w s t u f g = record {
   more = λ x l e. g.more x l (f.more x l e);
   depths = depths_both homes p q w f.depths g.depths;
   slots = λ k c. g.slots k c ∙ f.slots k c;
+  grown = grown_both p q w f.grown g.grown;
 }
 
 module _ (b : Base) (n : ℕ) (homes : List Register) where
   pub went_nothing : (r free : ℕ) (made : List Bool) (at : ℕ) (p : Places) (s : State) (es : List Equation) → At n homes made p s → s.owed ≡ 0 → Went b n homes r free made at [] p s es made es
-  went_nothing r free made at p s es a o = record { q = p; t = s; does = λ gs. does_nothing b at p es gs; runs = refl; there = a; owed = o; keeps = record { xs = λ i c l d. refl; regs = λ i e. e; frame = λ a. refl; shape = refl; more = λ x l e. e; depths = depths_same homes p; slots = λ k c. refl } }
+  went_nothing r free made at p s es a o = record { q = p; t = s; does = λ gs. does_nothing b at p es gs; runs = refl; there = a; owed = o; keeps = record { xs = λ i c l d. refl; regs = λ i e. e; frame = λ a. refl; shape = refl; more = λ x l e. e; depths = depths_same homes p; slots = λ k c. refl; grown = grown_same p } }
 
   -- One behind the other, where fewer registers are said to be kept.
   pub went_both : (r free r1 free1 r2 free2 : ℕ) (made mid later : List Bool) (at : ℕ) (is js : List Code) (p : Places) (s : State) (es ds cs : List Equation) → free ≤ free1 → (r1 ≡ r) ⊎ (free ≤ r1) → free ≤ free2 → (r2 ≡ r) ⊎ (free ≤ r2)

@@ -10,6 +10,7 @@ mod Numbers
 mod Going
 mod Sparing
 mod Stepping
+mod Reading
 mod Building
 mod Flowing
 mod Filling

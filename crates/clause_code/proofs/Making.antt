@@ -1,5 +1,5 @@
 -- Variables that are made one after the other, in registers of their own: what is kept of the places and of the states.
-use Rattle.std.proofs.Common.{◌≡◌, ℕ, zero, suc, ◌+◌, ◌<◌, Bool, true, false, ◌||◌, ◌==◌, List, [], ◌∷◌, Option, Some, None, option_map, length, slice_get, slice_set, refl, ap, sym, ◌∙◌, subst, arith, ne_eqb, if◌then◌else◌, inl, inr, length-set, get_or-set_same, get_or-set_other}
+use Rattle.std.proofs.Common.{◌≡◌, ℕ, zero, suc, ◌+◌, ◌<◌, ◌≤◌, Bool, true, false, ◌||◌, ◌==◌, List, [], ◌∷◌, Option, Some, None, option_map, length, slice_get, slice_set, refl, ap, sym, ◌∙◌, subst, arith, ne_eqb, if◌then◌else◌, inl, inr, length-set, get_or-set_same, get_or-set_other}
 use Rattle.std.proofs.lemmas.Bool.{cases_eq, true≢false}
 use Rattle.std.proofs.lemmas.Option.{slice_get-get_or, slice_get_within}
 use Rattle.fd_language.proofs.Lemmas.{first_member}
@@ -129,6 +129,32 @@ depths_written homes p x t l = by (home homes x) refl
     by (X j) e = record { levels = λ k c. refl; noted = refl }
     by (Y j) e = record { levels = λ k c. drop_else j p.levels k (λ d. c x l (e ∙ ap Y (sym d))); noted = refl }
 
+-- no variable from the top on is known
+abbrev pub Unknown : Places → Type 0
+Unknown p = (v : ℕ) → p.top ≤ v → p.known v ≡ false
+
+-- There are no fewer variables, and still none from the top on is known.
+pub record Grown (p q : Places) : Type 0 where
+  pub top : p.top ≤ q.top
+  pub unknown : Unknown p → Unknown q
+
+pub grown_same : (p : Places) → Grown p p
+grown_same p = record { top = omega arith; unknown = λ u. u }
+
+pub grown_both : (p q w : Places) → Grown p q → Grown q w → Grown p w
+grown_both p q w f g = record { top = let a = f.top in let b = g.top in omega (arith, a, b); unknown = λ u. g.unknown (f.unknown u) }
+
+-- a variable is made
+pub grown_learnt : (p : Places) (r : Register) (v : ℕ) (t : Term) → v < p.top → Grown p (write (learn p v) r t)
+grown_learnt p r v t l =
+    let same : (write (learn p v) r t).top ≡ p.top = write_top (learn p v) r t in
+    record {
+      top = omega (arith, same);
+      unknown = λ u i m.
+          let low : p.top ≤ i = omega (arith, same, m) in
+          ap (λ h. h i) (write_known (learn p v) r t) ∙ learnt_else v i p.known (λ e. omega (arith, e, low, l)) ∙ u i low;
+    }
+
 -- Slots that are no variable's stay as they are.
 abbrev pub KeepsSlots : List Register → State → State → Type 0
 KeepsSlots homes s t = (k : ℕ) → IsNoHome homes k → slot_at t.frame k ≡ slot_at s.frame k
@@ -190,6 +216,18 @@ module _ (n : ℕ) (homes : List Register) (made : List Bool) where
     held = λ y m e. read_else p (X i) (home homes y) t (clear y m) ∙ f.held y m e;
     fresh = λ y m e. f.fresh y m e;
     whole = λ j m all. f.whole j m all;
+    own = f.own;
+  }
+
+  -- A variable of the code's own is made, behind all others.
+  pub fits_own : (p : Places) → Fits n homes made p → (i m : ℕ) → p.top ≡ m → Clear homes i → Fits n homes made (write (learn (record p { top = suc m }) m) (X i) (Var m))
+  fits_own p f i m e clear = record {
+    held = λ y l h. read_else (learn (record p { top = suc m }) m) (X i) (home homes y) (Var m) (clear y l) ∙ f.held y l h;
+    fresh = λ y l h. let g = f.fresh y l h in let low = g.1 in (learnt_else m (n + y) p.known (λ s. omega (arith, s, low, e)) ∙ g.0, omega (arith, low, e));
+    whole = λ j l all. elim (cases_eq j m) [
+      | inl same ↦ subst (λ z. learnt m p.known z ≡ true) (sym same) (learnt_here m p.known)
+      | inr other ↦ learnt_else m j p.known other ∙ f.whole j (omega (arith, l, other, e)) all
+    ];
     own = f.own;
   }
 

@@ -14,7 +14,7 @@ use Rattle.wam_code.specs.declared.instruction.Code.{Code}
 use Rattle.wam_code.specs.declared.instruction.Code.TheVariants.{GetVariable, GetValue, GetConstant, GetInteger, UnifyVariable, UnifyValue, UnifyConstant, UnifyInteger, PutVariable, PutValue, PutConstant, PutInteger}
 use Rattle.wam_code.specs.Area.{Slot, State}
 use Rattle.wam_code.specs.Effect.{has_frame, with_cell, is_set, is_free, with_set, with_owed, effect}
-use Rattle.wam_code.specs.Places.{Places, read, write, learn, without}
+use Rattle.wam_code.specs.Places.{Places, read, write, learn, without, IsFresh}
 use Rattle.clause_code.specs.Pieces.{Base, Does, Parts}
 use Rattle.clause_code.specs.Safe.{unplaced, IsThereIn}
 use Rattle.clause_code.specs.Flowing.{is_simple}
@@ -22,7 +22,7 @@ use Rattle.clause_code.specs.Steps.{Step, get_variable, unify_variable, put_vari
 use Rattle.clause_code.specs.ArgumentHomes.{Lands}
 use Rattle.wam_code.proofs.Lemmas.{put_here, put_else}
 use Rattle.clause_code.proofs.Pieces.{equation, does_nothing, does_learn, does_get_variable, does_get_value, does_get_constant, does_get_integer, no_parts, part_variable, part_value, part_constant, part_integer, does_put_variable, does_put_value, does_put_constant, does_put_integer}
-use Rattle.clause_code.proofs.Making.{has_more, regs_more, made_here, made_still, Clear, Spared, Grows, clear_spared, AreApart, fits_made, fits_wrote, fits_without, tracks_made, tracks_stays, tracks_set, tracks_owed, KeepsDepths, depths_same, depths_both, depths_written, KeepsSlots, slots_set}
+use Rattle.clause_code.proofs.Making.{has_more, regs_more, made_here, made_still, Clear, Spared, Grows, clear_spared, AreApart, fits_made, fits_wrote, fits_without, tracks_made, tracks_stays, tracks_set, tracks_owed, KeepsDepths, depths_same, depths_both, depths_written, Grown, grown_same, grown_both, grown_learnt, KeepsSlots, slots_set}
 use Rattle.clause_code.proofs.Going.{when_true, both, plain_of, owing_of, owed_of_set, x_of_written, moved_all, AllMade, At, Keeps, Went, Gave}
 
 pub register_is : (r : Register) (a : ℕ) → is_register r a ≡ true → r ≡ X a
@@ -32,7 +32,7 @@ register_is (Y i) a h = absurd (true≢false (sym h))
 pub register_at : (r : Register) (a : ℕ) → r ≡ X a → is_register r a ≡ true
 register_at r a e = ap (λ z. is_register z a) e ∙ eq-eqb a a refl
 
-shape_of_set : (s : State) (r : Register) → has_frame (with_set s r).frame ≡ has_frame s.frame
+pub shape_of_set : (s : State) (r : Register) → has_frame (with_set s r).frame ≡ has_frame s.frame
 shape_of_set s (X i) = refl
 shape_of_set s (Y i) = by s.frame
   where
@@ -41,7 +41,7 @@ shape_of_set s (Y i) = by s.frame
     by (Some ss) = refl
 
 module _ (b : Base) (n : ℕ) (homes : List Register) (apart : AreApart homes) where
-  at_made : (made : List Bool) (p : Places) (s : State) → At n homes made p s → (x : ℕ) → x < length homes → is_made made x ≡ false → At n homes (slice_set made x true) (write (learn p (n + x)) (home homes x) (Var (n + x))) (with_set s (home homes x))
+  pub at_made : (made : List Bool) (p : Places) (s : State) → At n homes made p s → (x : ℕ) → x < length homes → is_made made x ≡ false → At n homes (slice_set made x true) (write (learn p (n + x)) (home homes x) (Var (n + x))) (with_set s (home homes x))
   at_made made p s a x l e = record { fits = fits_made n homes made p apart a.long a.fits x l e; tracks = tracks_made homes made s apart a.long a.tracks x l e; long = length-set made x true ∙ a.long }
 
   at_stays : (made : List Bool) (p : Places) (s : State) → At n homes made p s → (x : ℕ) → x < length homes → is_made made x ≡ false → is_set s (home homes x) ≡ true → At n homes (slice_set made x true) (write (learn p (n + x)) (home homes x) (Var (n + x))) s
@@ -56,15 +56,19 @@ module _ (b : Base) (n : ℕ) (homes : List Register) (apart : AreApart homes) w
   pub at_without : (made : List Bool) (p : Places) (s : State) → At n homes made p s → (i : ℕ) → Clear homes i → At n homes made (without p i) s
   at_without made p s a i c = record { fits = fits_without n homes made p a.fits i c; tracks = a.tracks; long = a.long }
 
-  more_made : (made : List Bool) (x : ℕ) → x < length homes → length made ≡ length homes → Grows homes made (slice_set made x true)
+  pub more_made : (made : List Bool) (x : ℕ) → x < length homes → length made ≡ length homes → Grows homes made (slice_set made x true)
   more_made made x l e y m h = made_still made x y (subst (λ k. x < k) (sym e) l) h
 
   -- the depths are kept where a variable is made
-  made_depths : (p : Places) (x : ℕ) → x < length homes → KeepsDepths homes p (write (learn p (n + x)) (home homes x) (Var (n + x)))
+  pub made_depths : (p : Places) (x : ℕ) → x < length homes → KeepsDepths homes p (write (learn p (n + x)) (home homes x) (Var (n + x)))
   made_depths p x l = let k = depths_written homes (learn p (n + x)) x (Var (n + x)) l in record { levels = k.levels; noted = k.noted }
 
+  -- no fewer variables are there
+  pub made_grown : (p : Places) (x : ℕ) → IsFresh p (n + x) → Grown p (write (learn p (n + x)) (home homes x) (Var (n + x)))
+  made_grown p x f = grown_learnt p (home homes x) (n + x) (Var (n + x)) f.1
+
   -- a spared register is not the home of a variable that is made now
-  other_home : (made : List Bool) (x i : ℕ) → x < length homes → length made ≡ length homes → is_made made x ≡ false → Spared homes made (slice_set made x true) i → home homes x ≡ X i → ⊥
+  pub other_home : (made : List Bool) (x i : ℕ) → x < length homes → length made ≡ length homes → is_made made x ≡ false → Spared homes made (slice_set made x true) i → home homes x ≡ X i → ⊥
   other_home made x i l long e c h = true≢false (sym (c x l h (made_here made x (subst (λ k. x < k) (sym long) l))) ∙ e)
 
   -- ---- a head's argument
@@ -94,6 +98,7 @@ module _ (b : Base) (n : ℕ) (homes : List Register) (apart : AreApart homes) w
               more = more_made made x l w.long;
               depths = made_depths p x l;
               slots = λ k c. refl;
+              grown = made_grown p x (w.fits.fresh x l e);
             };
           }
       first false f e = record {
@@ -111,6 +116,7 @@ module _ (b : Base) (n : ℕ) (homes : List Register) (apart : AreApart homes) w
           more = more_made made x l w.long;
           depths = made_depths p x l;
           slots = slots_set homes s x l;
+          grown = made_grown p x (w.fits.fresh x l e);
         };
       }
 
@@ -122,7 +128,7 @@ module _ (b : Base) (n : ℕ) (homes : List Register) (apart : AreApart homes) w
         runs = (s, plain_of b (GetValue (home homes x) a) s o ∙ when_true _ s (both (has s.regs a) (is_set s (home homes x)) g (w.tracks.set x l e)), refl, tt, refl);
         there = w;
         owed = o;
-        keeps = record { xs = λ i c m d. refl; regs = λ i f. f; frame = λ f. refl; shape = refl; more = λ y m h. h; depths = depths_same homes p; slots = λ k c. refl };
+        keeps = record { xs = λ i c m d. refl; regs = λ i f. f; frame = λ f. refl; shape = refl; more = λ y m h. h; depths = depths_same homes p; slots = λ k c. refl; grown = grown_same p };
       }
       by false e = first (is_register r a) refl e
 
@@ -135,7 +141,7 @@ module _ (b : Base) (n : ℕ) (homes : List Register) (apart : AreApart homes) w
     runs = (s, plain_of b (GetConstant c a) s o ∙ when_true _ s g, refl, l, refl);
     there = w;
     owed = o;
-    keeps = record { xs = λ i c m d. refl; regs = λ i f. f; frame = λ f. refl; shape = refl; more = λ y m h. h; depths = depths_same homes p; slots = λ k c. refl };
+    keeps = record { xs = λ i c m d. refl; regs = λ i f. f; frame = λ f. refl; shape = refl; more = λ y m h. h; depths = depths_same homes p; slots = λ k c. refl; grown = grown_same p };
   }
 
   pub went_get_integer : (made : List Bool) (at : ℕ) (z : ℤ) (a : ℕ) (t : Term) (p : Places) (s : State) (es : List Equation) → At n homes made p s → s.owed ≡ 0 → p.x a ≡ Some t → has s.regs a ≡ true → (free : ℕ)
@@ -147,13 +153,13 @@ module _ (b : Base) (n : ℕ) (homes : List Register) (apart : AreApart homes) w
     runs = (s, plain_of b (GetInteger z a) s o ∙ when_true _ s g, refl, tt, refl);
     there = w;
     owed = o;
-    keeps = record { xs = λ i c m d. refl; regs = λ i f. f; frame = λ f. refl; shape = refl; more = λ y m h. h; depths = depths_same homes p; slots = λ k c. refl };
+    keeps = record { xs = λ i c m d. refl; regs = λ i f. f; frame = λ f. refl; shape = refl; more = λ y m h. h; depths = depths_same homes p; slots = λ k c. refl; grown = grown_same p };
   }
 
   -- ---- a goal's argument
 
   wrote_keeps : (made : List Bool) (p : Places) (s : State) (r free : ℕ) (t : Term) → Keeps homes r free made made p (write p (X r) t) s (with_set s (X r))
-  wrote_keeps made p s r free t = record { xs = λ i c m d. put_else r t p.x i d; regs = λ i f. has_more r i s.regs f; frame = λ f. refl; shape = refl; more = λ y m h. h; depths = record { levels = λ k c. refl; noted = refl }; slots = λ k c. refl }
+  wrote_keeps made p s r free t = record { xs = λ i c m d. put_else r t p.x i d; regs = λ i f. has_more r i s.regs f; frame = λ f. refl; shape = refl; more = λ y m h. h; depths = record { levels = λ k c. refl; noted = refl }; slots = λ k c. refl; grown = record { top = omega arith; unknown = λ u. u } }
 
   -- what a goal's argument leaves in its register
   pub record Put (r free : ℕ) (made : List Bool) (at : ℕ) (is : List Code) (p : Places) (s : State) (es : List Equation) (later : List Bool) (t : Term) : Type 0 where
@@ -177,7 +183,7 @@ module _ (b : Base) (n : ℕ) (homes : List Register) (apart : AreApart homes) w
       by : (d : Bool) → is_register (home homes x) r ≡ d → Put r free made at ((if d then [] else PutValue (home homes x) r ∷ []) ++ []) p s es made (Var (n + x))
       by true f =
           let same : home homes x ≡ X r = register_is (home homes x) r f in record {
-            went = record { q = p; t = s; does = λ gs. does_nothing b at p es gs; runs = refl; there = w; owed = o; keeps = record { xs = λ i c m d. refl; regs = λ i f. f; frame = λ f. refl; shape = refl; more = λ y m h. h; depths = depths_same homes p; slots = λ k c. refl } };
+            went = record { q = p; t = s; does = λ gs. does_nothing b at p es gs; runs = refl; there = w; owed = o; keeps = record { xs = λ i c m d. refl; regs = λ i f. f; frame = λ f. refl; shape = refl; more = λ y m h. h; depths = depths_same homes p; slots = λ k c. refl; grown = grown_same p } };
             here = subst (λ z. read p z ≡ Some (Var (n + x))) same (w.fits.held x l e);
             set = subst (λ z. is_set s z ≡ true) same (w.tracks.set x l e);
           }
@@ -216,6 +222,7 @@ module _ (b : Base) (n : ℕ) (homes : List Register) (apart : AreApart homes) w
             more = more_made made x l w.long;
             depths = record { levels = (made_depths p x l).levels; noted = (made_depths p x l).noted };
             slots = slots_set homes s x l;
+            grown = let g = made_grown p x (w.fits.fresh x l e) in record { top = g.top; unknown = g.unknown };
           };
         };
         here = put_here r (Var (n + x)) mid.x;
@@ -272,19 +279,20 @@ module _ (b : Base) (n : ℕ) (homes : List Register) (apart : AreApart homes) w
   registers_kept p q s t j (term (Comp k us) ts) h g f = (h j (omega arith) (omega arith) ∙ f.0, g j f.1, registers_kept p q s t (suc j) ts (λ i l m. h i (omega (arith, l)) (omega (arith, m))) g f.2)
 
   -- a unify instruction leads from a place to the next one
-  record Unified (made : List Bool) (p : Places) (s : State) (later : List Bool) (q : Places) (t : State) : Type 0 where
-    there : At n homes later q t
-    owed : t.owed ≡ s.owed - 1
-    xs : (i : ℕ) → Spared homes made later i → q.x i ≡ p.x i
-    regs : (i : ℕ) → has s.regs i ≡ true → has t.regs i ≡ true
-    frame : AllMade homes made → t.frame ≡ s.frame
-    shape : has_frame t.frame ≡ has_frame s.frame
-    more : Grows homes made later
-    depths : KeepsDepths homes p q
-    slots : KeepsSlots homes s t
+  pub record Unified (made : List Bool) (p : Places) (s : State) (later : List Bool) (q : Places) (t : State) : Type 0 where
+    pub there : At n homes later q t
+    pub owed : t.owed ≡ s.owed - 1
+    pub xs : (i : ℕ) → Spared homes made later i → q.x i ≡ p.x i
+    pub regs : (i : ℕ) → has s.regs i ≡ true → has t.regs i ≡ true
+    pub frame : AllMade homes made → t.frame ≡ s.frame
+    pub shape : has_frame t.frame ≡ has_frame s.frame
+    pub more : Grows homes made later
+    pub depths : KeepsDepths homes p q
+    pub slots : KeepsSlots homes s t
+    pub grown : Grown p q
 
-  unified_same : (made : List Bool) (p : Places) (s : State) → At n homes made p s → Unified made p s made p (with_owed s (s.owed - 1))
-  unified_same made p s w = record { there = at_owed made p s w (s.owed - 1); owed = refl; xs = λ i c. refl; regs = λ i e. e; frame = λ f. refl; shape = refl; more = λ y m h. h; depths = depths_same homes p; slots = λ k c. refl }
+  pub unified_same : (made : List Bool) (p : Places) (s : State) → At n homes made p s → Unified made p s made p (with_owed s (s.owed - 1))
+  unified_same made p s w = record { there = at_owed made p s w (s.owed - 1); owed = refl; xs = λ i c. refl; regs = λ i e. e; frame = λ f. refl; shape = refl; more = λ y m h. h; depths = depths_same homes p; slots = λ k c. refl; grown = grown_same p }
 
   -- the rest of the arguments behind one
   behind : (made mid later : List Bool) (at : ℕ) (i : Code) (is : List Code) (t : Term) (ts : Terms) (p q : Places) (s u : State) → Unified made p s mid q u → effect (unplaced b) i s ≡ Some u → IsTrue (is_simple i) → IsThereIn b i
@@ -303,6 +311,7 @@ module _ (b : Base) (n : ℕ) (homes : List Register) (apart : AreApart homes) w
     more = λ x l e. g.more x l (k.more x l e);
     depths = depths_both homes p q g.q k.depths g.depths;
     slots = λ i c. g.slots i c ∙ k.slots i c;
+    grown = grown_both p q g.q k.grown g.grown;
   }
 
   variable_part : (made : List Bool) (at x : ℕ) (ss : List Step) (ts : Terms) (p : Places) (s : State) (k : ℕ) → At n homes made p s → x < length homes → s.owed ≡ suc k
@@ -331,38 +340,39 @@ module _ (b : Base) (n : ℕ) (homes : List Register) (apart : AreApart homes) w
             more = more_made made x l w.long;
             depths = made_depths p x l;
             slots = slots_set homes (with_owed s (s.owed - 1)) x l;
+            grown = made_grown p x (w.fits.fresh x l e);
           } in
           behind made mid (marked_by_all mid ss) at (UnifyVariable (home homes x)) (code_of homes mid ss) (Var (n + x)) ts p q s u step
           (owing_of b (UnifyVariable (home homes x)) s k o ∙ when_true _ u (w.tracks.free x l e)) refl tt (rest mid q u step)
           (λ v g. part_variable b at (home homes x) (n + x) (code_of homes mid ss) ts p v (w.fits.fresh x l e) g)
 
   pub parts_gave : (made : List Bool) (at j : ℕ) (ts : Terms) (p : Places) (s : State) → At n homes made p s → AllSuit b.pool (length homes) ts → s.owed ≡ term_count ts → InRegisters p s j ts → ((i : ℕ) → j ≤ i → Clear homes i)
-      → Gave b n homes made at (code_of homes made (parts b.pool j ts)) p s (moved_all n ts) (marked_by_all made (parts b.pool j ts))
-  parts_gave made at j no_terms p s w o e g c = record { q = p; t = s; parts = no_parts b at p; runs = refl; there = w; owed = e; xs = λ i c. refl; regs = λ i h. h; frame = λ a. refl; shape = refl; more = λ y m h. h; depths = depths_same homes p; slots = λ k c. refl }
-  parts_gave made at j (term (Var x) ts) p s w o e g c = variable_part made at x (parts b.pool j ts) (moved_all n ts) p s (term_count ts) w o.0 e (λ mid q u k.
+      → Gave b n homes made at (code_of homes made (parts b.pool false j ts)) p s (moved_all n ts) (marked_by_all made (parts b.pool false j ts))
+  parts_gave made at j no_terms p s w o e g c = record { q = p; t = s; parts = no_parts b at p; runs = refl; there = w; owed = e; xs = λ i c. refl; regs = λ i h. h; frame = λ a. refl; shape = refl; more = λ y m h. h; depths = depths_same homes p; slots = λ k c. refl; grown = grown_same p }
+  parts_gave made at j (term (Var x) ts) p s w o e g c = variable_part made at x (parts b.pool false j ts) (moved_all n ts) p s (term_count ts) w o.0 e (λ mid q u k.
       parts_gave mid (suc at) j ts q u k.there o.1 (k.owed ∙ omega (arith, e)) (registers_kept p q s u j ts (λ i l m. k.xs i (clear_spared homes made mid i (c i l))) k.regs g) c)
   parts_gave made at j (term (Int z) ts) p s w o e g c =
       let u : State = with_owed s (s.owed - 1) in
       let k : Unified made p s made p u = unified_same made p s w in
       let m : u.owed ≡ term_count ts = omega (arith, e) in
-      let is : List Code = code_of homes made (parts b.pool j ts) in
-      behind made made (marked_by_all made (parts b.pool j ts)) at (UnifyInteger z) is (Int z) (moved_all n ts) p p s u k (owing_of b (UnifyInteger z) s (term_count ts) e) refl tt
+      let is : List Code = code_of homes made (parts b.pool false j ts) in
+      behind made made (marked_by_all made (parts b.pool false j ts)) at (UnifyInteger z) is (Int z) (moved_all n ts) p p s u k (owing_of b (UnifyInteger z) s (term_count ts) e) refl tt
       (parts_gave made (suc at) j ts p u k.there o.1 m (registers_kept p p s u j ts (λ i l m. refl) k.regs g) c)
       (λ v g. part_integer b at z is (moved_all n ts) p v g)
   parts_gave made at j (term (Atom a) ts) p s w o e g c =
       let u : State = with_owed s (s.owed - 1) in
       let k : Unified made p s made p u = unified_same made p s w in
       let m : u.owed ≡ term_count ts = omega (arith, e) in
-      let is : List Code = code_of homes made (parts b.pool j ts) in
+      let is : List Code = code_of homes made (parts b.pool false j ts) in
       let h : HasAtom b.pool a = o.0 in
-      behind made made (marked_by_all made (parts b.pool j ts)) at (UnifyConstant (atom_of b.pool a)) is (Atom a) (moved_all n ts) p p s u k (owing_of b (UnifyConstant (atom_of b.pool a)) s (term_count ts) e) refl h.within
+      behind made made (marked_by_all made (parts b.pool false j ts)) at (UnifyConstant (atom_of b.pool a)) is (Atom a) (moved_all n ts) p p s u k (owing_of b (UnifyConstant (atom_of b.pool a)) s (term_count ts) e) refl h.within
       (parts_gave made (suc at) j ts p u k.there o.1 m (registers_kept p p s u j ts (λ i l m. refl) k.regs g) c)
       (λ v g. subst (λ x. Parts b at (UnifyConstant (atom_of b.pool a) ∷ is) p (term (Atom x) (moved_all n ts)) v) h.name (part_constant b at (atom_of b.pool a) is (moved_all n ts) p v g))
   parts_gave made at j (term (Comp f us) ts) p s w o e g c =
       let u : State = with_owed s (s.owed - 1) in
       let k : Unified made p s made p u = unified_same made p s w in
       let m : u.owed ≡ term_count ts = omega (arith, e) in
-      let is : List Code = code_of homes made (parts b.pool (suc j) ts) in
-      behind made made (marked_by_all made (parts b.pool (suc j) ts)) at (UnifyValue (X j)) is (Comp f (moved_all n us)) (moved_all n ts) p p s u k (owing_of b (UnifyValue (X j)) s (term_count ts) e ∙ when_true _ u g.1) refl tt
+      let is : List Code = code_of homes made (parts b.pool false (suc j) ts) in
+      behind made made (marked_by_all made (parts b.pool false (suc j) ts)) at (UnifyValue (X j)) is (Comp f (moved_all n us)) (moved_all n ts) p p s u k (owing_of b (UnifyValue (X j)) s (term_count ts) e ∙ when_true _ u g.1) refl tt
       (parts_gave made (suc at) (suc j) ts p u k.there o.1 m (registers_kept p p s u (suc j) ts (λ i l m. refl) k.regs g.2) (λ i l. c i (omega (arith, l))))
       (λ v g'. part_value b at (X j) (Comp f (moved_all n us)) is (moved_all n ts) p v g.0 g')

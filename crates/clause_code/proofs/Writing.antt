@@ -11,7 +11,7 @@ use Rattle.term_pool.specs.Contents.{Contents, atom_name}
 use Rattle.term_pool.specs.Valid.{IsPool}
 use Rattle.wam_code.specs.declared.instruction.Register.{Register}
 use Rattle.wam_code.specs.declared.instruction.Code.{Code}
-use Rattle.clause_code.specs.Steps.{Step, get_variable, unify_variable, put_variable, marked_by, marked_by_all, code_of, place_in, atom_of}
+use Rattle.clause_code.specs.Steps.{Step, get_variable, unify_variable, put_variable, inner, inner_code, marked_by, marked_by_all, code_of, place_in, atom_of}
 use Rattle.clause_code.specs.Works.{Writes}
 use Rattle.clause_code.proofs.Going.{code_both, marked_both}
 
@@ -44,6 +44,11 @@ marked_by_all_long made (s ∷ ss) = marked_by_all_long (marked_by made s) ss �
 
 pub writes_long : (homes : List Register) (code new : List Code) (made later : List Bool) (ss : List Step) → Writes homes code made ss new later → length later ≡ length made
 writes_long homes code new made later ss w = ap length w.marks ∙ marked_by_all_long made ss
+
+-- a compound argument of a structure
+pub writes_inner : (homes : List Register) (code new : List Code) (made : List Bool) (read : Bool) (j : ℕ) (i : Code) → i ≡ inner_code read j → new ≡ code ++ (i ∷ []) → Writes homes code made (inner read j ∷ []) new made
+writes_inner homes code new made true j i e f = record { codes = f ∙ ap (λ x. code ++ (x ∷ [])) e; marks = refl }
+writes_inner homes code new made false j i e f = record { codes = f ∙ ap (λ x. code ++ (x ∷ [])) e; marks = refl }
 
 -- ---- atoms
 

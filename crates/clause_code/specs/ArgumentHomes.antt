@@ -1,7 +1,7 @@
 -- Variables that stay in argument registers: which homes suit a head, and which suit a goal.
 use Rattle.std.specs.Prelude.{◌≡◌, ◌⊎◌, ℕ, zero, suc, ◌+◌, ◌<◌, ◌≤◌, List, [], ◌∷◌, ◌++◌, Option, Some, None, All, length, slice_set}
-use Rattle.fd_language.specs.Term.{Term, Terms, Var, Int, Atom, Comp, no_terms, term, term_count}
-use Rattle.machine_relation.specs.Heap.{AllOf}
+use Rattle.fd_language.specs.Term.{Term, Terms, Var, no_terms, term, term_count}
+use Rattle.machine_relation.specs.Heap.{Of, AllOf}
 use Rattle.term_pool.specs.declared.TermId.{TermId}
 use Rattle.term_pool.specs.Contents.{Contents}
 use Rattle.term_pool.specs.Terms.{term_of, terms_by, total_size}
@@ -16,23 +16,9 @@ use Rattle.clause_code.specs.Steps.{home}
 abbrev pub IsOutside : List Register → ℕ → ℕ → ℕ → Type 0
 IsOutside homes least k x = (i : ℕ) → x < length homes → least ≤ i → i ≤ k → home homes x ≡ X i → ⊥
 
--- an argument of a structure that is read from the register j: what is built for it is built before the structure is read
-abbrev pub PartWaits : List Register → ℕ → ℕ → Term → Type 0
-PartWaits homes j k (Var x) = IsOutside homes (suc j) k x
-PartWaits homes j k (Int z) = Unit {0}
-PartWaits homes j k (Atom a) = Unit {0}
-PartWaits homes j k (Comp f us) = AllOf (IsOutside homes j k) us
-
-abbrev pub PartsWait : List Register → ℕ → ℕ → Terms → Type 0
-PartsWait homes j k no_terms = Unit {0}
-PartsWait homes j k (term t ts) = PartWaits homes j k t × PartsWait homes j k ts
-
 -- a head's argument in the register j: no variable of it is made in a register that is read later
 abbrev pub Waits : List Register → ℕ → ℕ → Term → Type 0
-Waits homes j k (Var x) = IsOutside homes (suc j) k x
-Waits homes j k (Int z) = Unit {0}
-Waits homes j k (Atom a) = Unit {0}
-Waits homes j k (Comp f us) = PartsWait homes j k us
+Waits homes j k t = Of (IsOutside homes (suc j) k) t
 
 -- The arguments of a head, from the register j on: each argument register, up to k, is read before it is a variable's home.
 abbrev pub AllWait : List Register → ℕ → ℕ → Terms → Type 0

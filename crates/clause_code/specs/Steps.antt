@@ -18,6 +18,7 @@ pub data Step : Type 0 where
   get_structure : AtomId → ℕ → ℕ → Step
   unify_variable : ℕ → Step
   unify_register : ℕ → Step
+  unify_new : ℕ → Step
   unify_constant : AtomId → Step
   unify_integer : ℤ → Step
   put_variable : ℕ → ℕ → Step
@@ -67,6 +68,7 @@ instructions homes made (get_integer z a) = GetInteger z a ∷ []
 instructions homes made (get_structure f n a) = GetStructure f n a ∷ []
 instructions homes made (unify_variable x) = if is_made made x then UnifyValue (home homes x) ∷ [] else UnifyVariable (home homes x) ∷ []
 instructions homes made (unify_register r) = UnifyValue (X r) ∷ []
+instructions homes made (unify_new r) = UnifyVariable (X r) ∷ []
 instructions homes made (unify_constant c) = UnifyConstant c ∷ []
 instructions homes made (unify_integer z) = UnifyInteger z ∷ []
 instructions homes made (put_variable x a) = if is_made made x then move_out (home homes x) a else PutVariable (home homes x) a ∷ []
@@ -99,20 +101,29 @@ abbrev pub behind : ℕ → Term → ℕ
 behind j (Comp f us) = suc j
 behind j _ = j
 
--- an argument of a structure, where a compound one is in the register j
-abbrev pub part : Contents → ℕ → Term → Step
-part c j (Var x) = unify_variable x
-part c j (Int z) = unify_integer z
-part c j (Atom a) = unify_constant (atom_of c a)
-part c j (Comp f us) = unify_register j
+-- a compound argument of a structure: one that is read gets the register r, and one that is built is there
+abbrev pub inner : Bool → ℕ → Step
+inner true r = unify_new r
+inner false r = unify_register r
 
--- the arguments of a structure, of which the compound ones are in the registers from j on
-abbrev pub parts : Contents → ℕ → Terms → List Step
-parts c j no_terms = []
-parts c j (term (Var x) ts) = unify_variable x ∷ parts c j ts
-parts c j (term (Int z) ts) = unify_integer z ∷ parts c j ts
-parts c j (term (Atom a) ts) = unify_constant (atom_of c a) ∷ parts c j ts
-parts c j (term (Comp f us) ts) = unify_register j ∷ parts c (suc j) ts
+abbrev pub inner_code : Bool → ℕ → Code
+inner_code true r = UnifyVariable (X r)
+inner_code false r = UnifyValue (X r)
+
+-- an argument of a structure that is read or built, where the register j is a compound one's
+abbrev pub part : Contents → Bool → ℕ → Term → Step
+part c read j (Var x) = unify_variable x
+part c read j (Int z) = unify_integer z
+part c read j (Atom a) = unify_constant (atom_of c a)
+part c read j (Comp f us) = inner read j
+
+-- the arguments of a structure, where the registers from j on are those of the compound ones
+abbrev pub parts : Contents → Bool → ℕ → Terms → List Step
+parts c read j no_terms = []
+parts c read j (term (Var x) ts) = unify_variable x ∷ parts c read j ts
+parts c read j (term (Int z) ts) = unify_integer z ∷ parts c read j ts
+parts c read j (term (Atom a) ts) = unify_constant (atom_of c a) ∷ parts c read j ts
+parts c read j (term (Comp f us) ts) = inner read j ∷ parts c read (suc j) ts
 
 -- A compound term into the register r: first those of its arguments that are compound, into the registers from `free` on.
 abbrev mutual
@@ -120,7 +131,7 @@ abbrev mutual
   build c r free (Var x) = []
   build c r free (Int z) = []
   build c r free (Atom a) = []
-  build c r free (Comp f us) = builds c free (free + compounds us) us ++ (put_structure (atom_of c f) (term_count us) r ∷ parts c free us)
+  build c r free (Comp f us) = builds c free (free + compounds us) us ++ (put_structure (atom_of c f) (term_count us) r ∷ parts c false free us)
 
   -- the compound ones of the terms into the registers from next on, the last one first
   pub builds : Contents → ℕ → ℕ → Terms → List Step
@@ -129,6 +140,22 @@ abbrev mutual
   builds c next free (term (Int z) ts) = builds c next free ts
   builds c next free (term (Atom a) ts) = builds c next free ts
   builds c next free (term (Comp f us) ts) = builds c (suc next) free ts ++ build c next free (Comp f us)
+
+-- A compound term that the register r has is read: its arguments, of which the compound ones get the registers from `free` on, and then these.
+abbrev mutual
+  pub reading : Contents → ℕ → ℕ → Term → List Step
+  reading c r free (Var x) = []
+  reading c r free (Int z) = []
+  reading c r free (Atom a) = []
+  reading c r free (Comp f us) = (get_structure (atom_of c f) (term_count us) r ∷ parts c true free us) ++ readings c free (free + compounds us) us
+
+  -- the compound ones of the terms from the registers from next on, the last one first
+  pub readings : Contents → ℕ → ℕ → Terms → List Step
+  readings c next free no_terms = []
+  readings c next free (term (Var x) ts) = readings c next free ts
+  readings c next free (term (Int z) ts) = readings c next free ts
+  readings c next free (term (Atom a) ts) = readings c next free ts
+  readings c next free (term (Comp f us) ts) = readings c (suc next) free ts ++ reading c next free (Comp f us)
 
 -- a goal's argument into the register r
 abbrev pub put : Contents → ℕ → ℕ → Term → List Step
@@ -147,7 +174,7 @@ abbrev pub get : Contents → ℕ → ℕ → Term → List Step
 get c i free (Var x) = get_variable x i ∷ []
 get c i free (Int z) = get_integer z i ∷ []
 get c i free (Atom a) = get_constant (atom_of c a) i ∷ []
-get c i free (Comp f us) = builds c free (free + compounds us) us ++ (get_structure (atom_of c f) (term_count us) i ∷ parts c free us)
+get c i free (Comp f us) = reading c i free (Comp f us)
 
 -- the arguments of a head, from the register i on
 abbrev pub gets : Contents → ℕ → ℕ → Terms → List Step

@@ -6,7 +6,7 @@ ghost use Rattle.machine_relation.specs.Heap.{AllOf};
 ghost use Rattle.term_pool.specs.Terms.{term_of, terms_by};
 ghost use Rattle.clause_code.specs.Short.{InRegisters};
 ghost use Rattle.clause_code.specs.Simple.{IsOwn};
-ghost use Rattle.clause_code.specs.ArgumentHomes.{AllWait, AreHomes, IsOutside, Leaves, MayStay, MovedBack, PartWaits, PartsWait, Stayed, Waits};
+ghost use Rattle.clause_code.specs.ArgumentHomes.{AllWait, AreHomes, IsOutside, Leaves, MayStay, MovedBack, Stayed, Waits};
 ghost use Rattle.clause_code.specs.Steps.{AllSuit};
 
 use fd_language::NoMemory;
@@ -141,64 +141,8 @@ fn leave_all(
     Ok(())
 }
 
-/// Of an argument of a structure that is read from the register, no variable stays in a register
-/// that is read when the variable is made, or later, up to `last`.
-fn wait_part(
-    pool: &Pool,
-    homes: &mut Vec<Register>,
-    terms: &mut Vec<TermId>,
-    id: TermId,
-    register: usize,
-    last: usize,
-    first: usize,
-) -> Result<(), NoMemory>
-    requires own { IsOwn pool.now (length homes.old.items) id }
-    requires few { register ≤ 255 }
-    requires behind { last < first }
-    requires terms { terms.old.items ≡ [] }
-    ensures back { OnOk result (MovedBack homes.old.items homes.new.items first) }
-    ensures waits { OnOk result (PartWaits homes.new.items register last (term_of pool.now id)) }
-    ensures done { OnOk result (terms.new.items ≡ []) }
-{
-    match pool.view(id) {
-        Node::Var(x) => return leave(homes, x as usize, register + 1, last, first),
-        Node::Comp(_, parts) => {
-            terms.extend_from_slice(parts)?;
-            return leave_all(pool, homes, terms, register, last, first);
-        }
-        _ => {}
-    }
-    Ok(())
-}
-
-/// The same of all its arguments.
-fn wait_parts(
-    pool: &Pool,
-    homes: &mut Vec<Register>,
-    terms: &mut Vec<TermId>,
-    ids: &[TermId],
-    register: usize,
-    last: usize,
-    first: usize,
-) -> Result<(), NoMemory>
-    requires own { All (λ t. t.number < length pool.now.entries) ids.now }
-    requires suits { AllSuit pool.now (length homes.old.items)
-        (terms_by (term_of pool.now) ids.now) }
-    requires few { register ≤ 255 }
-    requires behind { last < first }
-    requires terms { terms.old.items ≡ [] }
-    ensures back { OnOk result (MovedBack homes.old.items homes.new.items first) }
-    ensures waits { OnOk result (PartsWait homes.new.items register last
-        (terms_by (term_of pool.now) ids.now)) }
-    ensures done { OnOk result (terms.new.items ≡ []) }
-{
-    for id in ids {
-        wait_part(pool, homes, terms, *id, register, last, first)?;
-    }
-    Ok(())
-}
-
-/// The same of a head's argument in the register.
+/// No variable of a head's argument in the register stays in a register behind it, up to `last`,
+/// which is read later.
 fn wait_argument(
     pool: &Pool,
     homes: &mut Vec<Register>,
@@ -216,13 +160,8 @@ fn wait_argument(
     ensures waits { OnOk result (Waits homes.new.items register last (term_of pool.now id)) }
     ensures done { OnOk result (terms.new.items ≡ []) }
 {
-    match pool.view(id) {
-        Node::Var(x) => return leave(homes, x as usize, register + 1, last, first),
-        Node::Comp(_, parts) => {
-            return wait_parts(pool, homes, terms, parts, register, last, first);
-        }
-        _ => {}
-    }
+    terms.push(id)?;
+    leave_all(pool, homes, terms, register + 1, last, first)?;
     Ok(())
 }
 

@@ -5,20 +5,23 @@ ghost use Rattle.fd_language.specs.Term.{Comp};
 ghost use Rattle.term_pool.specs.Contents.{atom_name};
 ghost use Rattle.term_pool.specs.Terms.{term_of, terms_by};
 ghost use Rattle.term_pool.specs.Valid.{IsPool};
-ghost use Rattle.clause_code.specs.Steps.{get_variable, unify_variable, put_variable, is_made, marked, is_register, behind as behind_term, compounds, part, parts, put, puts, get, gets, filled, fill, fills, Suits, AllSuit};
-ghost use Rattle.clause_code.specs.Works.{Writes, closing, stack_steps, work_of, IsWork, Pushes, Opens, Turns};
+ghost use Rattle.clause_code.specs.declared.terms.Work.TheVariants.{Read};
+ghost use Rattle.clause_code.specs.Steps.{get_variable, unify_variable, put_variable, is_made, marked, is_register, inner_code, behind as behind_term, compounds, part, parts, put, puts, get, gets, filled, fill, fills, Suits, AllSuit};
+ghost use Rattle.clause_code.specs.Works.{Writes, closing, opening, stack_steps, work_of, IsWork, Pushes, Opens, Turns, read_or_build};
 
 use fd_language::NoMemory;
 use term_pool::{AtomId, Node, Pool, TermId};
 use wam_code::{Code, Register};
 
-/// A compound term that is to be put into a register, by way of registers from a free one on.
+/// A compound term that is to be put into a register, or read from one, by way of registers from a free one on.
 #[derive(Clone, Copy)]
 pub(crate) enum Work {
-    /// With its compound arguments.
+    /// Put, with its compound arguments.
     Build(TermId, usize, usize),
-    /// Its compound arguments are there, in the registers from the free one on.
+    /// Put: its compound arguments are there, in the registers from the free one on.
     Close(TermId, usize, usize),
+    /// Read, and then its compound arguments.
+    Read(TermId, usize, usize),
 }
 
 /// Whether the variable is made. From now on it is.
@@ -132,13 +135,25 @@ fn behind_all(pool: &Pool, ids: &[TermId], first: usize) -> Result<usize, NoMemo
     Ok(next)
 }
 
-/// An argument of a structure, where a compound one is in the register.
+/// The instruction for a compound argument of a structure, which is read or built.
+fn unify_inner(read: bool, register: usize) -> Code
+    ensures { result ≡ inner_code read register }
+{
+    if read {
+        Code::UnifyVariable(Register::X(register))
+    } else {
+        Code::UnifyValue(Register::X(register))
+    }
+}
+
+/// An argument of a structure. A compound one is in the register, or gets it where the structure is read.
 #[tactic(auto, using(crate::proofs::Writing::atom_known))]
 fn unify_part(
     pool: &Pool,
     homes: &[Register],
     made: &mut Vec<bool>,
     code: &mut Vec<Code>,
+    read: bool,
     id: TermId,
     register: usize,
 ) -> Result<(), NoMemory>
@@ -146,23 +161,25 @@ fn unify_part(
     requires suits { Suits pool.now (length homes.now) (term_of pool.now id) }
     requires made { length made.old.items ≡ length homes.now }
     ensures { OnOk result (Writes homes.now code.old.items made.old.items
-        (part pool.now register (term_of pool.now id) ∷ []) code.new.items made.new.items) }
+        (part pool.now read register (term_of pool.now id) ∷ []) code.new.items
+        made.new.items) }
 {
     match pool.view(id) {
         Node::Var(x) => return unify_variable(homes, made, code, x as usize),
         Node::Int(integer) => code.push(Code::UnifyInteger(integer))?,
         Node::Atom(atom) => code.push(Code::UnifyConstant(atom))?,
-        Node::Comp(_, _) => code.push(Code::UnifyValue(Register::X(register)))?,
+        Node::Comp(_, _) => code.push(unify_inner(read, register))?,
     }
     Ok(())
 }
 
-/// The arguments of a structure, of which the compound ones are in the registers from `first` on.
+/// The arguments of a structure, of which the compound ones are in the registers from `first` on, or get them where it is read.
 fn unify_parts(
     pool: &Pool,
     homes: &[Register],
     made: &mut Vec<bool>,
     code: &mut Vec<Code>,
+    read: bool,
     ids: &[TermId],
     first: usize,
 ) -> Result<(), NoMemory>
@@ -170,49 +187,63 @@ fn unify_parts(
     requires suits { AllSuit pool.now (length homes.now) (terms_by (term_of pool.now) ids.now) }
     requires made { length made.old.items ≡ length homes.now }
     ensures { OnOk result (Writes homes.now code.old.items made.old.items
-        (parts pool.now first (terms_by (term_of pool.now) ids.now)) code.new.items
+        (parts pool.now read first (terms_by (term_of pool.now) ids.now)) code.new.items
         made.new.items) }
 {
     let mut register = first;
     for id in ids {
-        unify_part(pool, homes, made, code, *id, register)?;
+        unify_part(pool, homes, made, code, read, *id, register)?;
         register = behind(pool, *id, register)?;
     }
     Ok(())
 }
 
-/// Puts a term on the stack, to be built in the register, if it is compound.
+/// A compound term that is read, or built.
+fn read_or_build(read: bool, id: TermId, register: usize, free: usize) -> Work
+    ensures { result ≡ read_or_build read id register free }
+{
+    if read {
+        Work::Read(id, register, free)
+    } else {
+        Work::Build(id, register, free)
+    }
+}
+
+/// Puts a term on the stack, to be read from the register or to be built in it, if it is compound.
 fn push_compound(
     pool: &Pool,
     works: &mut Vec<Work>,
+    read: bool,
     id: TermId,
     register: usize,
     free: usize,
 ) -> Result<(), NoMemory>
     requires { id.number < length pool.now.entries }
     ensures { OnOk result (works.new.items
-        ≡ works.old.items ++ work_of (term_of pool.now id) id register free) }
+        ≡ works.old.items ++ work_of read (term_of pool.now id) id register free) }
 {
     if let Node::Comp(_, _) = pool.view(id) {
-        works.push(Work::Build(id, register, free))?;
+        works.push(read_or_build(read, id, register, free))?;
     }
     Ok(())
 }
 
-/// Those of the terms that are compound are to be built in the registers from `first` on, by way of those from `free` on.
+/// Those of the terms that are compound are to be read from the registers from `first` on, or built in them, by way of those from `free` on.
 fn push_compounds(
     pool: &Pool,
     works: &mut Vec<Work>,
+    read: bool,
     ids: &[TermId],
     first: usize,
     free: usize,
 ) -> Result<(), NoMemory>
     requires { All (λ t. t.number < length pool.now.entries) ids.now }
-    ensures { OnOk result (Pushes pool.now first free ids.now works.old.items works.new.items) }
+    ensures { OnOk result (Pushes pool.now read first free ids.now works.old.items
+        works.new.items) }
 {
     let mut register = first;
     for id in ids {
-        push_compound(pool, works, *id, register, free)?;
+        push_compound(pool, works, read, *id, register, free)?;
         register = behind(pool, *id, register)?;
     }
     Ok(())
@@ -232,7 +263,7 @@ fn open(
     if let Node::Comp(_, parts) = pool.view(id) {
         let next = behind_all(pool, parts, free)?;
         works.push(Work::Close(id, register, free))?;
-        push_compounds(pool, works, parts, free, next)?;
+        push_compounds(pool, works, false, parts, free, next)?;
     }
     Ok(())
 }
@@ -259,7 +290,7 @@ fn put_structure(
         (terms_by (term_of pool.now) parts.now))) code.new.items made.new.items) }
 {
     code.push(Code::PutStructure(name, parts.len() as u8, register))?;
-    unify_parts(pool, homes, made, code, parts, free)?;
+    unify_parts(pool, homes, made, code, false, parts, free)?;
     Ok(())
 }
 
@@ -285,6 +316,58 @@ fn close(
     Ok(())
 }
 
+/// A structure that the register has is read. Its compound arguments get the registers from `free` on.
+fn get_structure(
+    pool: &Pool,
+    homes: &[Register],
+    made: &mut Vec<bool>,
+    code: &mut Vec<Code>,
+    name: AtomId,
+    parts: &[TermId],
+    register: usize,
+    free: usize,
+) -> Result<(), NoMemory>
+    requires pool { IsPool pool.now }
+    requires own { All (λ t. t.number < length pool.now.entries) parts.now }
+    requires name { name.number < length pool.now.names }
+    requires few { length parts.now ≤ 255 }
+    requires suits { AllSuit pool.now (length homes.now) (terms_by (term_of pool.now) parts.now) }
+    requires made { length made.old.items ≡ length homes.now }
+    ensures { OnOk result (Writes homes.now code.old.items made.old.items
+        (opening pool.now register free (Comp (atom_name pool.now name)
+        (terms_by (term_of pool.now) parts.now))) code.new.items made.new.items) }
+{
+    code.push(Code::GetStructure(name, parts.len() as u8, register))?;
+    unify_parts(pool, homes, made, code, true, parts, free)?;
+    Ok(())
+}
+
+/// Takes a compound term that the register has. Its compound arguments are to be read next.
+fn read(
+    pool: &Pool,
+    homes: &[Register],
+    made: &mut Vec<bool>,
+    code: &mut Vec<Code>,
+    works: &mut Vec<Work>,
+    id: TermId,
+    register: usize,
+    free: usize,
+) -> Result<(), NoMemory>
+    requires own { id.number < length pool.now.entries }
+    requires suits { Suits pool.now (length homes.now) (term_of pool.now id) }
+    requires works { All (IsWork pool.now (length homes.now)) works.old.items }
+    requires made { length made.old.items ≡ length homes.now }
+    ensures { OnOk result (Turns pool.now homes.now (Read id register free) works.old.items
+        code.old.items made.old.items works.new.items code.new.items made.new.items) }
+{
+    if let Node::Comp(name, parts) = pool.view(id) {
+        let next = behind_all(pool, parts, free)?;
+        get_structure(pool, homes, made, code, name, parts, register, free)?;
+        push_compounds(pool, works, true, parts, free, next)?;
+    }
+    Ok(())
+}
+
 /// Takes the work.
 fn turn(
     pool: &Pool,
@@ -303,12 +386,15 @@ fn turn(
     match work {
         Work::Build(id, register, free) => open(pool, works, id, register, free)?,
         Work::Close(id, register, free) => close(pool, homes, made, code, id, register, free)?,
+        Work::Read(id, register, free) => {
+            read(pool, homes, made, code, works, id, register, free)?
+        }
     }
     Ok(())
 }
 
 /// Takes all the works.
-fn build_all(
+fn work_all(
     pool: &Pool,
     homes: &[Register],
     made: &mut Vec<bool>,
@@ -353,41 +439,9 @@ pub(crate) fn put(
         Node::Atom(atom) => code.push(Code::PutConstant(atom, register))?,
         Node::Comp(_, _) => {
             works.push(Work::Build(id, register, free))?;
-            return build_all(pool, homes, made, code, works);
+            return work_all(pool, homes, made, code, works);
         }
     }
-    Ok(())
-}
-
-/// A head's argument, which is a structure.
-fn get_structure(
-    pool: &Pool,
-    homes: &[Register],
-    made: &mut Vec<bool>,
-    code: &mut Vec<Code>,
-    works: &mut Vec<Work>,
-    name: AtomId,
-    parts: &[TermId],
-    register: usize,
-    free: usize,
-) -> Result<(), NoMemory>
-    requires pool { IsPool pool.now }
-    requires own { All (λ t. t.number < length pool.now.entries) parts.now }
-    requires name { name.number < length pool.now.names }
-    requires few { length parts.now ≤ 255 }
-    requires suits { AllSuit pool.now (length homes.now) (terms_by (term_of pool.now) parts.now) }
-    requires made { length made.old.items ≡ length homes.now }
-    requires works { works.old.items ≡ [] }
-    ensures writes { OnOk result (Writes homes.now code.old.items made.old.items
-        (get pool.now register free (Comp (atom_name pool.now name)
-        (terms_by (term_of pool.now) parts.now))) code.new.items made.new.items) }
-    ensures done { OnOk result (works.new.items ≡ []) }
-{
-    let next = behind_all(pool, parts, free)?;
-    push_compounds(pool, works, parts, free, next)?;
-    build_all(pool, homes, made, code, works)?;
-    code.push(Code::GetStructure(name, parts.len() as u8, register))?;
-    unify_parts(pool, homes, made, code, parts, free)?;
     Ok(())
 }
 
@@ -415,8 +469,9 @@ fn get(
         Node::Var(x) => return get_variable(homes, made, code, x as usize, register),
         Node::Int(integer) => code.push(Code::GetInteger(integer, register))?,
         Node::Atom(atom) => code.push(Code::GetConstant(atom, register))?,
-        Node::Comp(name, parts) => {
-            return get_structure(pool, homes, made, code, works, name, parts, register, free);
+        Node::Comp(_, _) => {
+            works.push(Work::Read(id, register, free))?;
+            return work_all(pool, homes, made, code, works);
         }
     }
     Ok(())

@@ -139,6 +139,22 @@ Builtin(True)
 AnswerNow
 ";
 
+/// The choice of p/1, its clause, the query: a structure inside the head's is read in place.
+const NESTED: &str = "\
+Jump(1)
+GetStructure(AtomId { number: 1 }, 2, 1)
+UnifyVariable(X(2))
+UnifyVariable(X(5))
+GetStructure(AtomId { number: 1 }, 2, 5)
+UnifyVariable(X(3))
+UnifyVariable(X(1))
+Execute(0)
+Allocate(0)
+PutConstant(AtomId { number: 0 }, 1)
+Call(0)
+AnswerNow
+";
+
 #[test]
 fn listings_of_code(rt: HostRuntime) -> Result<(), Fail> {
     let alloc = rt.alloc();
@@ -146,6 +162,8 @@ fn listings_of_code(rt: HostRuntime) -> Result<(), Fail> {
     assert_eq!(rt; listing(alloc, text)?.as_str(), APPEND);
     let text = "r(3). r(-1). r(2). ?- r(X).";
     assert_eq!(rt; listing(alloc, text)?.as_str(), INTEGERS);
+    let text = "p([X,Y|Zs]) :- p(Zs). ?- p([]).";
+    assert_eq!(rt; listing(alloc, text)?.as_str(), NESTED);
     let text = "p(X) :- X = 1, !. p(X) :- X = 2. \
         ?- ( p(X) -> true ; fail ), \\+ X = 2, ( true -> true ).";
     assert_eq!(rt; listing(alloc, text)?.as_str(), CUTS);

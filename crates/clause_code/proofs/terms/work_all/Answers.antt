@@ -1,7 +1,7 @@
 use Rattle.std.proofs.Common.{◌∙◌}
 use Rattle.clause_code.proofs.Rests.{turned, turned_lighter}
 use Rattle.clause_code.proofs.Writing.{writes_long}
-use Rattle.clause_code.proofs.terms.build_all.Goals as goal
+use Rattle.clause_code.proofs.terms.work_all.Goals as goal
 
 pub loop-work-smaller : goal.loop-work-smaller
 loop-work-smaller c =
