@@ -36,11 +36,12 @@ use std::alloc::Global;
 /// The line that says how the program is called.
 const USAGE: &[u8] = b"usage: clpcheck\n";
 
-/// Writes the whole output, and gives its status.
+/// Writes the whole output, and gives its status. No memory.
 fn put_last<K: Sink>(sink: &mut K, piece: &[u8], status: CheckStatus) -> CheckStatus
-    ensures { Ending (sink_at (K.written sink.old) (K.faults sink.old))
+    ensures ending { Ending (sink_at (K.written sink.old) (K.faults sink.old))
         (sink_at (K.written sink.new) (K.faults sink.new))
         result status piece.now }
+    ensures memory { result ≡ CheckStatus.NoMemory → status ≡ CheckStatus.NoMemory }
 {
     match write_all(sink, piece) {
         Ok(()) => status,
@@ -136,6 +137,7 @@ pub fn check_answers<S: Source, K: Sink>(
         (ends (S.left source.new) (K.written sink.new) (S.faults source.new) (K.faults sink.new))
         result }
     ensures untouched { (words.now ≡ [] → ⊥) → source.new ≡ source.old }
+    ensures memory { (words.now ≡ [] → ⊥) → result ≡ CheckStatus.NoMemory → ⊥ }
 {
     if !words.is_empty() {
         return put_last(sink, USAGE, CheckStatus::Usage);

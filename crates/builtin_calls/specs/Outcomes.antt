@@ -20,6 +20,14 @@ IsFault Overflow v = v ≡ Err overflow
 IsFault ZeroDivisor v = v ≡ Err zero_divisor
 IsFault NoMemory v = Unit {0}
 
+-- a fault of the term, and no want of memory
+abbrev pub IsOwnFault : EvalFault → Type 0
+IsOwnFault Unbound = Unit {0}
+IsOwnFault NotANumber = Unit {0}
+IsOwnFault Overflow = Unit {0}
+IsOwnFault ZeroDivisor = Unit {0}
+IsOwnFault NoMemory = ⊥
+
 -- the answer is the value
 abbrev pub Tells : Result ℤ EvalFault → Value → Type 0
 Tells (Ok z) v = v ≡ Ok z

@@ -1,6 +1,6 @@
 //! Arithmetic.
 
-ghost use Rattle.std.specs.Prelude.{◌≡◌, ℕ, ◌<◌, ◌++◌, [], ◌∷◌, ℤ, pos, List, length, FitsSigned, IfSome, Ok, OnOk, All, codes};
+ghost use Rattle.std.specs.Prelude.{◌≡◌, ℕ, ◌<◌, ◌++◌, [], ◌∷◌, ℤ, pos, List, length, FitsSigned, IfSome, IfErr, Ok, OnOk, All, codes};
 ghost use Rattle.std.specs.Str.{bytes_eq};
 ghost use Rattle.std.specs.Option.{SomeIff};
 ghost use Rattle.std.specs.Int.{w64};
@@ -14,7 +14,7 @@ ghost use Rattle.heap_cells.specs.Terms.{Naming};
 ghost use Rattle.builtin_calls.specs.declared.evaluation.EvalFault.TheVariants as fault;
 ghost use Rattle.builtin_calls.specs.declared.evaluation.Step.TheVariants as step;
 ghost use Rattle.fd_model.specs.Arithmetic.{integer, modulo, value_of};
-ghost use Rattle.builtin_calls.specs.Outcomes.{Tells, IsMeant, IsMeaning, IsNamedBy, meaning, operation_of};
+ghost use Rattle.builtin_calls.specs.Outcomes.{Tells, IsOwnFault, IsMeant, IsMeaning, IsNamedBy, meaning, operation_of};
 ghost use Rattle.heap_cells.specs.SeenTerms.{seen_term, HasLinksBelow};
 ghost use Rattle.builtin_calls.specs.CellTops.{IsSimple};
 ghost use Rattle.builtin_calls.specs.Evaluations.{IsEntered, IsOfHeap, IsOwn, IsOwnOperation, TellsStep, TellsDescent, TellsAscent};
@@ -138,10 +138,11 @@ fn modulo_of(left: i64, right: i64) -> i64
     }
 }
 
-/// A result, where it is an integer of the language. `None` stands for one that has no 64 bits.
+/// A result, where it is an integer of the language. `None` stands for one that has no 64 bits. No memory.
 #[inline(always)]
 fn checked(value: Option<i64>) -> Result<i64, EvalFault>
-    ensures { (z : ℤ) → SomeIff value (FitsSigned w64 z) z → Tells result (integer z) }
+    ensures tells { (z : ℤ) → SomeIff value (FitsSigned w64 z) z → Tells result (integer z) }
+    ensures memory { IfErr result IsOwnFault }
 {
     match value {
         Some(z) if z != i64::MIN => Ok(z),
@@ -149,10 +150,11 @@ fn checked(value: Option<i64>) -> Result<i64, EvalFault>
     }
 }
 
-/// The result of an operation.
+/// The result of an operation. No memory.
 #[inline(always)]
 fn apply(operation: Operation, left: i64, right: i64) -> Result<i64, EvalFault>
-    ensures { Tells result (meaning operation left right) }
+    ensures tells { Tells result (meaning operation left right) }
+    ensures memory { IfErr result IsOwnFault }
 {
     match operation {
         Operation::Add => checked(left.checked_add(right)),
@@ -177,14 +179,15 @@ fn constant(heap: &Heap, c: Cell) -> Option<i64>
     }
 }
 
-/// The value of a term that is no compound term.
+/// The value of a term that is no compound term. No memory.
 #[inline(never)]
 fn value_of_simple<V: View>(heap: &Heap, view: &V, c: Cell) -> Result<i64, EvalFault>
     requires own { IsOf heap.now.now c }
     requires simple { IsSimple heap.now.now (family_of (V.sets view.now)) c }
     requires links { HasLinksBelow (length (V.sets view.now)) heap.now.now }
-    ensures { (name : Naming) → Tells result
+    ensures tells { (name : Naming) → Tells result
         (value_of (seen_term name heap.now.now (family_of (V.sets view.now)) c)) }
+    ensures memory { IfErr result IsOwnFault }
 {
     match look(heap, view, c) {
         Seen::Int(z) => checked(Some(z)),

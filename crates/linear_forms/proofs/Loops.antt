@@ -9,7 +9,7 @@ use Rattle.std.proofs.lemmas.Option.{same_Some}
 use Rattle.fd_model.specs.Linear.{in_integers}
 use Rattle.linear_forms.specs.declared.sums.Share.{Share}
 use Rattle.linear_forms.specs.Shares.{both, scaled_share, share_at, together, open_count, IsShare, IsWhole}
-use Rattle.linear_forms.specs.Sums.{Adds, Exceeds, Scales, ScalesOver}
+use Rattle.linear_forms.specs.Sums.{Adds, Exceeds, HasFitting, Scales, ScalesOver}
 use Rattle.linear_forms.specs.Loops.{Adding, Scaling}
 use Rattle.linear_forms.proofs.Shares.{same_key, tail_distinct, rest_none, at_head, past_head}
 
@@ -65,6 +65,15 @@ module _ (old other now ahead : List (ℕ × Share)) (e : ℕ × Share) (a : Add
     by : (r : Option Share) → share_at old e.0 ≡ r → IsWhole r e.1 None → Exceeds old other
     by None p g = absurd (cc)
     by (Some u) p g = record { variable = e.0; share = both u e.1; is = λ i. together (p i) (here_other i); over = g }
+
+  -- what is there is as it was, and a term that was whole fits
+  pub one_fits : (w : Share) (new : List (ℕ × Share)) → IsWhole (share_at now e.0) e.1 (Some w) → new ≡ now → HasFitting new other
+  one_fits w new h same = record {
+    variable = e.0;
+    share = e.1;
+    is = here_other;
+    fits = λ u p. let f : IsWhole (Some u) e.1 (Some w) = subst (λ r. IsWhole r e.1 (Some w)) (ap (λ (es : List (ℕ × Share)). share_at es e.0) (sym same) ∙ p) h in f.1;
+  }
 
   pub adding_turn : (w : Share) (new : List (ℕ × Share)) → IsWhole (share_at now e.0) e.1 (Some w) → ((q : ℕ) → share_at new q ≡ cond (nat_eq e.0 q) (Some w) (share_at now q)) → IsDistinct nat_eq (keys_of new) → Adding old other new ahead
   adding_turn w new h u d = record {

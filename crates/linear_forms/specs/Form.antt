@@ -18,6 +18,13 @@ fault_of fault.NotANumber = Some BadType
 fault_of fault.Overflow = Some Evaluation
 fault_of fault.NoMemory = None
 
+-- a fault of the definition, and no want of memory
+abbrev pub IsOwnFault : LinearFault → Type 0
+IsOwnFault fault.Nonlinear = Unit {0}
+IsOwnFault fault.NotANumber = Unit {0}
+IsOwnFault fault.Overflow = Unit {0}
+IsOwnFault fault.NoMemory = ⊥
+
 -- the definition meets this fault
 abbrev pub IsFaultOf : {A : Type 0} → Result A QueryFault → LinearFault → Type 0
 IsFaultOf r f = IfSome (fault_of f) (λ q. r ≡ Err q)

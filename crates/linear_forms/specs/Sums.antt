@@ -41,6 +41,13 @@ pub record Adds (old other new : List (ℕ × Share)) : Type 0 where
   pub inside : (x : ℕ) (u v : Share) → share_at old x ≡ Some u → share_at other x ≡ Some v → in_integers (u.coefficient +ℤ v.coefficient) ≡ true
   pub unique : IsDistinct nat_eq (keys_of old) → IsDistinct nat_eq (keys_of new)
 
+-- a term of the other can be added: with what is there of its variable it is an integer of the language
+pub record HasFitting (now other : List (ℕ × Share)) : Type 0 where
+  pub variable : ℕ
+  pub share : Share
+  pub is : share_at other variable ≡ Some share
+  pub fits : (u : Share) → share_at now variable ≡ Some u → in_integers (u.coefficient +ℤ share.coefficient) ≡ true
+
 -- some coefficient of both is no integer of the language
 pub record Exceeds (old other : List (ℕ × Share)) : Type 0 where
   pub variable : ℕ

@@ -1,8 +1,8 @@
 //! Sums that are negated, and the normal forms of comparisons.
 
-ghost use Rattle.std.specs.Prelude.{◌≡◌, negsuc, IfOk};
+ghost use Rattle.std.specs.Prelude.{◌≡◌, negsuc, IfOk, IfErr};
 ghost use Rattle.fd_model.specs.Linear.{scaled, turned, below, normal_form as normal_of};
-ghost use Rattle.linear_forms.specs.Form.{form_of, Answers};
+ghost use Rattle.linear_forms.specs.Form.{form_of, Answers, IsOwnFault};
 ghost use Rattle.linear_forms.specs.Inside.{AreIntegers, IsInside, checked_form};
 
 use crate::{Linear, LinearFault};
@@ -33,10 +33,11 @@ pub fn turn(alloc: Global, linear: &Linear) -> Result<Linear, NoMemory>
     })
 }
 
-/// The form with its constant one less, where that is an integer of the language.
+/// The form with its constant one less, where that is an integer of the language. No memory.
 fn lessen(linear: Linear) -> Result<Linear, LinearFault>
     requires { IsInside (form_of linear) }
-    ensures { Answers (checked_form (below (form_of linear))) result }
+    ensures form { Answers (checked_form (below (form_of linear))) result }
+    ensures memory { IfErr result IsOwnFault }
 {
     let Linear { terms, constant } = linear;
     if constant == -i64::MAX {

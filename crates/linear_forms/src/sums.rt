@@ -1,13 +1,14 @@
 //! Sums of products, found by their variables.
 
-ghost use Rattle.std.specs.Prelude.{◌≡◌, ℕ, suc, ◌==◌, nat_lt, not, Ok, MatchResult};
+ghost use Rattle.std.specs.Prelude.{◌≡◌, ℕ, suc, ◌==◌, nat_lt, not, Ok, IfErr, MatchResult};
 ghost use Rattle.std.specs.Map.{values_of};
 ghost use Rattle.fd_language.specs.Term.{Var, Int};
 ghost use Rattle.fd_model.specs.Linear as linear;
 ghost use Rattle.fd_model.specs.Linear.{nonzero, collect_term, sum_of, product_of, linear_of as linear_form};
-ghost use Rattle.linear_forms.specs.Form.{form_of};
+ghost use Rattle.linear_forms.specs.declared.LinearFault.TheVariants as fault;
+ghost use Rattle.linear_forms.specs.Form.{form_of, IsOwnFault};
 ghost use Rattle.linear_forms.specs.Shares.{IsShare, both, scaled_share, share_at, IsWhole, open_count, coefficients, OverflowsBy};
-ghost use Rattle.linear_forms.specs.Sums.{Adds, Exceeds, IsSum, IsKept, Gives, AddsSum, ExceedsSum, Scales, ScalesOver, Multiplies, ExceedsTimes, signed};
+ghost use Rattle.linear_forms.specs.Sums.{Adds, Exceeds, HasFitting, IsSum, IsKept, Gives, AddsSum, ExceedsSum, Scales, ScalesOver, Multiplies, ExceedsTimes, signed};
 
 use crate::integers::{product, sign, sum};
 use crate::{Linear, LinearFault};
@@ -52,9 +53,10 @@ impl Share {
     }
 }
 
-/// An integer, negated at `true`.
+/// An integer, negated at `true`. No memory.
 pub(crate) fn constant_alone(alloc: Global, integer: i64, negated: bool) -> Result<Sum, LinearFault>
-    ensures { (m : ℕ) → Gives (signed negated (collect_term (Int integer))) m m result }
+    ensures sum { (m : ℕ) → Gives (signed negated (collect_term (Int integer))) m m result }
+    ensures memory { IfErr result IsOwnFault }
 {
     match product(sign(negated), integer) {
         Some(constant) => Ok(Sum {
@@ -126,8 +128,11 @@ fn add_terms(
     terms: &mut IndexMap<u64, Share>,
     other: &IndexMap<u64, Share>,
 ) -> Result<(), LinearFault>
-    ensures { MatchResult result (λ _. Adds terms.old.entries other.now.entries terms.new.entries)
+    ensures added { MatchResult result
+        (λ _. Adds terms.old.entries other.now.entries terms.new.entries)
         (OverflowsBy (Exceeds terms.old.entries other.now.entries)) }
+    ensures memory { IfErr result
+        (λ f. f ≡ fault.NoMemory → HasFitting terms.new.entries other.now.entries) }
 {
     for (variable, share) in other.iter() {
         let Some(whole) = whole_share(terms, *variable, *share) else {

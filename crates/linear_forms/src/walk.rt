@@ -1,11 +1,12 @@
 //! The walk over two terms, task by task.
 
-ghost use Rattle.std.specs.Prelude.{◌≡◌, ℕ, ◌<◌, List, length, Ok, MatchResult};
+ghost use Rattle.std.specs.Prelude.{◌≡◌, ℕ, ◌<◌, List, length, Ok, IfErr, MatchResult};
 ghost use Rattle.fd_language.specs.Term.{Var, Int};
 ghost use Rattle.fd_model.specs.Linear as linear;
 ghost use Rattle.fd_model.specs.Linear.{of_both, difference_of, sum_of, product_of, collect_term};
 ghost use Rattle.term_pool.specs.Terms.{term_of};
 ghost use Rattle.linear_forms.specs.declared.walk.Task.TheVariants as task;
+ghost use Rattle.linear_forms.specs.Form.{IsOwnFault};
 ghost use Rattle.linear_forms.specs.Sums.{Gives, signed};
 ghost use Rattle.linear_forms.specs.Tasks.{before, on_two, operator_tasks, compound_tasks, Opens, IsOf, Makes, Applies, TakesTwo, HasNotTwo, Does, Refuses};
 
@@ -146,11 +147,12 @@ impl Made {
         }
     }
 
-    /// The last two sums. There are two, since an operator stands behind its operands.
+    /// The last two sums. There are two, since an operator stands behind its operands. No memory.
     fn take_two(&mut self) -> Result<(Sum, Sum), LinearFault>
-        ensures { MatchResult result (λ p. (ss : List linear.Sum) → Makes self.old ss
+        ensures taken { MatchResult result (λ p. (ss : List linear.Sum) → Makes self.old ss
             → TakesTwo self.old p.0 p.1 self.new ss) (λ f. (ss : List linear.Sum)
             → Makes self.old ss → HasNotTwo f ss) }
+        ensures memory { IfErr result IsOwnFault }
     {
         let Some(right) = self.sums.pop() else {
             return Err(LinearFault::NotANumber);

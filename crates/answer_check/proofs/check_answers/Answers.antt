@@ -6,7 +6,7 @@ use Rattle.answer_check.proofs.WholeInputs.{can_tell}
 use Rattle.answer_check.proofs.check_answers.Goals as goal
 
 pub returns-then-not-is_empty-clause-headline : goal.returns-then-not-is_empty-clause-headline
-returns-then-not-is_empty-clause-headline g c = with_words (map string_bytes c.args.words.now) _ _ c.put_last.result (some_words string_bytes c.args.words.now (some_items c.args.words.now c.is_empty.result c.is_empty.ensures c.if-not-is_empty.true)) refl refl c.put_last.ensures
+returns-then-not-is_empty-clause-headline g c = with_words (map string_bytes c.args.words.now) _ _ c.put_last.result (some_words string_bytes c.args.words.now (some_items c.args.words.now c.is_empty.result c.is_empty.ensures c.if-not-is_empty.true)) refl refl c.put_last.ensures.ending
 
 pub returns-in-Ok-clause-headline : goal.returns-in-Ok-clause-headline
 returns-in-Ok-clause-headline g c =

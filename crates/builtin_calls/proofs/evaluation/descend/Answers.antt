@@ -17,7 +17,7 @@ value_of_simple-requires g c =
     }
 
 pub returns-in_default : goal.returns-in_default
-returns-in_default g c = descended c.args.pool.now.names c.args.heap.now.now (family_of (g.V.View.sets c.args.view.now)) c.args.waiting.now c.down.waiting c.args.c c.down.at c.value_of_simple.result c.down.invariant.leads c.value_of_simple.ensures
+returns-in_default g c = descended c.args.pool.now.names c.args.heap.now.now (family_of (g.V.View.sets c.args.view.now)) c.args.waiting.now c.down.waiting c.args.c c.down.at c.value_of_simple.result c.down.invariant.leads c.value_of_simple.ensures.tells
 
 -- one compound term further
 further : (g : given.Over) (c : goal.In_ok-at g) → GoesOn c.args.pool.now.names c.args.heap.now.now (family_of (g.V.View.sets c.args.view.now)) c.down.waiting (Enter c.down.at) c.enter_compound.new.waiting (Enter c.in_ok-at.at)

@@ -44,7 +44,7 @@ returns-in-len1 c = go c.value_by_sign.result c.value_by_sign.ensures
         a b (λ name. c.in_ok-a.ensures name G) (λ name. c.in_ok-b.ensures name G) (Ok z) (sym (same k.0) ∙ k.2) name n
 
 pub returns-in_ok-operation_named-in_default-as_bytes : goal.returns-in_ok-operation_named-in_default-as_bytes
-returns-in_ok-operation_named-in_default-as_bytes c = go c.apply.result c.ok.result c.apply.ensures c.ok.ensures.value
+returns-in_ok-operation_named-in_default-as_bytes c = go c.apply.result c.ok.result c.apply.ensures.tells c.ok.ensures.value
   where
     h : Cells
     h = c.args.heap.now.now

@@ -10,11 +10,11 @@ returns-then-has_few c =
     let g : FitsSigned w64 c.args.shorter.now.constant = search rules in
     let k = passed_sum c.args.longer.constant c.args.shorter.now.constant c.in-Some.constant f g c.in-Some.ensures in
     record {
-      terms = c.in_ok-add_terms.ensures;
+      terms = c.in_ok-add_terms.ensures.added;
       constant = k.0;
       inside = k.1;
       few = not_true _ (sym c.if-has_few.true ∙ c.has_few.ensures);
     }
 
 pub returns-else-has_few : goal.returns-else-has_few
-returns-else-has_few c = over_many c.add_terms.new.terms.entries c.in_ok-add_terms.ensures (not_false _ (sym c.if-has_few.false ∙ c.has_few.ensures))
+returns-else-has_few c = over_many c.add_terms.new.terms.entries c.in_ok-add_terms.ensures.added (not_false _ (sym c.if-has_few.false ∙ c.has_few.ensures))

@@ -6,13 +6,13 @@ use Rattle.linear_forms.proofs.Alone.{integer_kept, integer_over}
 use Rattle.linear_forms.proofs.Words.{passed_product, passed_sign, sign_fits}
 use Rattle.linear_forms.proofs.sums.constant_alone.Goals as goal
 
-pub returns-in-Some : goal.returns-in-Some
-returns-in-Some c = λ m.
+pub returns-in-Some-clause-sum : goal.returns-in-Some-clause-sum
+returns-in-Some-clause-sum c = λ m.
     let k = passed_product c.sign.result c.args.integer c.in-Some.constant (sign_fits c.args.negated c.sign.result c.sign.ensures) c.ranges.integer c.in-Some.ensures in
     integer_kept _ c.args.negated c.args.integer m c.new.ensures.empty c.new.ensures.unique
     (k.0 ∙ ap (λ z. z *ℤ c.args.integer) c.sign.ensures) (ap (λ z. in_integers (z *ℤ c.args.integer)) (sym c.sign.ensures) ∙ k.1)
 
-pub returns-in-None : goal.returns-in-None
-returns-in-None c = λ m.
+pub returns-in-None-clause-sum : goal.returns-in-None-clause-sum
+returns-in-None-clause-sum c = λ m.
     integer_over c.args.negated c.args.integer
     ((λ i. in_integers (sym (passed_sign c.args.negated c.sign.result c.sign.ensures) i *ℤ sym (to_z-of_z w64 c.args.integer c.ranges.integer) i)) ∙ c.in-None.ensures)
