@@ -112,17 +112,25 @@ fits_alone r a =
     let b : AreBounded INFINITY (λ y. []) (fill_range (λ y. pos 1) r) = bounded_values INFINITY r (λ y. pos 1) (λ y. []) a met family in
     fits (slot_of r) (λ y. []) (λ y. []) (λ y. pos 1) r (λ y h. refl) b.values b.divisors (divides (λ y. []) (λ y. pos 1) r true (fits_table r a) (needs_met (λ y. pos 1) r met))
 
--- what is gathered of a range
-pub record Gathers (q : Range) (ns : List RangeNode) (slots : List ℕ) (asked : List (ℕ × Need)) (ms : List RangeNode) (fs : List (ℕ × Feature)) (kinds : List (ℕ × ReadKind)) (ys : List ℕ) (by_slot : List (Option Need)) : Type 0 where
-  pub keys : List ℕ
-  pub nodes : ns ≡ nodes_of q
-  pub slotted : slots ≡ once (node_variables ns)
-  pub keyed : keys ≡ once (node_variables ns)
-  pub named : ms ≡ map (rename_node (λ y. position_or_len (nat_eq y) keys)) ns
+-- what is put in slots
+pub shaped : (q : Range) (ns : List RangeNode) (slots keys : List ℕ) (asked : List (ℕ × Need)) (ms : List RangeNode) (by_slot : List (Option Need)) →
+    ns ≡ nodes_of q → slots ≡ once (node_variables ns) → keys ≡ once (node_variables ns) → ms ≡ map (rename_node (λ y. position_or_len (nat_eq y) keys)) ns → asked ≡ needs q → by_slot ≡ map (need_in asked) slots →
+    (slots ≡ slots_of q) × (by_slot ≡ slot_needs q) × (ms ≡ nodes_of (in_slots q))
+shaped q ns slots keys asked ms by_slot nodes slotted keyed named d needed =
+    let all : once (node_variables ns) ≡ slots_of q = ap once (ap node_variables nodes ∙ node_variables_of q) in (
+      slotted ∙ all,
+      needed ∙ (ap (λ l. map (need_in l) slots) d ∙ (ap (map (need_in (needs q))) (slotted ∙ all) ∙ needs_found q)),
+      named ∙ (ap (λ l. map (rename_node (λ y. position_or_len (nat_eq y) l)) ns) (keyed ∙ all) ∙ (ap (map (rename_node (slot_of q))) nodes ∙ names_of (slot_of q) q)),
+    )
+
+-- what is gathered of a range in slots
+pub record Gathers (r : Range) (slots : List ℕ) (ms : List RangeNode) (fs : List (ℕ × Feature)) (kinds : List (ℕ × ReadKind)) (ys : List ℕ) (by_slot : List (Option Need)) : Type 0 where
+  pub slotted : slots ≡ slots_of r
+  pub needed : by_slot ≡ slot_needs r
+  pub named : ms ≡ nodes_of (in_slots r)
   pub features : fs ≡ each_once (node_features ms)
   pub told : kinds ≡ all_told (λ s. has_pair fs (s, feature.Min)) (λ s. has_pair fs (s, feature.Max)) fs
   pub vals : ys ≡ filter (λ s. has_pair fs (s, feature.Val)) (count_up 0 (length slots))
-  pub needed : by_slot ≡ map (need_in asked) slots
 
 -- a list without elements
 pub none_there : (ys : List ℕ) (n : ℕ) → length ys ≡ n → (n == 0) ≡ true → ys ≡ []
@@ -130,31 +138,27 @@ none_there [] n e h = refl
 none_there (y ∷ ys) n e h = absurd (let k : n ≡ 0 = eqb-true n 0 h in let z : ⊥ = omega (arith, e, k) in z)
 
 -- the whole
-pub compiled : (r q : Range) (ns : List RangeNode) (slots : List ℕ) (asked : List (ℕ × Need)) (ms : List RangeNode) (fs : List (ℕ × Feature)) (kinds : List (ℕ × ReadKind)) (ys : List ℕ) (by_slot : List (Option Need)) (pieces : List Piece) (steps : Steps) (form : Form) (high : ℕ) →
-    IsTrue (is_accepted INFINITY r) → q ≡ r → asked ≡ needs r → Gathers q ns slots asked ms fs kinds ys by_slot →
+pub compiled : (r q : Range) (slots : List ℕ) (ms : List RangeNode) (fs : List (ℕ × Feature)) (kinds : List (ℕ × ReadKind)) (ys : List ℕ) (by_slot : List (Option Need)) (pieces : List Piece) (steps : Steps) (form : Form) (high : ℕ) →
+    IsTrue (is_accepted INFINITY r) → q ≡ r → Gathers r slots ms fs kinds ys by_slot →
     reverse pieces ≡ fold taken [] ms → AreStepsOf by_slot ys (literals pieces) (map piece_node pieces) steps → ((x : Range) → ms ≡ nodes_of x → IsForm x form) → (IsShifted form → ys ≡ []) → high ≡ tallest (map piece_node pieces) →
     IsCompiled q slots by_slot fs kinds ys ms steps form high
-compiled r q ns slots asked ms fs kinds ys by_slot pieces steps form high a e d g ps st fm sh hi =
-    let all : once (node_variables ns) ≡ slots_of q = ap once (ap node_variables g.nodes ∙ node_variables_of q) in
-    let named : ms ≡ nodes_of (in_slots q) = g.named ∙ (ap (λ l. map (rename_node (λ y. position_or_len (nat_eq y) l)) ns) (g.keyed ∙ all) ∙ (ap (map (rename_node (slot_of q))) g.nodes ∙ names_of (slot_of q) q)) in
-    let told : fs ≡ slot_features q = g.features ∙ (ap (λ l. each_once (node_features l)) named ∙ ap each_once (whole_nodes feature_at (in_slots q))) in
-    let accepted : is_accepted INFINITY q ≡ true = subst (λ p. IsTrue (is_accepted INFINITY p)) (sym e) a in
-    let needed : by_slot ≡ slot_needs q = g.needed ∙ (ap (λ l. map (need_in l) slots) (d ∙ ap needs (sym e)) ∙ (ap (map (need_in (needs q))) (g.slotted ∙ all) ∙ needs_found q)) in
-    let val : ys ≡ val_slots q = g.vals ∙ (ap (λ l. filter (λ x. has_pair l (x, feature.Val)) (count_up 0 (length slots))) told
-    ∙ ap (λ l. filter (λ x. has_pair (slot_features q) (x, feature.Val)) (count_up 0 (length l))) (g.slotted ∙ all)) in
-    let folds = pieces_are (in_slots q) ms pieces (fits_alone q accepted) named ps in
-    record {
+compiled r q slots ms fs kinds ys by_slot pieces steps form high accepted e g ps st fm sh hi =
+    let told : fs ≡ slot_features r = g.features ∙ (ap (λ l. each_once (node_features l)) g.named ∙ ap each_once (whole_nodes feature_at (in_slots r))) in
+    let val : ys ≡ val_slots r = g.vals ∙ (ap (λ l. filter (λ x. has_pair l (x, feature.Val)) (count_up 0 (length slots))) told
+    ∙ ap (λ l. filter (λ x. has_pair (slot_features r) (x, feature.Val)) (count_up 0 (length l))) g.slotted) in
+    let folds = pieces_are (in_slots r) ms pieces (fits_alone r accepted) g.named ps in
+    subst (λ x. IsCompiled x slots by_slot fs kinds ys ms steps form high) (sym e) (record {
       accepted = accepted;
-      slots = g.slotted ∙ all;
-      needs = needed;
+      slots = g.slotted;
+      needs = g.needed;
       features = told;
       kinds = g.told ∙ ap (λ l. all_told (λ s. has_pair l (s, feature.Min)) (λ s. has_pair l (s, feature.Max)) l) told;
       vals = val;
-      nodes = named;
-      steps = subst (λ ns. AreStepsOf ns (val_slots q) (integers (folded_nodes q)) (folded_nodes q) steps) needed
-          (subst (λ l. AreStepsOf by_slot l (integers (folded_nodes q)) (folded_nodes q) steps) val
-          (subst (λ l. AreStepsOf by_slot ys l (folded_nodes q) steps) folds.values (subst (λ l. AreStepsOf by_slot ys (literals pieces) l steps) folds.nodes st)));
-      form = fm (in_slots q) named;
+      nodes = g.named;
+      steps = subst (λ ns. AreStepsOf ns (val_slots r) (integers (folded_nodes r)) (folded_nodes r) steps) g.needed
+          (subst (λ l. AreStepsOf by_slot l (integers (folded_nodes r)) (folded_nodes r) steps) val
+          (subst (λ l. AreStepsOf by_slot ys l (folded_nodes r) steps) folds.values (subst (λ l. AreStepsOf by_slot ys (literals pieces) l steps) folds.nodes st)));
+      form = fm (in_slots r) g.named;
       shifted = λ t. sym val ∙ sh t;
       height = hi ∙ ap tallest folds.nodes;
-    }
+    })

@@ -82,7 +82,7 @@ sign_turned n a w e g = record {
   seen = λ count args h. h;
 }
 
-once_is : (z : ℤ) → z ≡ pos 1 *ℤ z
+pub once_is : (z : ℤ) → z ≡ pos 1 *ℤ z
 once_is (pos n) = let e : 1 * n ≡ n = omega arith in rw e refl
 once_is (negsuc n) = let e : 1 * suc n ≡ suc n = omega arith in rw e refl
 
@@ -252,7 +252,7 @@ bound_first n rest l empty b f z p d a = record {
   division = subst IsPositive (sym (a.division ∙ d)) tt;
 }
 
-whole_value : (S : Family) (b : Bound) → b.division ≡ Whole → bound_value S b ≡ total_of S b
+pub whole_value : (S : Family) (b : Bound) → b.division ≡ Whole → bound_value S b ≡ total_of S b
 whole_value S b d = ap (λ x. divided x (total_of S b)) d
 
 pub bound_more : (ns rest behind : List RangeNode) (b c : Bound) (a : Addend) → IsBound ns b rest → b.division ≡ Whole → IsPart rest a behind → IsAdded b a c → IsBound ns c behind
@@ -392,7 +392,7 @@ pub one_outside : (r : Range) (a b : Bound) → IsComplement r a b → ((S : Fam
 one_outside r a b h e = record { set = λ S p. h.set S p ∙ ap (λ z. outside (between (bound_value S a) z)) (sym (e S)); value = h.low }
 
 -- bounds that are a number, and a moved end
-plus_none : (z : ℤ) → z +ℤ pos 0 ≡ z
+pub plus_none : (z : ℤ) → z +ℤ pos 0 ≡ z
 plus_none z = +ℤ_comm z (pos 0) ∙ +ℤ_idl z
 
 pub number_is : (b : Bound) → b.division ≡ Whole → length b.products.items ≡ 0 → (S : Family) → bound_value S b ≡ b.constant

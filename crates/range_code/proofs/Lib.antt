@@ -19,6 +19,7 @@ mod Folding
 mod Placing
 mod Testing
 mod Running
+mod QuickSets
 mod Forms
 mod Choices
 mod Choosing

@@ -141,7 +141,7 @@ module _ (sets : List (List ℕ)) (r : Range) (args : List Arg) (accepted : is_a
   several = list_any (opens (Sets sets r args)) (features_of (in_slots r))
 
   -- the slots that are read by val have several members where some pair says so
-  opens_same : (ys : List ℕ) → ys ≡ val_slots r → list_any (λ s. is_several (Sets sets r args s)) ys ≡ list_any (opens (Sets sets r args)) (features_of (in_slots r))
+  pub opens_same : (ys : List ℕ) → ys ≡ val_slots r → list_any (λ s. is_several (Sets sets r args s)) ys ≡ list_any (opens (Sets sets r args)) (features_of (in_slots r))
   opens_same ys e =
       ap (list_any (λ s. is_several (Sets sets r args s))) e
       ∙ vals_open (Sets sets r args) (features_of (in_slots r)) (length (slots_of r)) (all_below (length sets) (slot_needs r) args (length (slots_of r)) (features_of (in_slots r)) fit (length-map (slots_of r) (need_at r)) features_seen_all)
@@ -214,7 +214,7 @@ module _ (sets : List (List ℕ)) (r : Range) (args : List Arg) (accepted : is_a
 
   -- where all numbers but one value are meant
   module _ (slot : ℕ) (differs : in_slots r ≡ all_but_val slot) (some : (k : ℕ) → is_none_left (family_of sets k) ≡ false) where
-    one_open : list_any (λ s. is_several (Sets sets r args s)) (val_slots r) ≡ is_several (Sets sets r args slot)
+    pub one_open : list_any (λ s. is_several (Sets sets r args s)) (val_slots r) ≡ is_several (Sets sets r args slot)
     one_open = opens_same (val_slots r) refl ∙ (ap (λ q. list_any (opens (Sets sets r args)) (features_of q)) differs ∙ or-false (is_several (Sets sets r args slot)))
 
     differs_open : is_several (Sets sets r args slot) ≡ true → set_of INFINITY (family_of sets) (posted r args) ≡ universe INFINITY

@@ -10,6 +10,7 @@ use Rattle.fd_language.specs.Flat.{nodes_of}
 use Rattle.range_code.specs.declared.compile.ReadKind.{ReadKind}
 use Rattle.range_code.specs.declared.evaluate.Steps.{Steps}
 use Rattle.range_code.specs.declared.form.Form.{Form}
+use Rattle.range_code.specs.declared.Shape.{Shape}
 use Rattle.range_code.specs.Forms.{IsForm, IsShifted}
 use Rattle.range_code.specs.Slots.{slots_of, slot_needs, slot_features, in_slots}
 use Rattle.range_code.specs.Kinds.{slot_kinds, val_slots}
@@ -22,6 +23,12 @@ pub record AreStepsOf (needs : List (Option Need)) (vals : List ℕ) (zs : List 
   pub instrs : s.instrs.items ≡ tests_for needs vals ++ map (instr_of (once_each zs)) ms
   pub tests : s.tests ≡ length (tests_for needs vals)
   pub constants : s.constants.items ≡ once_each zs
+
+-- the range in slots
+pub record IsShapeOf (r : Range) (s : Shape) : Type 0 where
+  pub slots : s.slots.items ≡ slots_of r
+  pub needs : s.needs.items ≡ slot_needs r
+  pub nodes : s.nodes.items ≡ nodes_of (in_slots r)
 
 pub record IsCompiled (r : Range) (vs : List ℕ) (ns : List (Option Need)) (fs : List (ℕ × Feature)) (ks : List (ℕ × ReadKind)) (ys : List ℕ) (ms : List RangeNode) (s : Steps) (way : Form) (high : ℕ) : Type 0 where
   pub accepted : IsTrue (is_accepted INFINITY r)

@@ -16,3 +16,4 @@ pub mod CodeFields
 pub mod Choices
 pub mod Forms
 pub mod Reaching
+pub mod QuickForms

@@ -85,7 +85,7 @@ pub(crate) struct Addend {
 
 /// The end of the domain, and 0 where it has no member.
 #[inline(always)]
-fn end_of(domain: &Domain, end: End) -> u32
+pub(crate) fn end_of(domain: &Domain, end: End) -> u32
     ensures value { result ≡ end_of_set domain.now end }
     ensures limit { result ≤ INFINITY }
 {
@@ -97,7 +97,7 @@ fn end_of(domain: &Domain, end: End) -> u32
 
 /// A constant and an end.
 #[inline(always)]
-fn add_end(constant: i64, end: u32) -> i64
+pub(crate) fn add_end(constant: i64, end: u32) -> i64
     requires width { nat_abs constant + INFINITY ≤ 2 ^ 63 - 1 }
     requires limit { end ≤ INFINITY }
     ensures { result ≡ constant +ℤ pos end }
@@ -350,7 +350,7 @@ fn is_product(node: RangeNode) -> bool
     matches!(node, RangeNode::Mul)
 }
 
-fn is_span(node: RangeNode) -> bool
+pub(crate) fn is_span(node: RangeNode) -> bool
     ensures { IsTrue result → node ≡ RangeNode.Span }
 {
     matches!(node, RangeNode::Span)
@@ -545,7 +545,7 @@ fn sums_form(alloc: Global, nodes: &[RangeNode], no_val: bool) -> Result<Form, N
 }
 
 /// Whether the ends are the same.
-fn is_same_end(a: End, b: End) -> bool
+pub(crate) fn is_same_end(a: End, b: End) -> bool
     ensures { IsTrue result → a ≡ b }
 {
     match (a, b) {
@@ -610,7 +610,7 @@ fn are_opposite(a: &[Product], b: &[Product]) -> bool
     true
 }
 
-fn is_whole(division: Division) -> bool
+pub(crate) fn is_whole(division: Division) -> bool
     ensures { IsTrue result → division ≡ Division.Whole }
 {
     matches!(division, Division::Whole)
@@ -630,7 +630,7 @@ fn number_of(bound: &Bound) -> Option<i64>
 }
 
 /// The moved end that a bound is, where it reads that one alone and isn't divided.
-fn shift_of(bound: &Bound, end: End) -> Option<Shift>
+pub(crate) fn shift_of(bound: &Bound, end: End) -> Option<Shift>
     ensures { IfSome result (IsShiftOf bound.now end) }
 {
     if !is_whole(bound.division) {

@@ -5,14 +5,14 @@ ghost use Rattle.std.specs.Prelude.{◌≡◌, ◌≤◌, ◌+◌, ◌-◌, ◌^
 ghost use Rattle.fd_language.specs.RangeVerdict.{is_accepted};
 ghost use Rattle.fd_language.specs.Family.{IsFamily};
 ghost use Rattle.fd_language.specs.Flat.{nodes_of};
-ghost use Rattle.fd_language.specs.Range.{set_of, least, is_none_left, is_several};
+ghost use Rattle.fd_language.specs.Range.{Range, set_of, least, is_none_left, is_several};
 ghost use Rattle.domain_ranges.specs.Narrowing.{IsNarrowed};
 ghost use Rattle.range_code.specs.Slots.{slots_of, slot_needs, slot_features, in_slots, IsAlike};
 ghost use Rattle.range_code.specs.Kinds.{slot_kinds, val_slots};
 ghost use Rattle.range_code.specs.Heights.{height, tallest};
 ghost use Rattle.range_code.specs.FoldedRanges.{folded_nodes};
 ghost use Rattle.range_code.specs.Pieces.{pieces_of, piece_node, literals};
-ghost use Rattle.range_code.specs.CodeFields.{AreStepsOf};
+ghost use Rattle.range_code.specs.CodeFields.{AreStepsOf, IsShapeOf};
 ghost use Rattle.range_code.specs.Instructions.{instructions_of, tests_of};
 ghost use Rattle.range_code.specs.StepNodes.{all_steps, ArePlaced};
 ghost use Rattle.range_code.specs.Forms.{IsForm, IsShifted};
@@ -29,6 +29,7 @@ mod fold;
 mod form;
 mod frame;
 mod instr;
+mod quick;
 mod work;
 
 use crate::alike::{are_same_needs, are_same_nodes};
@@ -41,6 +42,7 @@ pub use crate::frame::{Arg, are_some};
 use crate::frame::{Standing, find_standing, is_open, is_some_open, slot_domain};
 pub use crate::instr::RangeInstr;
 use crate::instr::steps_of;
+pub use crate::quick::{Quick, quick_of, quick_reach};
 use crate::work::Work;
 pub use domain_ranges::Narrowed;
 use domain_ranges::{Domain, View};
@@ -165,6 +167,19 @@ impl RangeCode {
         are_same_needs(&self.needs, &other.needs) && are_same_nodes(&self.nodes, &other.nodes)
     }
 
+    /// Whether the code's range and that of the shape are the same but for the names of their variables, as `is_alike` says of codes.
+    pub fn has_shape(&self, shape: &Shape) -> bool
+        ensures alike { (r : Range) → IsShapeOf r shape.now → IsTrue result ↔ IsAlike self.now r }
+        ensures posted { (r : Range) → IsShapeOf r shape.now → IsTrue result
+            → (args : List AnyArg) → posted self.now args ≡ posted r args }
+        ensures needs { (r : Range) → IsShapeOf r shape.now → IsTrue result
+            → slot_needs self.now ≡ slot_needs r }
+        ensures nodes { (r : Range) → IsShapeOf r shape.now → IsTrue result
+            → length (nodes_of self.now) ≡ length (nodes_of r) }
+    {
+        are_same_needs(&self.needs, &shape.needs) && are_same_nodes(&self.nodes, &shape.nodes)
+    }
+
     /// The slots that are read by val.
     #[inline(always)]
     fn vals(&self) -> &[usize]
@@ -172,6 +187,21 @@ impl RangeCode {
         ensures accepted { IsTrue (is_accepted INFINITY self.now) }
     {
         &self.vals
+    }
+
+    /// Whether nothing is read by val.
+    fn reads_no_val(&self) -> bool
+        ensures { IsTrue result → val_slots self.now ≡ [] }
+    {
+        self.vals.is_empty()
+    }
+
+    /// The nodes with slots as variables.
+    fn nodes(&self) -> &[RangeNode]
+        ensures nodes { result.now ≡ nodes_of (in_slots self.now) }
+        ensures accepted { IsTrue (is_accepted INFINITY self.now) }
+    {
+        &self.nodes
     }
 
     /// The tests in front of the other instructions.
@@ -227,28 +257,66 @@ fn steps_and_height(
     Ok((steps, height))
 }
 
-/// Prepares an accepted range for `run_range` and `narrow`.
-pub fn compile_range(alloc: Global, c: &Checked) -> Result<RangeCode, NoMemory>
+/// A range in slots: the variable of each slot, what each needs, and the nodes. `compile_shape` makes the code from it, unless a code
+/// that is there has the shape already.
+#[derive(Drop)]
+pub struct Shape {
+    slots: Vec<u64>,
+    needs: Vec<Option<Need>>,
+    nodes: Vec<RangeNode>,
+}
+
+impl Shape {
+    /// The shape of an accepted range.
+    pub fn new(alloc: Global, c: &Checked) -> Result<Shape, NoMemory>
+        ensures { IfOk result (IsShapeOf c.now) }
+    {
+        let put = put_in_slots(alloc, c.range().nodes())?;
+        let needs = needs_of_slots(alloc, c, &put.slots)?;
+        Ok(Shape {
+            slots: put.slots,
+            needs,
+            nodes: put.nodes,
+        })
+    }
+
+    /// The variables of the range, by their slots.
+    pub fn slots(&self) -> &[u64]
+        ensures { (r : Range) → IsShapeOf r self.now → result.now ≡ slots_of r }
+    {
+        &self.slots
+    }
+}
+
+/// Prepares the range of a shape for `run_range` and `narrow`.
+pub fn compile_shape(alloc: Global, c: &Checked, shape: Shape) -> Result<RangeCode, NoMemory>
+    requires { IsShapeOf c.now shape }
     ensures { IfOk result (λ code. code ≡ c.now) }
 {
     let range = copy_range(alloc, c.range())?;
-    let put = put_in_slots(alloc, range.nodes())?;
-    let reads = reads_of(alloc, &put.nodes, put.slots.len())?;
-    let needs = needs_of_slots(alloc, c, &put.slots)?;
-    let (steps, height) = steps_and_height(alloc, &put.nodes, &needs, &reads.vals)?;
-    let form = form_of(alloc, &put.nodes, reads.vals.is_empty())?;
+    let reads = reads_of(alloc, &shape.nodes, shape.slots.as_slice().len())?;
+    let (steps, height) = steps_and_height(alloc, &shape.nodes, &shape.needs, &reads.vals)?;
+    let form = form_of(alloc, &shape.nodes, reads.vals.is_empty())?;
     Ok(RangeCode {
         range,
-        slots: put.slots,
-        needs,
+        slots: shape.slots,
+        needs: shape.needs,
         features: reads.features,
         kinds: reads.kinds,
         vals: reads.vals,
-        nodes: put.nodes,
+        nodes: shape.nodes,
         steps,
         form,
         height,
     })
+}
+
+/// Prepares an accepted range for `run_range` and `narrow`.
+pub fn compile_range(alloc: Global, c: &Checked) -> Result<RangeCode, NoMemory>
+    ensures { IfOk result (λ code. code ≡ c.now) }
+{
+    let shape = Shape::new(alloc, c)?;
+    compile_shape(alloc, c, shape)
 }
 
 /// The set of the range over the domains of a view, and one more activation in `n`.
