@@ -1,7 +1,7 @@
 -- One more agent.
 use Rattle.std.proofs.Common.{◌≡◌, ℕ, zero, suc, ◌+◌, ◌<◌, ◌≤◌, Bool, true, false, cond, ◌||◌, ◌&&◌, ◌==◌, List, [], ◌∷◌, ◌++◌, map, filter, take, length, get_or, Option, refl, ap, sym, ◌∙◌, subst, inl, inr, arith, eqb-true, eq-eqb, All, nat_lt, le-ltb}
 use Rattle.std.proofs.lemmas.Bool.{true≢false}
-use Rattle.std.proofs.lemmas.List.{length-append, length-map, get_or_append_left, get_or_at, get_or_past, map-append, take_more, append-nil}
+use Rattle.std.proofs.lemmas.List.{length-append, length-map, get_or_append_left, get_or_at, get_or_past, map-append, take_more, take_all, take-append-le, append-nil}
 use Rattle.std.proofs.lemmas.List.Elements.{All-append, All-map, All-tail, filter-append}
 use Rattle.std.proofs.lemmas.List.Folds.{list_any-append}
 use Rattle.std.specs.List.{list_any}
@@ -17,7 +17,7 @@ use Rattle.fd_language.specs.Features.{range_features}
 use Rattle.dependency_chains.specs.declared.Change.{Change}
 use Rattle.dependency_chains.specs.AgentReads.{AgentRead, read_by}
 use Rattle.dependency_chains.specs.Waking.{wakes, is_woken}
-use Rattle.propagate_queue.specs.Postings.{Posting, ranged, ranges_of, AreReaders}
+use Rattle.propagate_queue.specs.Postings.{Posting, ranged, ranges_of, AreReaders, IsAdded}
 use Rattle.propagate_queue.specs.declared.instance.Instance.{Instance}
 use Rattle.propagate_queue.specs.Instances.{posting}
 use Rattle.propagate_queue.specs.Queues.{times, flag_at, flagged, AreQueued}
@@ -110,6 +110,21 @@ posted_more H is is' i e h k = subst (λ l. AllPosted H l) (sym (ap ranges_of e 
   more : (ps : List Indexical) → AllPosted H ps → AllPosted H (ps ++ ranged i ∷ [])
   more [] g = (k, tt)
   more (p ∷ ps) g = (g.0, more ps g.1)
+
+-- all were added, and none
+pub all_added : (more old new : List Posting) → new ≡ old ++ more → IsAdded more old new
+all_added more old new e = record {
+  part = ([], append-nil new ∙ e);
+  many = omega (arith, ap length e, length-append old more);
+  front = ap (take (length old)) e ∙ (take-append-le (length old) old more (omega arith) ∙ take_all (length old) old (omega arith));
+}
+
+pub none_added : (more old new : List Posting) → new ≡ old → IsAdded more old new
+none_added more old new e = record {
+  part = (more, ap (λ l. l ++ more) e);
+  many = omega (arith, ap length e);
+  front = ap (take (length old)) e ∙ take_all (length old) old (omega arith);
+}
 
 -- a flag for each
 pub same_flags : (list : List Instance) → map (λ (i : Instance). true) list ≡ map (λ (p : Posting). true) (map posting list)

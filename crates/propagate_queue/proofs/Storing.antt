@@ -453,14 +453,16 @@ whole_part : (ps qs : List Indexical) (old : Family) → whole_weights ps old �
 whole_part [] qs old = omega arith
 whole_part (p ∷ ps) qs old = omega (arith, whole_part ps qs old)
 
-pub whole_of_part : (old is' rest : List Posting) (list : List Instance) (S T : Family) → is' ++ rest ≡ old ++ map posting list → weights (ranges_of is') S T ≤ whole_weights (ranges_of old ++ posted_by list) S
-whole_of_part old is' rest list S T e =
-    let all : ranges_of is' ++ ranges_of rest ≡ ranges_of old ++ posted_by list =
-    sym (map-append ranged is' rest) ∙ (ap ranges_of e ∙ (map-append ranged old (map posting list) ∙ ap (λ l. ranges_of old ++ l) (map-map ranged posting list))) in
+pub whole_of_parts : (old is' rest new : List Posting) (S T : Family) → is' ++ rest ≡ old ++ new → weights (ranges_of is') S T ≤ whole_weights (ranges_of old ++ ranges_of new) S
+whole_of_parts old is' rest new S T e =
+    let all : ranges_of is' ++ ranges_of rest ≡ ranges_of old ++ ranges_of new = sym (map-append ranged is' rest) ∙ (ap ranges_of e ∙ map-append ranged old new) in
     let a = whole (ranges_of is') S T in
     let b = whole_part (ranges_of is') (ranges_of rest) S in
     let c = ap (λ l. whole_weights l S) all in
     omega arith
+
+pub whole_of_part : (old is' rest : List Posting) (list : List Instance) (S T : Family) → is' ++ rest ≡ old ++ map posting list → weights (ranges_of is') S T ≤ whole_weights (ranges_of old ++ posted_by list) S
+whole_of_part old is' rest list S T e = subst (λ l. weights (ranges_of is') S T ≤ whole_weights (ranges_of old ++ l) S) (map-map ranged posting list) (whole_of_parts old is' rest (map posting list) S T e)
 
 -- the store once more is posted
 pub posted_store : (is is' : List Posting) (flags flags' : List Bool) (agenda agenda' : List ℕ) (spare spare' : ℕ) (readings readings' : AgentReads) (trail trail' : Stores) (ms : List ℕ) (lost lost' spent spent' : Bool) → IsStore is flags agenda spare readings trail ms lost spent

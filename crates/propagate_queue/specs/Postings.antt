@@ -1,5 +1,5 @@
 -- What an agent stands for: a range with the arguments of its slots, posted on a target.
-use Rattle.std.specs.Prelude.{◌≡◌, ℕ, ◌<◌, ◌&&◌, ◌==◌, List, [], map, length, slice_index_or, refl, All}
+use Rattle.std.specs.Prelude.{◌≡◌, ℕ, ◌<◌, ◌&&◌, ◌==◌, ◌≤◌, List, [], ◌++◌, map, take, length, slice_index_or, refl, All}
 use Rattle.std.specs.List.{list_any}
 use Rattle.std.specs.Coded.{Coded, code_by, coded×, coded_ℕ, coded_list}
 use Rattle.fd_language.specs.Range.{Range, Indexical, Dom}
@@ -34,6 +34,12 @@ ranged p = record { target = p.target; range = posted p.range p.args }
 -- the ranges that are posted, in order
 abbrev pub ranges_of : List Posting → List Indexical
 ranges_of is = map ranged is
+
+-- the new agents are the old ones and the first of those to be added
+pub record IsAdded (more old new : List Posting) : Type 0 where
+  pub part : (rest : List Posting) × (new ++ rest ≡ old ++ more)
+  pub many : length old ≤ length new
+  pub front : take (length old) new ≡ old
 
 -- its variables are among the first so many, and its integers meet their needs
 abbrev pub IsPosting : ℕ → Posting → Type 0

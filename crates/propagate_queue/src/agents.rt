@@ -8,27 +8,29 @@ ghost use Rattle.fd_language.specs.Range.{set_of, is_none_left};
 ghost use Rattle.domain_ranges.specs.Narrowing.{IsNarrowed};
 ghost use Rattle.range_code.specs.Frames.{family_of, IsFrame};
 ghost use Rattle.range_code.specs.Reaching.{IsReach};
-ghost use Rattle.propagate_queue.specs.Instances.{posting};
+ghost use Rattle.propagate_queue.specs.Instances.{posting_of};
 ghost use Rattle.propagate_queue.specs.Postings.{Posting, ranged, posting_at};
 
-use crate::instance::Instance;
 use domain_ranges::{Domain, Narrowed, View};
 use fd_language::NoMemory;
-use range_code::{Activations, Arg, RangeCode, Reach, Stacks, find_reach, narrow};
+use range_code::{
+    Activations, Arg, Quick, RangeCode, Reach, Stacks, find_reach, narrow, quick_of, quick_reach,
+};
 use std::alloc::Global;
 use std::marker::Model;
 use std::rc::Rc;
 
-/// The code and the target of an agent, and where its arguments stand. It takes 32 bytes.
+/// The code and the target of an agent, where its arguments stand, and the quick form of the code with these arguments. It takes 64 bytes.
 #[derive(Drop)]
 struct Agent {
     code: Rc<RangeCode>,
     target: usize,
     first: usize,
     count: usize,
+    quick: Quick,
 }
 
-const _: () = prove!(size_of::<Agent>() == 32);
+const _: () = prove!(size_of::<Agent>() == 64);
 
 /// The agents in the order in which they were posted, with the stacks on which their ranges are evaluated.
 /// An agent's number is its place.
@@ -47,11 +49,12 @@ impl Model for Agents {
 
     ghost coded = { postings_coded };
 
-    ghost use Rattle.propagate_queue.specs.AgentArguments.{laid_out, AreLaid, HaveRoom};
+    ghost use Rattle.propagate_queue.specs.AgentArguments.{laid_out, AreLaid, AreQuick, HaveRoom};
 
     ghost view = { λ a. laid_out a.list.items a.args.items };
 
-    ghost invariant = { λ a. AreLaid a.list.items a.args.items × HaveRoom a.stacks a.list.items };
+    ghost invariant = { λ a. AreLaid a.list.items a.args.items × HaveRoom a.stacks a.list.items
+        × AreQuick a.list.items a.args.items };
 }
 
 impl Agents {
@@ -101,9 +104,12 @@ impl Agents {
             result }
     {
         let agent = &self.list[number];
-        let end = agent.first + agent.count;
-        let args = &self.args[agent.first..end];
-        find_reach(&agent.code, args, view)
+        if let Quick::Other = agent.quick {
+            let end = agent.first + agent.count;
+            let args = &self.args[agent.first..end];
+            return find_reach(&agent.code, args, view);
+        }
+        quick_reach(agent.quick, view)
     }
 
     /// What the range of an agent leaves of `target`, and one more activation in `n`. No set of the view is empty.
@@ -133,20 +139,23 @@ impl Agents {
     }
 
     /// One more agent.
-    pub fn push(&mut self, instance: Instance) -> Result<(), NoMemory>
-        ensures added { OnOk result (self.new ≡ self.old ++ posting instance ∷ []) }
+    pub fn push(&mut self, code: Rc<RangeCode>, target: usize, args: &[Arg]) -> Result<(), NoMemory>
+        ensures added { OnOk result (self.new ≡ self.old
+            ++ posting_of code.value target args.now ∷ []) }
         ensures unchanged { OnErr result (self.new ≡ self.old) }
     {
         self.list.reserve(1)?;
-        self.stacks.reserve(&instance.code)?;
+        self.stacks.reserve(&code)?;
         let first = self.args.len();
-        let count = instance.args.len();
-        self.args.extend_from_slice(&instance.args)?;
+        let count = args.len();
+        let quick = quick_of(&code, args);
+        self.args.extend_from_slice(args)?;
         self.list.push_reserved(Agent {
-            code: instance.code,
-            target: instance.target,
+            code,
+            target,
             first,
             count,
+            quick,
         });
         Ok(())
     }

@@ -6,12 +6,12 @@ ghost use Rattle.fd_language.specs.Monotonicity.{IsMonotone};
 ghost use Rattle.fd_model.specs.Closed.{AllPosted};
 ghost use Rattle.fd_model.specs.Weights.{weights};
 ghost use Rattle.range_code.specs.Frames.{family_of};
-ghost use Rattle.propagate_queue.specs.Instances.{posting, posted_by, IsInstance};
-ghost use Rattle.propagate_queue.specs.Postings.{Posting, ranges_of, IsPosting, AreReaders};
+ghost use Rattle.propagate_queue.specs.Instances.{posting, posting_of, posted_by, IsInstance};
+ghost use Rattle.propagate_queue.specs.Postings.{Posting, ranged, ranges_of, IsPosting, AreReaders, IsAdded};
 ghost use Rattle.propagate_queue.specs.Queues.{AreQueued};
 ghost use Rattle.propagate_queue.specs.Running.{AreDomains, HasNone};
 
-use crate::adding::add_agents;
+use crate::adding::{add_agents, add_one};
 use crate::agenda::Agenda;
 use crate::agents::Agents;
 use crate::instance::Instance;
@@ -20,9 +20,10 @@ use dependency_chains::Chains;
 use domain_ranges::{Domain, View};
 use domain_trail::Trail;
 use fd_language::{Feature, NoMemory};
-use range_code::Activations;
+use range_code::{Activations, Arg, RangeCode};
 use std::alloc::Global;
 use std::marker::Model;
+use std::rc::Rc;
 
 /// How a post ended.
 #[derive(Clone, Copy, Debug, PartialEq, Eq)]
@@ -150,6 +151,54 @@ impl<A: Agenda + Drop> Store<A> {
         self.failed = !kept;
         self.spent = false;
         Ok(if kept { Posted::Kept } else { Posted::Failed })
+    }
+
+    /// Posts one range behind those that are posted, as `post` does with a list of one.
+    pub fn post_one(
+        &mut self,
+        code: Rc<RangeCode>,
+        target: usize,
+        args: &[Arg],
+        n: &mut Activations,
+    ) -> Result<Posted, NoMemory>
+        requires { IsPosting (length self.old.current.sets)
+            (posting_of code.value target args.now) }
+        ensures posted { OnOk result (self.new.current.posted ≡ self.old.current.posted
+            ++ ranged (posting_of code.value target args.now) ∷ []) }
+        ensures vars { OnOk result (length self.new.current.sets ≡ length self.old.current.sets) }
+        ensures below { self.new.below ≡ self.old.below }
+        ensures unspent { OnOk result ((self.old.spent ≡ false) × (self.new.spent ≡ false)) }
+        ensures spent { OnErr result (self.new.spent ≡ true) }
+        ensures done { IfOk result (λ p. IsPosted p self.new.current) }
+        ensures still_failed { self.old.current.failed ≡ true
+            → IfOk result (λ p. p ≡ Ended.Failed) × (n.new.count ≡ n.old.count) }
+        ensures uncounted { self.old.spent ≡ true → n.new.count ≡ n.old.count }
+        ensures count { n.new.count
+            ≤ n.old.count + (1 + step_weight self.old.current self.new.current) }
+        ensures whole { n.new.count ≤ n.old.count + (1 + whole_weight_of_post self.old.current
+            (ranged (posting_of code.value target args.now) ∷ [])) }
+    {
+        if self.spent {
+            return Err(NoMemory);
+        }
+        self.spent = true;
+        let kept = post_new(
+            &mut self.trail,
+            &mut self.chains,
+            &mut self.agents,
+            &mut self.queued,
+            &mut self.agenda,
+            &mut self.scratch,
+            self.failed,
+            code,
+            target,
+            args,
+            n,
+        )?;
+        self.failed = !kept;
+        self.spent = false;
+        let ended = if kept { Posted::Kept } else { Posted::Failed };
+        Ok(ended)
     }
 
     /// How many variables the current level has.
@@ -300,6 +349,69 @@ fn post_all<A: Agenda>(
     let vars = trail.vars();
     agenda.reserve(queued.len() + list.len())?;
     add_agents(agents, queued, chains, agenda, scratch, vars, list)?;
+    if lost {
+        clear(agenda, queued);
+        return Ok(false);
+    }
+    propagate(trail, chains, agents, agenda, queued, n)
+}
+
+/// Adds one agent, and propagates unless the level has failed. Whether no domain would be empty.
+fn post_new<A: Agenda>(
+    trail: &mut Trail,
+    chains: &mut Chains,
+    agents: &mut Agents,
+    queued: &mut Vec<bool>,
+    agenda: &mut A,
+    scratch: &mut Vec<(usize, Feature)>,
+    lost: bool,
+    code: Rc<RangeCode>,
+    target: usize,
+    args: &[Arg],
+    n: &mut Activations,
+) -> Result<bool, NoMemory>
+    requires instance { IsPosting (length trail.old.current)
+        (posting_of code.value target args.now) }
+    requires instances { All (IsPosting (length trail.old.current)) agents.old }
+    requires monotone { AllPosted (λ p. IsMonotone TOP p.range) (ranges_of agents.old) }
+    requires readers { AreReaders (ranges_of agents.old) chains.old.reads }
+    requires vars { chains.old.vars ≡ length trail.old.current }
+    requires within { All (λ r. r.var < length trail.old.current) chains.old.reads }
+    requires flagged { length queued.old.items ≡ length agents.old }
+    requires queued { AreQueued queued.old.items (A.agents agenda.old) (A.spare agenda.old) }
+    requires empty { A.agents agenda.old ≡ [] }
+    requires settled { lost ≡ false → AreDomains (ranges_of agents.old) trail.old.current }
+    requires failed { lost ≡ true → HasNone (ranges_of agents.old) (length trail.old.current) }
+    ensures added { IsAdded (posting_of code.value target args.now ∷ []) agents.old agents.new }
+    ensures agents { OnOk result (agents.new ≡ agents.old
+        ++ posting_of code.value target args.now ∷ []) }
+    ensures instances { All (IsPosting (length trail.old.current)) agents.new }
+    ensures monotone { AllPosted (λ p. IsMonotone TOP p.range) (ranges_of agents.new) }
+    ensures readers { AreReaders (ranges_of agents.new) chains.new.reads }
+    ensures vars { chains.new.vars ≡ length trail.old.current }
+    ensures within { All (λ r. r.var < length trail.old.current) chains.new.reads }
+    ensures flagged { length queued.new.items ≡ length agents.new }
+    ensures kept { (m : ℕ) → m ≤ length agents.old
+        → filter (λ r. nat_lt r.agent m) chains.new.reads
+        ≡ filter (λ r. nat_lt r.agent m) chains.old.reads }
+    ensures below { trail.new.below ≡ trail.old.below }
+    ensures sets { length trail.new.current ≡ length trail.old.current }
+    ensures queued { OnOk result (AreQueued queued.new.items (A.agents agenda.new)
+        (A.spare agenda.new)) }
+    ensures empty { OnOk result (A.agents agenda.new ≡ []) }
+    ensures done { IfOk result
+        (λ b. MatchBool b (AreDomains (ranges_of agents.new) trail.new.current)
+        (HasNone (ranges_of agents.new) (length trail.old.current))) }
+    ensures lost { lost ≡ true → IfOk result (λ b. b ≡ false) }
+    ensures uncounted { lost ≡ true → n.new.count ≡ n.old.count }
+    ensures count { n.new.count ≤ n.old.count + (1 + weights (ranges_of agents.new)
+        (family_of trail.old.current) (family_of trail.new.current)) }
+{
+    let vars = trail.vars();
+    agenda.reserve(queued.len() + 1)?;
+    add_one(
+        agents, queued, chains, agenda, scratch, vars, code, target, args,
+    )?;
     if lost {
         clear(agenda, queued);
         return Ok(false);

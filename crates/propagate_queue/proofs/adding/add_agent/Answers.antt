@@ -1,6 +1,6 @@
 use Rattle.std.proofs.Common.{◌++◌, ◌∷◌, [], ◌∙◌, length, ap, arith, true}
 use Rattle.dependency_chains.specs.AgentReads.{read_by}
-use Rattle.propagate_queue.specs.Instances.{posting}
+use Rattle.propagate_queue.specs.Instances.{posting_of}
 use Rattle.propagate_queue.proofs.Queueing.{flagged_below}
 use Rattle.propagate_queue.proofs.NewAgents.{was_added, agent_readers, agent_within, agent_kept}
 use Rattle.propagate_queue.proofs.adding.add_agent.Goals as goal
@@ -15,7 +15,7 @@ returns-clause-queued g c =
 
 pub returns-clause-readers : goal.returns-clause-readers
 returns-clause-readers g c =
-    agent_readers c.args.agents.now c.push.new.self (posting c.args.instance) c.len-agent.result c.args.chains.now.reads c.register.new.self.reads c.read_features.new.into.items c.requires.readers
+    agent_readers c.args.agents.now c.push.new.self (posting_of c.args.code.value c.args.target c.args.args.now) c.len-agent.result c.args.chains.now.reads c.register.new.self.reads c.read_features.new.into.items c.requires.readers
     c.in_ok-push.ensures.added (omega (arith, c.len-agent.ensures))
     (ap (λ s. s.reads) c.in_default.ensures.added ∙ ap (λ f. c.args.chains.now.reads ++ read_by c.len-agent.result f) c.deref-2.ensures.value) c.in_ok-read_features.ensures.same
 

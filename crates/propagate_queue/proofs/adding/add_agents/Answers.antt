@@ -5,10 +5,10 @@ use Rattle.std.proofs.lemmas.List.{append_assoc, map-append, map-id, length-appe
 use Rattle.std.proofs.lemmas.List.Elements.{All-push}
 use Rattle.fd_language.specs.declared.TheConstants.{INFINITY}
 use Rattle.fd_language.specs.Monotonicity.{IsMonotone}
-use Rattle.propagate_queue.specs.Postings.{Posting}
+use Rattle.range_code.specs.Frames.{posted}
 use Rattle.propagate_queue.specs.declared.instance.Instance.{Instance}
-use Rattle.propagate_queue.specs.Postings.{IsPosting}
-use Rattle.propagate_queue.specs.Instances.{posting, IsInstance}
+use Rattle.propagate_queue.specs.Postings.{Posting, IsPosting}
+use Rattle.propagate_queue.specs.Instances.{posting, posting_of, IsInstance}
 use Rattle.propagate_queue.proofs.NewAgents.{posted_more}
 use Rattle.propagate_queue.proofs.adding.add_agents.Goals as goal
 
@@ -19,6 +19,13 @@ rest_of old yielded list e = (
       ∙ ap (λ l. old ++ l) (sym (map-append posting yielded (drop (length yielded) list)) ∙ ap (map posting) (ap (λ l. l ++ drop (length yielded) list) (sym (map-id yielded) ∙ e) ∙ take-append-drop (length yielded) list)),
 )
 
+pub add_agent-requires-clause-instance : goal.add_agent-requires-clause-instance
+add_agent-requires-clause-instance g c =
+    let i = c.in-Some.instance in
+    let t = YieldsList-turn (YieldsList-from_vec {s = c.into_iter-instance-iterator.result} c.args.list.items (search rules) (search rules)) c.loop-instance.yielded c.loop-instance.instance-iterator c.loop-instance.yielded_by c.next.result c.next.new.self i c.in-Some.is c.next.ensures.steps in
+    let here : IsInstance c.args.vars i = subst (IsInstance c.args.vars) (sym t.1) (c.requires.instances (length c.loop-instance.yielded) i t.0) in
+    subst (λ l. IsPosting c.args.vars (posting_of i.code.value i.target l)) (sym c.deref.ensures.value) here
+
 pub loop-instance-preserved : goal.loop-instance-preserved
 loop-instance-preserved g c =
     let i = c.in-Some.instance in
@@ -26,13 +33,14 @@ loop-instance-preserved g c =
     let inv = c.loop-instance.invariant in
     let t = YieldsList-turn (YieldsList-from_vec {s = c.into_iter-instance-iterator.result} c.args.list.items (search rules) (search rules)) c.loop-instance.yielded c.loop-instance.instance-iterator c.loop-instance.yielded_by c.next.result c.next.new.self i c.in-Some.is c.next.ensures.steps in
     let here : IsInstance c.args.vars i = subst (IsInstance c.args.vars) (sym t.1) (c.requires.instances (length c.loop-instance.yielded) i t.0) in
+    let grown = c.in_ok-add_agent.ensures.agents ∙ ap (λ l. c.loop-instance.agents ++ posting_of i.code.value i.target l ∷ []) c.deref.ensures.value in
     record {
-      agents = c.in_ok-add_agent.ensures.agents ∙ ap (λ l. l ++ posting i ∷ []) inv.agents ∙ append_assoc old (map posting c.loop-instance.yielded) (posting i ∷ []) ∙ ap (λ l. old ++ l) (sym (map-append posting c.loop-instance.yielded (i ∷ [])));
+      agents = grown ∙ ap (λ l. l ++ posting i ∷ []) inv.agents ∙ append_assoc old (map posting c.loop-instance.yielded) (posting i ∷ []) ∙ ap (λ l. old ++ l) (sym (map-append posting c.loop-instance.yielded (i ∷ [])));
       flags = c.in_ok-add_agent.ensures.flags ∙ ap (λ l. l ++ true ∷ []) inv.flags ∙ append_assoc c.args.queued.now.items (map (λ _. true) c.loop-instance.yielded) (true ∷ []) ∙ ap (λ l. c.args.queued.now.items ++ l) (sym (map-append (λ (x : Instance). true) c.loop-instance.yielded (i ∷ [])));
       queued = c.in_ok-add_agent.ensures.queued;
       room = omega (arith, inv.room, c.in_ok-add_agent.ensures.room);
-      instances = subst (λ (l : List Posting). All (IsPosting c.args.vars) l) (sym c.in_ok-add_agent.ensures.agents) (All-push (IsPosting c.args.vars) c.loop-instance.agents (posting i) inv.instances here);
-      monotone = posted_more (λ p. IsMonotone INFINITY p.range) c.loop-instance.agents c.add_agent.new.agents (posting i) c.in_ok-add_agent.ensures.agents inv.monotone c.in_ok-add_agent.ensures.monotone;
+      instances = subst (λ (l : List Posting). All (IsPosting c.args.vars) l) (sym grown) (All-push (IsPosting c.args.vars) c.loop-instance.agents (posting i) inv.instances here);
+      monotone = posted_more (λ p. IsMonotone INFINITY p.range) c.loop-instance.agents c.add_agent.new.agents (posting i) grown inv.monotone (subst (λ l. IsMonotone INFINITY (posted i.code.value l)) c.deref.ensures.value c.in_ok-add_agent.ensures.monotone);
       readers = c.in_ok-add_agent.ensures.readers;
       vars = c.in_ok-add_agent.ensures.vars;
       within = c.in_ok-add_agent.ensures.within;
