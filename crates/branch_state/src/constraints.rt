@@ -1,6 +1,6 @@
 //! Constraints on terms of the heap: their ranges on variables of the store.
 
-ghost use Rattle.std.specs.Prelude.{◌≡◌, ◌<◌, ◌≤◌, ◌-◌, Some, length, All, IfOk, OnOk};
+ghost use Rattle.std.specs.Prelude.{◌≡◌, ◌<◌, ◌≤◌, ◌-◌, None, Some, length, All, IfOk, OnErr, OnOk};
 ghost use Rattle.fd_language.specs.declared.TheConstants.{INFINITY};
 ghost use Rattle.fd_model.specs.Constraining.{expand as expanded, arguments as arguments_of};
 ghost use Rattle.heap_cells.specs.Cells.{IsOf, with_now};
@@ -41,7 +41,8 @@ pub(crate) struct Listed {
 
 /// The fault of a constraint. The error is want of memory.
 pub(crate) fn fault_of(fault: ExpandFault) -> Result<QueryFault, NoMemory>
-    ensures { IfOk result (λ q. expansion_fault fault ≡ Some q) }
+    ensures fault { IfOk result (λ q. expansion_fault fault ≡ Some q) }
+    ensures memory { OnErr result (expansion_fault fault ≡ None) }
 {
     match fault {
         ExpandFault::Linear(LinearFault::Nonlinear) => Ok(QueryFault::Nonlinear),

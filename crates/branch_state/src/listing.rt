@@ -1,8 +1,10 @@
 //! The ranges of a constraint as they are posted, where ranges that differ only in the names of their variables share one code.
 
-ghost use Rattle.std.specs.Prelude.{◌≡◌, ◌∷◌, [], map, length, IfOk, OnOk};
+ghost use Rattle.std.specs.Prelude.{◌≡◌, ◌∷◌, [], map, length, IfOk, IfSome, OnOk};
 ghost use Rattle.fd_language.specs.Term.{Var as variable};
+ghost use Rattle.fd_language.specs.Range.{Range};
 ghost use Rattle.range_code.specs.declared.frame.Arg.TheVariants as arg;
+ghost use Rattle.range_code.specs.CodeFields.{IsShapeOf};
 ghost use Rattle.constraint_expand.specs.Posts.{indexicals};
 ghost use Rattle.propagate_queue.specs.Instances.{posting};
 ghost use Rattle.branch_state.specs.Constraints.{variables_in, store_variable, row_posting, IsUnbound, AreUnbound, AreLinked};
@@ -14,7 +16,7 @@ use fd_language::NoMemory;
 use heap_cells::{Cell, Heap, Seen};
 use monotone_check::Checked;
 use propagate_queue::{Agenda, Instance, Store};
-use range_code::{Arg, RangeCode, compile_range};
+use range_code::{Arg, RangeCode, Shape, compile_shape};
 use std::alloc::Global;
 use std::mem::replace;
 use std::rc::Rc;
@@ -34,24 +36,49 @@ impl Recent {
         }
     }
 
-    /// A recent code that is alike, or else this one, which then is the last.
-    fn share(&mut self, alloc: Global, code: RangeCode) -> Result<Rc<RangeCode>, NoMemory>
-        ensures { IfOk result (λ shared. IsAlike shared.value code) }
+    /// One of the codes that has the shape.
+    fn find(&self, shape: &Shape) -> Result<Option<Rc<RangeCode>>, NoMemory>
+        ensures { IfOk result (λ found. IfSome found (λ code. (r : Range)
+            → IsShapeOf r shape.now → IsAlike code.value r)) }
     {
         if let Some(last) = &self.last {
-            if last.is_alike(&code) {
-                return Ok(Rc::clone(last)?);
+            if last.has_shape(shape) {
+                return Ok(Some(Rc::clone(last)?));
             }
         }
         if let Some(before) = &self.before {
-            if before.is_alike(&code) {
-                return Ok(Rc::clone(before)?);
+            if before.has_shape(shape) {
+                return Ok(Some(Rc::clone(before)?));
             }
         }
+        Ok(None)
+    }
+
+    /// The code, which is the last one now.
+    fn keep(&mut self, alloc: Global, code: RangeCode) -> Result<Rc<RangeCode>, NoMemory>
+        ensures { IfOk result (λ kept. kept.value ≡ code) }
+    {
         let made = Rc::new(alloc, code)?;
         let kept = Rc::clone(&made)?;
         self.before = replace(&mut self.last, Some(kept));
         Ok(made)
+    }
+
+    /// A recent code that is alike to the range of the shape. Where there is none the range is compiled, and its code then is the last.
+    fn share(
+        &mut self,
+        alloc: Global,
+        range: &Checked,
+        shape: Shape,
+    ) -> Result<Rc<RangeCode>, NoMemory>
+        requires { IsShapeOf range.now shape }
+        ensures { IfOk result (λ shared. IsAlike shared.value range.now) }
+    {
+        if let Some(found) = self.find(&shape)? {
+            return Ok(found);
+        }
+        let code = compile_shape(alloc, range, shape)?;
+        self.keep(alloc, code)
     }
 }
 
@@ -126,17 +153,20 @@ fn instance(
     heap: &Heap,
     recent: &mut Recent,
     target: u64,
-    code: RangeCode,
+    range: &Checked,
+    shape: Shape,
 ) -> Result<Instance, NoMemory>
-    requires { AreLinked heap.now.now
-        (variables_in (record { target = target; range = code } ∷ [])) }
+    requires shape { IsShapeOf range.now shape }
+    requires linked { AreLinked heap.now.now
+        (variables_in (record { target = target; range = range.now } ∷ [])) }
     ensures { IfOk result (λ i. IsSamePosting (posting i)
-        (row_posting (store_variable heap.now.now) (record { target = target; range = code }))) }
+        (row_posting (store_variable heap.now.now)
+        (record { target = target; range = range.now }))) }
 {
-    let args = arguments(alloc, heap, code.slots())?;
+    let args = arguments(alloc, heap, shape.slots())?;
     let target = variable_of(heap, target);
     Ok(Instance {
-        code: recent.share(alloc, code)?,
+        code: recent.share(alloc, range, shape)?,
         target,
         args,
     })
@@ -163,10 +193,10 @@ fn list_range<A: Agenda + Drop>(
         (record { target = target; range = range.now } ∷ [])
         listing.old.list.items listing.new.list.items) }
 {
-    let code = compile_range(alloc, range)?;
+    let shape = Shape::new(alloc, range)?;
     link(heap, store, target)?;
-    link_all(heap, store, code.slots())?;
-    let instance = instance(alloc, heap, &mut listing.recent, target, code)?;
+    link_all(heap, store, shape.slots())?;
+    let instance = instance(alloc, heap, &mut listing.recent, target, range, shape)?;
     listing.list.push(instance)?;
     Ok(())
 }

@@ -1,7 +1,7 @@
-use Rattle.std.proofs.Common.{◌≡◌, ◌∙◌, ◌∷◌, ◌==◌, ℕ, List, [], true, ap, sym, subst, refl, eq-eqb}
+use Rattle.std.proofs.Common.{◌≡◌, ◌∷◌, ◌==◌, ℕ, List, [], true, sym, subst, refl, eq-eqb}
 use Rattle.std.proofs.lemmas.Bool.{or_left}
 use Rattle.fd_language.specs.Family.{has}
-use Rattle.fd_language.specs.Range.{Range, Indexical}
+use Rattle.fd_language.specs.Range.{Indexical}
 use Rattle.range_code.specs.Slots.{slots_of}
 use Rattle.branch_state.specs.Constraints.{AreLinked, AreUnbound, variables_in}
 use Rattle.branch_state.specs.Listing.{LinksMore}
@@ -17,7 +17,7 @@ link-requires g c =
 pub link_all-requires-clause-unbound : goal.link_all-requires-clause-unbound
 link_all-requires-clause-unbound g c =
     let p : Indexical = record { target = c.args.target; range = c.args.range.now } in
-    let slots : c.slots.result.now ≡ slots_of p.range = c.slots.ensures ∙ ap slots_of c.in_ok-code.ensures in
+    let slots : c.slots.result.now ≡ slots_of p.range = c.slots.ensures p.range c.in_ok-shape.ensures in
     subst (AreUnbound c.link.new.heap.now) (sym slots)
     (range_unbound c.args.heap.now.now c.args.store.now.current.sets c.requires.links p c.link.new.heap.now c.link.new.store.current.sets c.in_ok-link.ensures.linked c.requires.unbound)
 
@@ -25,21 +25,20 @@ pub link_all-requires-clause-links : goal.link_all-requires-clause-links
 link_all-requires-clause-links g c =
     links_own c.args.heap.now.now c.args.store.now.current.sets c.requires.links (c.args.target ∷ []) c.link.new.heap.now c.link.new.store.current.sets c.in_ok-link.ensures.linked
 
-pub instance-requires : goal.instance-requires
-instance-requires g c =
+pub instance-requires-clause-linked : goal.instance-requires-clause-linked
+instance-requires-clause-linked g c =
     let p : Indexical = record { target = c.args.target; range = c.args.range.now } in
-    let slots : c.slots.result.now ≡ slots_of p.range = c.slots.ensures ∙ ap slots_of c.in_ok-code.ensures in
+    let slots : c.slots.result.now ≡ slots_of p.range = c.slots.ensures p.range c.in_ok-shape.ensures in
     let now = c.link_all.new.heap.now in
     let T = c.link_all.new.store.current.sets in
     let b = subst (λ (xs : List ℕ). LinksMore c.link.new.heap.now c.link.new.store.current.sets xs now T) slots c.in_ok-link_all.ensures.linked in
     let all = range_links c.args.heap.now.now c.args.store.now.current.sets c.requires.links p c.link.new.heap.now c.link.new.store.current.sets c.in_ok-link.ensures.linked now T b in
-    subst (λ (r : Range). AreLinked now (variables_in (record { target = c.args.target; range = r } ∷ []))) (sym c.in_ok-code.ensures)
-    (range_linked c.args.heap.now.now c.args.store.now.current.sets c.requires.links (variables_in (p ∷ [])) now T all)
+    range_linked c.args.heap.now.now c.args.store.now.current.sets c.requires.links (variables_in (p ∷ [])) now T all
 
 pub returns-clause-linked : goal.returns-clause-linked
 returns-clause-linked g c =
     let p : Indexical = record { target = c.args.target; range = c.args.range.now } in
-    let slots : c.slots.result.now ≡ slots_of p.range = c.slots.ensures ∙ ap slots_of c.in_ok-code.ensures in
+    let slots : c.slots.result.now ≡ slots_of p.range = c.slots.ensures p.range c.in_ok-shape.ensures in
     let now = c.link_all.new.heap.now in
     let T = c.link_all.new.store.current.sets in
     let b = subst (λ (xs : List ℕ). LinksMore c.link.new.heap.now c.link.new.store.current.sets xs now T) slots c.in_ok-link_all.ensures.linked in
@@ -48,5 +47,4 @@ returns-clause-linked g c =
 pub returns-clause-listed : goal.returns-clause-listed
 returns-clause-listed g c =
     let p : Indexical = record { target = c.args.target; range = c.args.range.now } in
-    one_listed c.link_all.new.heap.now p (record { target = c.args.target; range = c.in_ok-code.code }) c.args.listing.now.list.items c.push.new.self.items c.in_ok-instance.instance c.in_ok-instance.ensures
-    (ap (λ (r : Range). record { target = c.args.target; range = r }) c.in_ok-code.ensures) c.in_ok-push.ensures.items
+    one_listed c.link_all.new.heap.now p p c.args.listing.now.list.items c.push.new.self.items c.in_ok-instance.instance c.in_ok-instance.ensures refl c.in_ok-push.ensures.items

@@ -32,7 +32,7 @@ returns-in-Err-clause-step g c =
     let fresh = c.in_ok-fresh.fresh in
     let read = row_read names now o atoms kind cell own fresh c.in_ok-fresh.ensures.count in
     let moved = ap (λ (x : Heaps). expand INFINITY kind (arguments (seen_term (name_in names) x.now (family_of now.levels.current.sets) cell)) fresh) (sym same) in
-    let fault : row_of names now kind cell ≡ Err c.in_ok-fault_of-in-Err.field-0 = sym read ∙ moved ∙ fault_read _ c.in-Err.fault c.in_ok-fault_of-in-Err.field-0 c.in-Err.ensures.row c.in_ok-fault_of-in-Err.ensures in
+    let fault : row_of names now kind cell ≡ Err c.in_ok-fault_of-in-Err.field-0 = sym read ∙ moved ∙ fault_read _ c.in-Err.fault c.in_ok-fault_of-in-Err.field-0 c.in-Err.ensures.row c.in_ok-fault_of-in-Err.ensures.fault in
     let unmoved : record { atoms = now.atoms; infinity = now.infinity; heaps = c.count_variables.new.heap; levels = now.levels } ≡ now = ap (λ (x : Heaps). record { atoms = now.atoms; infinity = now.infinity; heaps = x; levels = now.levels }) same in
     (subst (λ (v : State). row_of names v kind cell ≡ Err c.in_ok-fault_of-in-Err.field-0) c.self.view_is fault, unmoved ∙ c.self.view_is)
 
