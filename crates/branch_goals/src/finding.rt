@@ -1,6 +1,6 @@
 //! What built-in goals come to.
 
-ghost use Rattle.std.specs.Prelude.{◌≡◌, ◌<◌, length, IfOk};
+ghost use Rattle.std.specs.Prelude.{◌≡◌, ◌<◌, length, IfOk, OnErr};
 ghost use Rattle.heap_cells.specs.Cells.{IsOf};
 ghost use Rattle.heap_cells.specs.Terms.{IsOneToOne, Naming};
 ghost use Rattle.builtin_calls.specs.Passing.{passes as is_passed};
@@ -34,7 +34,8 @@ pub enum Found {
 
 /// The fault of a query whose goal evaluates a term. The error is want of memory.
 fn fault_of(fault: EvalFault) -> Result<QueryFault, NoMemory>
-    ensures { IfOk result (λ f. fault_is fault f) }
+    ensures fault { IfOk result (λ f. fault_is fault f) }
+    ensures memory { OnErr result (fault ≡ EvalFault.NoMemory) }
 {
     match fault {
         EvalFault::Unbound => Ok(QueryFault::Instantiation),

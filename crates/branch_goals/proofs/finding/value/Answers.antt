@@ -19,4 +19,4 @@ returns-in-Ok g c = λ name n.
 pub returns-in_ok-fault_of-in-Err : goal.returns-in_ok-fault_of-in-Err
 returns-in_ok-fault_of-in-Err g c = λ name n.
     fault_value c.in-Err.fault (value_of (seen_at name c.args.branch.now c.args.c)) c.in_ok-fault_of-in-Err.field-0
-    (value_by name c.args.branch.now c.heap.result.now c.store.result.now c.heap.ensures c.store.ensures c.args.c (IsFault c.in-Err.fault) (c.in-Err.ensures name n.0)) c.in_ok-fault_of-in-Err.ensures
+    (value_by name c.args.branch.now c.heap.result.now c.store.result.now c.heap.ensures c.store.ensures c.args.c (IsFault c.in-Err.fault) (c.in-Err.ensures name n.0)) c.in_ok-fault_of-in-Err.ensures.fault
