@@ -30,7 +30,7 @@ use Rattle.clause_code.specs.Safe.{unplaced, aims, is_plain, IsThereIn, IsSafePi
 use Rattle.clause_code.specs.Flowing.{is_inner, Runs, Flows, MayEnter}
 use Rattle.clause_code.specs.Steps.{home, is_made, marked_by_all, code_of, gets, puts, fills, filled, Suits, AllSuit}
 use Rattle.clause_code.specs.Bodies.{Levels, HasDepths, AreFree, between_goals, InBody, IsRest, IsGoalsCode}
-use Rattle.clause_code.specs.Whole.{front, back, unmade, head_code, level_codes, levels_code, levels_behind, no_levels, IsHoused}
+use Rattle.clause_code.specs.Whole.{front, back, unmade, head_code, levels_code, levels_behind, no_levels, IsHoused}
 use Rattle.clause_code.specs.ArgumentHomes.{AllWait}
 use Rattle.clause_code.proofs.Pieces.{does_both, does_allocate, ends_behind, ends_proceed, ends_execute, ends_answer, does_deallocate}
 use Rattle.clause_code.proofs.Making.{AreApart, Unknown, KeepsSlots, has_more}

@@ -1,34 +1,33 @@
 -- Cuts and tests: what their code does, and how states flow through it.
-use Rattle.std.proofs.Common.{◌≡◌, ◌⊎◌, ℕ, zero, suc, ◌+◌, ◌<◌, ◌≤◌, Bool, true, false, IsTrue, List, [], ◌∷◌, ◌++◌, map, Option, Some, None, option_map, length, slice_get, slice_set, refl, ap, sym, ◌∙◌, subst, arith, inl, inr}
+use Rattle.std.proofs.Common.{◌≡◌, ◌⊎◌, ℕ, zero, suc, ◌+◌, ◌<◌, ◌≤◌, Bool, true, IsTrue, List, [], ◌∷◌, ◌++◌, Option, Some, None, option_map, length, slice_get, slice_set, refl, ap, sym, ◌∙◌, subst, arith, inl, inr}
 use Rattle.std.proofs.lemmas.Bool.{cases_eq, true≢false}
-use Rattle.fd_language.specs.Term.{Term, Var}
+use Rattle.fd_language.specs.Term.{Var}
 use Rattle.fd_model.specs.declared.kinds.BuiltinKind.TheVariants as kind
 use Rattle.fd_model.specs.Goal as goal
 use Rattle.fd_model.specs.Goal.{Goal, Goals, listed, marked_goals, marked_all}
-use Rattle.fd_model.specs.Renaming.{rename_goal, rename_goals}
+use Rattle.fd_model.specs.Renaming.{rename_goals}
 use Rattle.wam_code.specs.declared.instruction.Register.{Register}
 use Rattle.wam_code.specs.declared.instruction.Register.TheVariants.{X, Y}
 use Rattle.wam_code.specs.declared.instruction.Code.{Code}
 use Rattle.wam_code.specs.declared.instruction.Code.TheVariants.{Jump, Builtin, TestOnly, EnterTest, CutTo}
 use Rattle.wam_code.specs.Area.{Slot, Unset, Cell, Level, State}
 use Rattle.wam_code.specs.Effect.{slot_at, is_level, may_be_level, with_mark, with_level, effect}
-use Rattle.wam_code.specs.Places.{Depth, deeper, one_deeper, Places, put_at, drop_at, read, put_level, drop_level, IsSettled, AreWithin, IsDeepest}
-use Rattle.wam_code.specs.Means.{Caller, tested, Means}
-use Rattle.wam_code.specs.Area.{Area}
+use Rattle.wam_code.specs.Places.{Depth, deeper, one_deeper, Places, put_at, read, put_level, drop_level, AreWithin, IsDeepest}
+use Rattle.wam_code.specs.Means.{tested, Means}
 use Rattle.wam_code.proofs.Lemmas.{covers_self, put_here, put_else}
-use Rattle.clause_code.specs.Pieces.{Base, base_of, Stand, past, Does}
+use Rattle.clause_code.specs.Pieces.{Base, past, Does}
 use Rattle.clause_code.specs.Laws.{other_side, ways}
 use Rattle.clause_code.specs.MoreRegisters.{HasMore}
 use Rattle.clause_code.specs.Safe.{unplaced, may_enter}
 use Rattle.clause_code.specs.Flowing.{Flows, MayEnter}
 use Rattle.clause_code.specs.Steps.{home}
-use Rattle.clause_code.specs.Bodies.{is_y, found_home, Levels, HasCut, in_test, HasDepths, IsNoHome, AreFree, between_goals, InBody, IsRest, IsGoalsCode}
+use Rattle.clause_code.specs.Bodies.{is_y, Levels, HasCut, in_test, HasDepths, AreFree, between_goals, InBody, IsRest, IsGoalsCode}
 use Rattle.clause_code.proofs.MoreRegisters.{means_more}
 use Rattle.clause_code.proofs.Pieces.{does_both, does_builtin, does_cut, does_test_only, does_enter_test, does_ways, other_way, past_both}
 use Rattle.clause_code.proofs.Making.{drop_else, AreApart}
 use Rattle.clause_code.proofs.Going.{when_true, both, plain_of}
 use Rattle.clause_code.proofs.Flowing.{flows_both, flows_simple, flows_ways, flows_over}
-use Rattle.clause_code.proofs.Bodies.{found_is, y_is, between_in, between_settled, no_home, single_enters, listed_renamed, listed_marked, does_between}
+use Rattle.clause_code.proofs.Bodies.{found_is, y_is, between_in, between_settled, single_enters, listed_renamed, listed_marked, does_between}
 
 -- ---- a slot that is a level
 

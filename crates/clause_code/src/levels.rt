@@ -1,6 +1,6 @@
 //! The slots of a frame in which levels are kept.
 
-ghost use Rattle.std.specs.Prelude.{◌≡◌, suc, IfOk};
+ghost use Rattle.std.specs.Prelude.{◌≡◌, suc, IfOk, ◌≤◌, ◌^◌, MatchResult};
 ghost use Rattle.wam_code.specs.declared.instruction.Code.TheVariants.{EnterTest};
 ghost use Rattle.clause_code.specs.Bodies.{in_test};
 
@@ -46,14 +46,15 @@ impl Levels {
 
     /// The second one of the next two slots.
     fn second(self) -> Result<usize, NoMemory>
-        ensures { IfOk result (λ n. n ≡ suc self.next) }
+        ensures { MatchResult result (λ n. n ≡ suc self.next) (λ _. 2 ^ 64 ≤ suc self.next) }
     {
         self.next.checked_add(1).ok_or(NoMemory)
     }
 
     /// The instruction before a test, with the place of the other way.
     pub(crate) fn entering(self, to: usize) -> Result<Code, NoMemory>
-        ensures { IfOk result (λ i. i ≡ EnterTest self.next (suc self.next) to) }
+        ensures { MatchResult result (λ i. i ≡ EnterTest self.next (suc self.next) to)
+            (λ _. 2 ^ 64 ≤ suc self.next) }
     {
         Ok(Code::EnterTest(self.next, self.second()?, to))
     }

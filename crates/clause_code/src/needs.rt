@@ -1,6 +1,6 @@
 //! How many level slots goals need.
 
-ghost use Rattle.std.specs.Prelude.{◌≡◌, ◌-◌, ◌+◌, ◌<◌, ◌≤◌, length, max, IfOk};
+ghost use Rattle.std.specs.Prelude.{◌≡◌, ◌-◌, ◌+◌, ◌<◌, ◌≤◌, length, max, IfOk, suc, ◌^◌, MatchResult};
 ghost use Rattle.clause_check.specs.Programs.{goal_at, goal_in, goals_in, IsGoal};
 ghost use Rattle.clause_code.specs.Fitting.{need, each_need, AreNeeds};
 ghost use Rattle.clause_code.specs.Whole.{levels_behind};
@@ -35,7 +35,7 @@ pub(crate) fn most_needed(program: &Program, needs: &[usize], part: Part) -> usi
 
 /// How many a test needs whose goals need so many.
 fn test_needs(inner: usize) -> Result<usize, NoMemory>
-    ensures { IfOk result (λ n. n ≡ 3 + (inner - 1)) }
+    ensures { MatchResult result (λ n. n ≡ 3 + (inner - 1)) (λ _. 2 ^ 64 ≤ 3 + (inner - 1)) }
 {
     inner.saturating_sub(1).checked_add(3).ok_or(NoMemory)
 }
@@ -45,7 +45,8 @@ fn needed(program: &Program, needs: &[usize], goal: FlatGoal) -> Result<usize, N
     requires needs { AreNeeds program.now (length needs.now) needs.now }
     requires goals { length needs.now ≤ length program.now.goals }
     requires own { IsGoal program.now.pool (length program.now.ranges) (length needs.now) goal }
-    ensures { IfOk result (λ n. n ≡ need (goal_in program.now goal)) }
+    ensures { MatchResult result (λ n. n ≡ need (goal_in program.now goal))
+        (λ _. 2 ^ 64 ≤ need (goal_in program.now goal)) }
 {
     Ok(match goal {
         FlatGoal::Cut => 1,
@@ -84,7 +85,8 @@ pub fn level_needs(alloc: Global, program: &Program) -> Result<Vec<usize>, NoMem
 
 /// So many level slots behind those of so many variables. The error is want of memory.
 pub(crate) fn levels_behind(variables: usize, count: usize) -> Result<Levels, NoMemory>
-    ensures { IfOk result (λ l. l ≡ levels_behind variables count) }
+    ensures { MatchResult result (λ l. l ≡ levels_behind variables count)
+        (λ _. 2 ^ 64 ≤ suc variables + count) }
 {
     let first = variables.checked_add(1).ok_or(NoMemory)?;
     let end = first.checked_add(count).ok_or(NoMemory)?;

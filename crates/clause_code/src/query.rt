@@ -1,6 +1,6 @@
 //! The code of one query.
 
-ghost use Rattle.std.specs.Prelude.{◌≡◌, ℕ, ◌<◌, ◌+◌, [], length, map, All, IfOk, OnOk};
+ghost use Rattle.std.specs.Prelude.{◌≡◌, ℕ, ◌<◌, ◌+◌, [], length, map, All, IfOk, OnOk, suc, ◌^◌, ◌≤◌, OnErr};
 ghost use Rattle.clause_check.specs.Programs.{query_at, query_in, program_in};
 ghost use Rattle.wam_code.specs.declared.instruction.Register.TheVariants.{Y};
 ghost use Rattle.clause_code.specs.Codable.{AreOnce, IsCodable};
@@ -51,6 +51,7 @@ fn give_one(slots: &mut Vec<usize>, x: usize, next: usize) -> Result<usize, NoMe
     requires within { x < length slots.old.items }
     requires given { AreGiven (length slots.old.items) next slots.old.items }
     ensures given { IfOk result (λ n. AreGiven (length slots.old.items) n slots.new.items) }
+    ensures memory { OnErr result (2 ^ 64 ≤ suc next) }
     ensures here { OnOk result (0 < slot slots.new.items x) }
     ensures kept { (y : ℕ) → 0 < slot slots.old.items y
         → slot slots.new.items y ≡ slot slots.old.items y }

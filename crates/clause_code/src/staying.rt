@@ -1,6 +1,6 @@
 //! Which variables of a clause without a frame stay in argument registers.
 
-ghost use Rattle.std.specs.Prelude.{◌≡◌, ◌+◌, ◌<◌, ◌≤◌, [], length, All, IfOk, OnOk};
+ghost use Rattle.std.specs.Prelude.{◌≡◌, ◌+◌, ◌<◌, ◌≤◌, [], length, All, IfOk, OnOk, ◌^◌, MatchResult};
 ghost use Rattle.fd_model.specs.Constraining.{arguments};
 ghost use Rattle.machine_relation.specs.Heap.{AllOf};
 ghost use Rattle.term_pool.specs.Terms.{term_of, terms_by};
@@ -28,7 +28,7 @@ pub(crate) fn arguments_of<'p>(pool: &'p Pool, t: TermId) -> &'p [TermId]
 
 /// Their sum. More registers than there are numbers are more than memory has.
 pub(crate) fn added(a: usize, b: usize) -> Result<usize, NoMemory>
-    ensures { IfOk result (λ s. s ≡ a + b) }
+    ensures { MatchResult result (λ s. s ≡ a + b) (λ _. 2 ^ 64 ≤ a + b) }
 {
     a.checked_add(b).ok_or(NoMemory)
 }

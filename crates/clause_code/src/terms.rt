@@ -1,6 +1,6 @@
 //! The code of terms: arguments of heads and of goals.
 
-ghost use Rattle.std.specs.Prelude.{◌≡◌, ◌+◌, ◌<◌, ◌≤◌, [], ◌∷◌, ◌++◌, length, All, IfOk, OnOk};
+ghost use Rattle.std.specs.Prelude.{◌≡◌, ◌+◌, ◌<◌, ◌≤◌, [], ◌∷◌, ◌++◌, length, All, IfOk, OnOk, ◌^◌, MatchResult};
 ghost use Rattle.fd_language.specs.Term.{Comp};
 ghost use Rattle.term_pool.specs.Contents.{atom_name};
 ghost use Rattle.term_pool.specs.Terms.{term_of, terms_by};
@@ -115,7 +115,8 @@ pub(crate) fn put_variable(
 /// The register behind this one, if it is given to a compound term.
 fn behind(pool: &Pool, id: TermId, register: usize) -> Result<usize, NoMemory>
     requires { id.number < length pool.now.entries }
-    ensures { IfOk result (λ n. n ≡ behind_term register (term_of pool.now id)) }
+    ensures { MatchResult result (λ n. n ≡ behind_term register (term_of pool.now id))
+        (λ _. 2 ^ 64 ≤ behind_term register (term_of pool.now id)) }
 {
     match pool.view(id) {
         Node::Comp(_, _) => register.checked_add(1).ok_or(NoMemory),
@@ -126,7 +127,9 @@ fn behind(pool: &Pool, id: TermId, register: usize) -> Result<usize, NoMemory>
 /// The first register behind those of the terms that are compound, from `first` on.
 fn behind_all(pool: &Pool, ids: &[TermId], first: usize) -> Result<usize, NoMemory>
     requires { All (λ t. t.number < length pool.now.entries) ids.now }
-    ensures { IfOk result (λ n. n ≡ first + compounds (terms_by (term_of pool.now) ids.now)) }
+    ensures { MatchResult result
+        (λ n. n ≡ first + compounds (terms_by (term_of pool.now) ids.now))
+        (λ _. 2 ^ 64 ≤ first + compounds (terms_by (term_of pool.now) ids.now)) }
 {
     let mut next = first;
     for id in ids {

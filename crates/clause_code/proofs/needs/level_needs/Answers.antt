@@ -1,7 +1,7 @@
-use Rattle.std.proofs.Common.{◌≡◌, ◌≤◌, ap, sym, subst, ◌∙◌, length, arith, ℕ}
+use Rattle.std.proofs.Common.{ap, ◌∙◌}
 use Rattle.clause_check.specs.declared.program.FlatGoal.{FlatGoal}
 use Rattle.clause_check.specs.Programs.{goal_in}
-use Rattle.clause_code.specs.Fitting.{need, AreNeeds}
+use Rattle.clause_code.specs.Fitting.{need}
 use Rattle.clause_code.proofs.Fitting.{needs_push}
 use Rattle.clause_code.proofs.needs.level_needs.Goals as goal
 

@@ -1,4 +1,4 @@
-use Rattle.std.proofs.Common.{◌≡◌, ◌≤◌, ap, sym, ◌∙◌, length, arith}
+use Rattle.std.proofs.Common.{ap, sym, ◌∙◌, length, arith}
 use Rattle.clause_check.specs.Programs.{goals_between}
 use Rattle.clause_code.specs.Fitting.{each_need}
 use Rattle.clause_code.proofs.Fitting.{need_none, need_step}

@@ -1,4 +1,6 @@
-use Rattle.std.proofs.Common.{◌≡◌, ◌+◌, ◌-◌, ap, sym, ◌∙◌, max, Some, None, refl, ℕ}
+use Rattle.std.proofs.Common.{◌≡◌, ◌+◌, ◌-◌, ap, sym, ◌∙◌, max, refl, arith}
+use Rattle.std.proofs.Math.Nat.{le-max_left}
+use Rattle.std.proofs.lemmas.Result.{MatchResult-from_err}
 use Rattle.clause_check.specs.declared.program.FlatGoal.{FlatGoal}
 use Rattle.clause_check.specs.Programs.{goal_in, goals_in}
 use Rattle.clause_code.specs.Fitting.{need, each_need}
@@ -29,3 +31,21 @@ pub returns-in_ok-test_needs-in-Not : goal.returns-in_ok-test_needs-in-Not
 returns-in_ok-test_needs-in-Not c =
     let p = c.args.program.now in
     c.in_ok-test_needs-in-Not.ensures ∙ ap (λ x. 3 + (x - 1)) c.most_needed-in-Not.ensures ∙ need_not p c.in-Not.test ∙ ap (λ (g : FlatGoal). need (goal_in p g)) (sym c.in-Not.is)
+
+pub returns-in_err-first-in-If : goal.returns-in_err-first-in-If
+returns-in_err-first-in-If c =
+    let p = c.args.program.now in
+    let rest = max (each_need (goals_in p c.in-If.holds)) (other_need p c.in-If.other) in
+    let needed = need_if p c.in-If.test c.in-If.holds c.in-If.other (other_need p c.in-If.other) refl ∙ ap (λ (g : FlatGoal). need (goal_in p g)) (sym c.in-If.is) in
+    let inner = c.in_err-first-in-If.ensures in
+    let same = ap (λ x. 3 + (x - 1)) c.most_needed-in-If.ensures in
+    let first = le-max_left (3 + (each_need (goals_in p c.in-If.test) - 1)) rest in
+    MatchResult-from_err c.from_residual.result _ _ (c.from_residual.ensures.0) (λ _. omega (arith, inner, same, first, needed))
+
+pub returns-in_err-test_needs-in-Not : goal.returns-in_err-test_needs-in-Not
+returns-in_err-test_needs-in-Not c =
+    let p = c.args.program.now in
+    let needed = need_not p c.in-Not.test ∙ ap (λ (g : FlatGoal). need (goal_in p g)) (sym c.in-Not.is) in
+    let inner = c.in_err-test_needs-in-Not.ensures in
+    let same = ap (λ x. 3 + (x - 1)) c.most_needed-in-Not.ensures in
+    MatchResult-from_err c.from_residual-in_err-test_needs-in-Not.result _ _ (c.from_residual-in_err-test_needs-in-Not.ensures.0) (λ _. omega (arith, inner, same, needed))

@@ -1,7 +1,6 @@
-use Rattle.std.proofs.Common.{◌≡◌, ◌≤◌, ap, sym, subst, ◌∙◌, length, arith}
-use Rattle.clause_check.specs.Programs.{goals_in}
+use Rattle.std.proofs.Common.{sym, subst}
 use Rattle.clause_code.specs.Codable.{AreOnce}
-use Rattle.clause_code.specs.Fitting.{each_need, AreNeeds}
+use Rattle.clause_code.specs.Fitting.{AreNeeds}
 use Rattle.clause_code.proofs.Asking.{query_known}
 use Rattle.clause_code.proofs.query.compile_query.Goals as goal
 

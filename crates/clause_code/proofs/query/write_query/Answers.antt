@@ -9,7 +9,7 @@ use Rattle.clause_code.specs.Bodies.{Levels, AreFree, IsGoalsCode}
 use Rattle.clause_code.specs.Codable.{EachCodable}
 use Rattle.clause_code.specs.Fitting.{EachFits, each_need}
 use Rattle.clause_code.specs.Predicates.{Appends, base_in}
-use Rattle.clause_code.specs.Whole.{head_code, levels_behind, levels_code}
+use Rattle.clause_code.specs.Whole.{head_code, levels_code}
 use Rattle.clause_code.proofs.Asking.{query_known, frame_slots, frame_free, query_written}
 use Rattle.clause_code.proofs.Fitting.{behind_fits}
 use Rattle.clause_code.proofs.query.write_query.Goals as goal
