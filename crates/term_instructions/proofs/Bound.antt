@@ -1,5 +1,5 @@
 -- A structure is built for an open variable, which is bound to it.
-use Rattle.std.proofs.Common.{◌≡◌, ℕ, ◌<◌, Bool, true, false, List, [], ◌∷◌, length, Result, Ok, Err, ap, sym, ◌∙◌, subst, inl}
+use Rattle.std.proofs.Common.{◌≡◌, ℕ, ◌<◌, Bool, true, false, List, [], ◌∷◌, length, Result, Ok, Err, refl, ap, sym, ◌∙◌, subst, inl, append-nil}
 use Rattle.std.specs.Prelude.{IfOk}
 use Rattle.std.proofs.lemmas.Bool.{false≢true}
 use Rattle.fd_language.specs.declared.TheConstants.{INFINITY}
@@ -24,8 +24,8 @@ use Rattle.wam_code.specs.VerifiedCode.{IsAtom}
 use Rattle.code_areas.specs.Areas.{Contents}
 use Rattle.code_states.specs.Standing.{went_to}
 use Rattle.code_states.specs.declared.went.Went.{Went}
-use Rattle.code_states.specs.declared.went.Went.TheVariants.{Back}
-use Rattle.code_states.proofs.Lemmas.{equated, below_heap, below_both}
+use Rattle.code_states.specs.declared.went.Went.TheVariants.{On, Back}
+use Rattle.code_states.proofs.Lemmas.{equated, same_below, below_heap, below_both}
 use Rattle.term_instructions.specs.WriteMode.{IsGatheredTo, BuildsFor, BuildsOn}
 use Rattle.term_instructions.proofs.Head.{built_then}
 use Rattle.term_instructions.proofs.BuildSteps.{gathered_both}
@@ -71,6 +71,14 @@ module _ (area : Area) (f : AtomId) (n : ℕ) (atom : IsAtom area f) (s : branch
       at_equal : (e : Bool) → e ≡ true → EqualsOrNot b.middle.heaps.now (cell.Ref var) b.built s4.heaps.now before after e → IsEqualled b.middle.heaps.now (cell.Ref var) b.built s4.heaps.now before after
       at_equal true so q = q
       at_equal false so q = absurd (false≢true so)
+
+  -- It is bound, and there is nothing to tell the store.
+  pub bound_untold : equal ≡ true → before ≡ [] → after ≡ [] → (E : Type 0) → IfTrue {E = E} (Ok equal) (IsSound s4) → BuildsFor area f n var s from c s4 c2 (On next)
+  bound_untold so untold told E sound = bound_then so untold s4 [] (sym told) true E refl (same_below s4) (sym (append-nil s4.levels.current.posted)) tt (at_true equal so sound) tt
+    where
+      at_true : (e : Bool) → e ≡ true → IfTrue {E = E} (Ok e) (IsSound s4) → IsSound s4
+      at_true true so k = k
+      at_true false so k = absurd (false≢true so)
 
   -- It occurs among the arguments.
   pub unbound_then : equal ≡ false → IsSoundBelow s4 → BuildsFor area f n var s from c s4 c2 Back

@@ -1,5 +1,6 @@
 -- One argument of a structure that is there is read.
 use Rattle.std.proofs.Common.{◌≡◌, ℕ, zero, suc, ◌+◌, ◌-◌, ◌<◌, ◌≤◌, nat_le, Bool, true, false, if◌then◌else◌, List, [], ◌∷◌, ◌++◌, length, map, drop, All, Some, None, Ok, refl, ap, sym, ◌∙◌, subst, arith, append_assoc, ℤ, length-drop, get_or, eq-eqb, ne_eqb}
+use Rattle.std.proofs.lemmas.Bool.{false≢true}
 use Rattle.std.proofs.lemmas.List.{drop-drop}
 use Rattle.std.proofs.lemmas.List.Elements.{All-nil}
 use Rattle.std.proofs.lemmas.Option.{same_Some}
@@ -38,7 +39,7 @@ use Rattle.code_steps.proofs.Lemmas.{read_variable, read_value, read_constant, r
 use Rattle.code_states.specs.Machine.{saved_of, registers_of, stack_of, IsSameBehind}
 use Rattle.code_states.specs.Safety.{Fits, IsSafe}
 use Rattle.code_states.specs.Standing.{IsNaming}
-use Rattle.term_instructions.specs.ReadMode.{ReadsAt, IsReadTo, IsRefused, ReadsOn, IsNextPlace, TellsEqual, LooksOn}
+use Rattle.term_instructions.specs.ReadMode.{ReadsAt, IsReadTo, IsRefused, ReadsOn, IsNextPlace, TellsEqual, LooksOn, TakesOne}
 use Rattle.term_instructions.specs.declared.reading.ReadPosition.{ReadPosition}
 use Rattle.term_instructions.specs.declared.reading.Look.{Look}
 use Rattle.term_instructions.specs.declared.reading.Look.TheVariants.{Read, Refused, Unclear}
@@ -283,3 +284,15 @@ module _ (area : Area) (cells : List Cell) (s : branch.State) (told : List Touch
       let w = g.within in
       let same : to.next ≡ length cells = omega (arith, low, w) in
       subst (λ n. IsReadTo area cells s told from c s1 told1 (record { at = to.at; next = n }) c1) same g
+
+-- ---- arguments that registers take
+
+-- the register took one, and the next instruction is at the place
+pub one_taken : (area : Area) (cells : List Cell) (s : branch.State) (place : ReadPosition) (c c1 : Contents) (taken : Bool) → taken ≡ true → TakesOne area cells s place c c1 taken → (to : ReadPosition) → to.at ≡ suc place.at → to.next ≡ suc place.next → IsReadTo area cells s [] place c s [] to c1
+one_taken area cells s place c c1 true so k to at_is next_is = subst (λ n. IsReadTo area cells s [] place c s [] (record { at = to.at; next = n }) c1) (sym next_is) (subst (λ a. IsReadTo area cells s [] place c s [] (record { at = a; next = suc place.next }) c1) (sym at_is) k)
+one_taken area cells s place c c1 false so k to at_is next_is = absurd (false≢true so)
+
+-- or none was taken
+pub none_taken : (area : Area) (cells : List Cell) (s : branch.State) (first place : ReadPosition) (c c1 c2 : Contents) (taken : Bool) → taken ≡ false → TakesOne area cells s place c1 c2 taken → IsReadTo area cells s [] first c s [] place c1 → IsReadTo area cells s [] first c s [] place c2
+none_taken area cells s first place c c1 c2 false so k g = subst (λ (e : Contents). IsReadTo area cells s [] first c s [] place e) (sym k) g
+none_taken area cells s first place c c1 c2 true so k g = absurd (false≢true (sym so))

@@ -1,5 +1,5 @@
 -- The arguments of a structure that is there, read one by one.
-use Rattle.std.specs.Prelude.{◌≡◌, ◌≢◌, ℕ, suc, ◌-◌, ◌≤◌, List, [], length, drop, All, Option, Some, None}
+use Rattle.std.specs.Prelude.{◌≡◌, ◌≢◌, ℕ, suc, ◌-◌, ◌≤◌, Bool, true, false, List, [], length, drop, All, Option, Some, None}
 use Rattle.fd_language.specs.declared.TheConstants.{INFINITY}
 use Rattle.fd_model.specs.Goal.{Branch}
 use Rattle.heap_cells.specs.declared.Cell.{Cell}
@@ -17,6 +17,8 @@ use Rattle.code_states.specs.Safety.{IsSafe, IsSafeBack, IsSafeThen}
 use Rattle.code_states.specs.Standing.{IsNaming, HasNoModel, StandsThen}
 use Rattle.term_instructions.specs.declared.reading.ReadPosition.{ReadPosition}
 use Rattle.term_instructions.specs.declared.reading.Look.{Look}
+use Rattle.term_instructions.specs.declared.reading.Start.{Start}
+use Rattle.term_instructions.specs.declared.reading.Start.TheVariants as start
 use Rattle.term_instructions.specs.declared.reading.Look.TheVariants.{Read, Refused, Unclear}
 use Rattle.code_states.specs.declared.went.Went.{Went}
 use Rattle.term_instructions.specs.Arguments.{LeadsAmong, LeadsFrom}
@@ -90,3 +92,17 @@ abbrev pub IsNextLook : ℕ → Look → Type 0
 IsNextLook at (Read to) = to.at ≡ suc at
 IsNextLook at Refused = Unit {0}
 IsNextLook at Unclear = Unit {0}
+
+-- whether the next argument was read into a register: else nothing has changed
+abbrev pub TakesOne : Area → List Cell → branch.State → ReadPosition → Contents → Contents → Bool
+    → Type 0
+TakesOne area cells s from c c' true = IsReadTo area cells s [] from c s []
+    (record { at = suc from.at; next = suc from.next }) c'
+TakesOne area cells s from c c' false = c' ≡ c
+
+-- how far arguments were read into registers, where nothing else has changed
+abbrev pub StartsTo : Area → List Cell → branch.State → ℕ → Contents → Contents → Start → Type 0
+StartsTo area cells s at c c' (start.All to) = IsReadTo area cells s []
+    (record { at = at; next = 0 }) c s [] (record { at = to; next = length cells }) c'
+StartsTo area cells s at c c' (start.Part to) = IsReadTo area cells s []
+    (record { at = at; next = 0 }) c s [] to c'

@@ -6,7 +6,7 @@ ghost use Rattle.branch_state.specs.States.{IsCell};
 ghost use Rattle.code_states.specs.Safety.{IsSafe};
 ghost use Rattle.term_instructions.specs.declared.reading.Look.TheVariants as look;
 ghost use Rattle.branch_state.specs.Steps.{AreTouchesOf};
-ghost use Rattle.term_instructions.specs.ReadMode.{IsNextPlace, ReadsOn, ReadsAll, TellsEqual, LooksOn, IsNextLook};
+ghost use Rattle.term_instructions.specs.ReadMode.{IsNextPlace, ReadsOn, ReadsAll, TellsEqual, LooksOn, IsNextLook, TakesOne, StartsTo};
 
 use crate::arguments::{Argument, argument_at};
 use crate::registers::{read, write};
@@ -18,7 +18,7 @@ use heap_cells::Cell;
 use propagate_queue::Agenda;
 use term_pool::AtomId;
 use unify_core::Touch;
-use wam_code::CodeArea;
+use wam_code::{Code, CodeArea};
 
 /// The place of the next instruction, and the number of the next argument.
 #[derive(Clone, Copy)]
@@ -36,6 +36,15 @@ pub(crate) enum Look {
     Refused,
     /// A look doesn't tell.
     Unclear,
+}
+
+/// How far a look at registers alone reads a structure's arguments.
+#[derive(Clone, Copy)]
+pub(crate) enum Start {
+    /// All are read, up to the place.
+    All(usize),
+    /// Those before the position are read.
+    Part(ReadPosition),
 }
 
 /// What it comes to that an argument and what the code gives are constants of one kind.
@@ -98,6 +107,63 @@ fn look_at_argument<A: Agenda + Drop>(
         Argument::Integer(z) => Ok(look_at_integer(branch.heap().root(cell), z, to)),
         Argument::Void(n) => Ok(Look::Read(ReadPosition { at, next: next + n })),
     }
+}
+
+/// Reads the next argument where the code gives a register for it that is met first, and tells
+/// whether it does. The error is want of memory.
+#[inline(always)]
+fn look_at_register<A: Agenda + Drop>(
+    code: &CodeArea,
+    from: ReadPosition,
+    branch: &BranchState<A>,
+    areas: &mut Areas,
+    cells: &[Cell],
+) -> Result<bool, NoMemory>
+    requires safe { IsSafe code.now branch.now from.at (length cells.now - from.next) areas.old }
+    requires more { from.next < length cells.now }
+    requires own { All (IsCell branch.now) cells.now }
+    ensures { IfOk result (TakesOne code.now cells.now branch.now from areas.old areas.new) }
+{
+    let cell = cells[from.next];
+    match code.code_at(from.at) {
+        Code::UnifyVariable(r) => {
+            write(areas, r, cell)?;
+            Ok(true)
+        }
+        _ => Ok(false),
+    }
+}
+
+/// Reads a structure's arguments from the first on where they are two, as long as the code gives
+/// registers for them that are met first. The error is want of memory.
+#[inline(always)]
+pub(crate) fn look_at_registers<A: Agenda + Drop>(
+    code: &CodeArea,
+    at: usize,
+    branch: &BranchState<A>,
+    areas: &mut Areas,
+    cells: &[Cell],
+) -> Result<Start, NoMemory>
+    requires safe { IsSafe code.now branch.now at (length cells.now) areas.old }
+    requires own { All (IsCell branch.now) cells.now }
+    ensures { IfOk result (StartsTo code.now cells.now branch.now at areas.old areas.new) }
+{
+    let first = ReadPosition { at, next: 0 };
+    if cells.len() != 2 {
+        return Ok(Start::Part(first));
+    }
+    if !look_at_register(code, first, branch, areas, cells)? {
+        return Ok(Start::Part(first));
+    }
+    let middle = behind(code, at);
+    let second = ReadPosition {
+        at: middle,
+        next: 1,
+    };
+    if !look_at_register(code, second, branch, areas, cells)? {
+        return Ok(Start::Part(second));
+    }
+    Ok(Start::All(behind(code, middle)))
 }
 
 /// Reads arguments as long as a look at each is enough: the heap stays as it is. The result is

@@ -16,7 +16,7 @@ ghost use Rattle.term_instructions.specs.ReadMode.{ReadsThen};
 ghost use Rattle.term_instructions.specs.WriteMode.{BuildsFor, BuildsOn, IsPutAt, PutsOn};
 
 use crate::building::{Gathered, gather_arguments, gather_two};
-use crate::reading::{ReadPosition, look_at_arguments, read_arguments};
+use crate::reading::{ReadPosition, Start, look_at_arguments, look_at_registers, read_arguments};
 use crate::registers::write;
 use branch_state::BranchState;
 use code_areas::Areas;
@@ -112,6 +112,9 @@ fn bind_gathered<A: Agenda + Drop>(
 {
     if !branch.bind_compound(var, functor.0, args, touches)? {
         return Ok(Went::Back);
+    }
+    if touches.is_empty() {
+        return Ok(Went::On(next));
     }
     let posted = branch.post_touches(touches)?;
     Ok(on_if(next, posted))
@@ -250,7 +253,11 @@ pub fn get_structure<A: Agenda + Drop>(
             if name != functor.0 || args.len() != functor.1 as usize {
                 return Ok(Went::Back);
             }
-            let start = ReadPosition { at: from, next: 0 };
+            let looked = look_at_registers(code, from, branch, areas, args)?;
+            let start = match looked {
+                Start::All(next) => return Ok(Went::On(next)),
+                Start::Part(start) => start,
+            };
             let Some(read) = look_at_arguments(code, start, branch, areas, args)? else {
                 return Ok(Went::Back);
             };

@@ -1,4 +1,4 @@
-use Rattle.std.proofs.Common.{◌≡◌, ◌++◌, ◌-◌, length, ap, sym, ◌∙◌, subst, inl, inr, arith, refl, [], Ok}
+use Rattle.std.proofs.Common.{◌≡◌, ◌++◌, length, ap, sym, ◌∙◌, subst, inl, inr, refl, [], Ok}
 use Rattle.fd_language.specs.declared.NoMemory.{NoMemory}
 use Rattle.heap_cells.specs.Cells.{Heaps, IsOf}
 use Rattle.heap_cells.specs.SeenCells.{IsSeen}
@@ -7,9 +7,10 @@ use Rattle.wam_code.specs.declared.instruction.Code.TheVariants.{GetStructure}
 use Rattle.code_states.specs.Safety.{IsSafe}
 use Rattle.code_states.proofs.Lemmas.{within_code, same_behind, same_below}
 use Rattle.code_states.specs.declared.went.Went.TheVariants.{On, Back}
-use Rattle.term_instructions.specs.ReadMode.{ReadsOn}
+use Rattle.term_instructions.specs.ReadMode.{ReadsOn, StartsTo}
 use Rattle.term_instructions.specs.declared.reading.ReadPosition.{ReadPosition}
 use Rattle.term_instructions.proofs.Head.{if_ok_at, get_needs, get_started, get_atom, get_back_safe, args_own, get_other, get_constant_seen, get_built, get_read, refused_then, looked_all, looked_first, other_atom, same_atom}
+use Rattle.term_instructions.proofs.ReadSteps.{read_both, read_refused}
 use Rattle.term_instructions.proofs.structures.get_structure.Goals as goal
 use Rattle.term_instructions.proofs.structures.get_structure.Goals.{then-ne-via-then-ne, then-ne-via-else-ne+then-args-functor}
 
@@ -50,47 +51,64 @@ returns-then-ne-clause-stands g c =
     get_other c.args.code.now c.args.branch.now c.args.at c.args.areas.now c.requires.safe c.args.functor.0 c.args.functor.1 c.args.a c.requires.holds c.register-argument.result c.register-argument.ensures c.in-Struct.name c.in-Struct.args.now k.0 k.1 k.2 k.3
     (elim c.then-ne.branch [ then-ne-via-then-ne w ↦ inl (other_atom c.in-Struct.name c.args.functor.0 w.if-ne.ensures) | then-ne-via-else-ne+then-args-functor w ↦ inr w.if-args-functor.true ])
 
-pub look_at_arguments-requires : goal.look_at_arguments-requires
-look_at_arguments-requires g c =
+pub look_at_registers-requires : goal.look_at_registers-requires
+look_at_registers-requires g c =
     let k = subst (λ (hs : Heaps). IsSeen hs.now c.register-argument.result (seen.Struct c.in-Struct.name c.in-Struct.args)) c.heap.ensures c.in-Struct.ensures.seen in
     record {
-      safe = subst (λ n. IsSafe c.args.code.now c.args.branch.now c.behind-from.result n c.args.areas.now) (let size = c.if-args-functor.false in let e : c.args.functor.1 ≡ length c.in-Struct.args.now - 0 = omega (arith, size) in e)
+      safe = subst (λ n. IsSafe c.args.code.now c.args.branch.now c.behind-from.result n c.args.areas.now) (sym c.if-args-functor.false)
           (subst (λ k. IsSafe c.args.code.now c.args.branch.now k c.args.functor.1 c.args.areas.now) (sym c.behind-from.ensures)
           (get_started c.args.code.now c.args.branch.now c.args.at c.args.areas.now c.requires.safe c.args.functor.0 c.args.functor.1 c.args.a c.requires.holds));
-      within = omega arith;
       own = args_own c.args.code.now c.args.branch.now c.args.at c.args.areas.now c.requires.safe c.args.functor.0 c.args.functor.1 c.args.a c.requires.holds c.register-argument.result c.register-argument.ensures c.in-Struct.name c.in-Struct.args.now k.0 k.1 k.2 k.3;
     }
+
+pub returns-in-All-clause-stands : goal.returns-in-All-clause-stands
+returns-in-All-clause-stands g c =
+    let k = subst (λ (hs : Heaps). IsSeen hs.now c.register-argument.result (seen.Struct c.in-Struct.name c.in-Struct.args)) c.heap.ensures c.in-Struct.ensures.seen in
+    let first : ReadPosition = record { at = c.behind-from.result; next = 0 } in
+    (get_read c.args.code.now c.args.branch.now c.args.at c.args.areas.now c.requires.safe c.args.functor.0 c.args.functor.1 c.args.a c.requires.holds c.register-argument.result c.register-argument.ensures c.behind-from.result c.behind-from.ensures
+    c.args.branch.now c.look_at_registers.new.areas c.in-Struct.name c.in-Struct.args.now k.0 k.1 k.2 k.3 (same_atom c.in-Struct.name c.args.functor.0 c.if-ne.ensures) c.if-args-functor.false
+    c.in-Struct.args.now refl [] refl {E = NoMemory} (Ok (On c.in-All.next))
+    (looked_all c.args.code.now c.in-Struct.args.now c.args.branch.now first c.args.areas.now (record { at = c.in-All.next; next = length c.in-Struct.args.now }) c.look_at_registers.new.areas
+    (subst (StartsTo c.args.code.now c.in-Struct.args.now c.args.branch.now c.behind-from.result c.args.areas.now c.look_at_registers.new.areas) c.in-All.is c.in_ok-looked-in-Struct.ensures) refl)).1
+
+pub look_at_arguments-requires : goal.look_at_arguments-requires
+look_at_arguments-requires g c =
+    let begun = subst (StartsTo c.args.code.now c.in-Struct.args.now c.args.branch.now c.behind-from.result c.args.areas.now c.look_at_registers.new.areas) c.in-Part.is c.in_ok-looked-in-Struct.ensures in
+    record { safe = begun.safe; within = begun.within; own = begun.own }
 
 pub returns-in_default-2-clause-stands : goal.returns-in_default-2-clause-stands
 returns-in_default-2-clause-stands g c =
     let k = subst (λ (hs : Heaps). IsSeen hs.now c.register-argument.result (seen.Struct c.in-Struct.name c.in-Struct.args)) c.heap.ensures c.in-Struct.ensures.seen in
-    let start : ReadPosition = record { at = c.behind-from.result; next = 0 } in
+    let first : ReadPosition = record { at = c.behind-from.result; next = 0 } in
+    let begun = subst (StartsTo c.args.code.now c.in-Struct.args.now c.args.branch.now c.behind-from.result c.args.areas.now c.look_at_registers.new.areas) c.in-Part.is c.in_ok-looked-in-Struct.ensures in
     (get_read c.args.code.now c.args.branch.now c.args.at c.args.areas.now c.requires.safe c.args.functor.0 c.args.functor.1 c.args.a c.requires.holds c.register-argument.result c.register-argument.ensures c.behind-from.result c.behind-from.ensures
     c.args.branch.now c.look_at_arguments.new.areas c.in-Struct.name c.in-Struct.args.now k.0 k.1 k.2 k.3 (same_atom c.in-Struct.name c.args.functor.0 c.if-ne.ensures) c.if-args-functor.false
     c.in-Struct.args.now refl [] refl {E = NoMemory} (Ok Back)
-    (refused_then c.args.code.now c.in-Struct.args.now c.args.branch.now [] start c.args.areas.now c.args.branch.now c.look_at_arguments.new.areas
-    (subst (ReadsOn c.args.code.now c.in-Struct.args.now c.args.branch.now [] start c.args.areas.now c.args.branch.now [] c.look_at_arguments.new.areas) c.in_default-2.is c.in_ok-read-in-Struct.ensures))).1
+    (refused_then c.args.code.now c.in-Struct.args.now c.args.branch.now [] first c.args.areas.now c.args.branch.now c.look_at_arguments.new.areas
+    (read_refused c.args.code.now c.in-Struct.args.now c.args.branch.now [] first c.args.areas.now c.args.branch.now [] c.in-Part.start c.look_at_registers.new.areas begun c.args.branch.now c.look_at_arguments.new.areas (subst (ReadsOn c.args.code.now c.in-Struct.args.now c.args.branch.now [] c.in-Part.start c.look_at_registers.new.areas c.args.branch.now [] c.look_at_arguments.new.areas) c.in_default-2.is c.in_ok-read-in-Struct.ensures)))).1
 
 pub returns-then-read-args-clause-stands : goal.returns-then-read-args-clause-stands
 returns-then-read-args-clause-stands g c =
     let k = subst (λ (hs : Heaps). IsSeen hs.now c.register-argument.result (seen.Struct c.in-Struct.name c.in-Struct.args)) c.heap.ensures c.in-Struct.ensures.seen in
-    let start : ReadPosition = record { at = c.behind-from.result; next = 0 } in
+    let first : ReadPosition = record { at = c.behind-from.result; next = 0 } in
+    let begun = subst (StartsTo c.args.code.now c.in-Struct.args.now c.args.branch.now c.behind-from.result c.args.areas.now c.look_at_registers.new.areas) c.in-Part.is c.in_ok-looked-in-Struct.ensures in
     (get_read c.args.code.now c.args.branch.now c.args.at c.args.areas.now c.requires.safe c.args.functor.0 c.args.functor.1 c.args.a c.requires.holds c.register-argument.result c.register-argument.ensures c.behind-from.result c.behind-from.ensures
     c.args.branch.now c.look_at_arguments.new.areas c.in-Struct.name c.in-Struct.args.now k.0 k.1 k.2 k.3 (same_atom c.in-Struct.name c.args.functor.0 c.if-ne.ensures) c.if-args-functor.false
     c.in-Struct.args.now refl [] refl {E = NoMemory} (Ok (On c.in-Some.read.at))
-    (looked_all c.args.code.now c.in-Struct.args.now c.args.branch.now start c.args.areas.now c.in-Some.read c.look_at_arguments.new.areas
-    (subst (ReadsOn c.args.code.now c.in-Struct.args.now c.args.branch.now [] start c.args.areas.now c.args.branch.now [] c.look_at_arguments.new.areas) c.in-Some.is c.in_ok-read-in-Struct.ensures) c.if-read-args.true)).1
+    (looked_all c.args.code.now c.in-Struct.args.now c.args.branch.now first c.args.areas.now c.in-Some.read c.look_at_arguments.new.areas
+    (read_both c.args.code.now c.in-Struct.args.now c.args.branch.now [] first c.args.areas.now c.args.branch.now [] c.in-Part.start c.look_at_registers.new.areas begun c.args.branch.now [] c.in-Some.read c.look_at_arguments.new.areas (subst (ReadsOn c.args.code.now c.in-Struct.args.now c.args.branch.now [] c.in-Part.start c.look_at_registers.new.areas c.args.branch.now [] c.look_at_arguments.new.areas) c.in-Some.is c.in_ok-read-in-Struct.ensures)) c.if-read-args.true)).1
 
 pub returns-in_ok-push_copies-in-Struct-clause-stands : goal.returns-in_ok-push_copies-in-Struct-clause-stands
 returns-in_ok-push_copies-in-Struct-clause-stands g c =
     let k = subst (λ (hs : Heaps). IsSeen hs.now c.register-argument.result (seen.Struct c.in-Struct.name c.in-Struct.args)) c.heap.ensures c.in-Struct.ensures.seen in
-    let start : ReadPosition = record { at = c.behind-from.result; next = 0 } in
+    let first : ReadPosition = record { at = c.behind-from.result; next = 0 } in
+    let begun = subst (StartsTo c.args.code.now c.in-Struct.args.now c.args.branch.now c.behind-from.result c.args.areas.now c.look_at_registers.new.areas) c.in-Part.is c.in_ok-looked-in-Struct.ensures in
     let all : c.deref-in-Struct.result.now ≡ c.in-Struct.args.now = c.deref-in-Struct.ensures.value ∙ c.in_ok-push_copies-in-Struct.ensures ∙ ap (λ l. l ++ c.in-Struct.args.now) c.clear-in-Struct.ensures.items in
     (get_read c.args.code.now c.args.branch.now c.args.at c.args.areas.now c.requires.safe c.args.functor.0 c.args.functor.1 c.args.a c.requires.holds c.register-argument.result c.register-argument.ensures c.behind-from.result c.behind-from.ensures
     c.match_arguments.new.branch c.match_arguments.new.areas c.in-Struct.name c.in-Struct.args.now k.0 k.1 k.2 k.3 (same_atom c.in-Struct.name c.args.functor.0 c.if-ne.ensures) c.if-args-functor.false
     c.in-Struct.args.now refl [] refl c.match_arguments.result
-    (looked_first c.args.code.now c.in-Struct.args.now c.args.branch.now start c.args.areas.now c.in-Some.read c.look_at_arguments.new.areas
-    (subst (ReadsOn c.args.code.now c.in-Struct.args.now c.args.branch.now [] start c.args.areas.now c.args.branch.now [] c.look_at_arguments.new.areas) c.in-Some.is c.in_ok-read-in-Struct.ensures)
+    (looked_first c.args.code.now c.in-Struct.args.now c.args.branch.now first c.args.areas.now c.in-Some.read c.look_at_arguments.new.areas
+    (read_both c.args.code.now c.in-Struct.args.now c.args.branch.now [] first c.args.areas.now c.args.branch.now [] c.in-Part.start c.look_at_registers.new.areas begun c.args.branch.now [] c.in-Some.read c.look_at_arguments.new.areas (subst (ReadsOn c.args.code.now c.in-Struct.args.now c.args.branch.now [] c.in-Part.start c.look_at_registers.new.areas c.args.branch.now [] c.look_at_arguments.new.areas) c.in-Some.is c.in_ok-read-in-Struct.ensures))
     c.deref-in-Struct.result.now all c.clear-in-Struct-2.new.self.items c.clear-in-Struct-2.ensures.items c.match_arguments.new.branch c.match_arguments.new.areas c.match_arguments.result c.match_arguments.ensures)).1
 
 pub returns-in_default : goal.returns-in_default
