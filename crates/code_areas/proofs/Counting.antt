@@ -5,6 +5,6 @@ use Rattle.code_areas.specs.declared.Mark.{Mark}
 use Rattle.code_areas.specs.Areas.{Places}
 use Rattle.code_areas.specs.AreaFields.{points_of}
 
-pub count : (ms : List Mark) (cells slots : Places) (frames : List Frame) → length (points_of ms cells slots frames) ≡ length ms
-count [] cells slots frames = refl
-count (m ∷ ms) cells slots frames = ap suc (count ms (take m.cells cells) (take m.slots slots) (take m.frames frames))
+pub count : (ms : List Mark) (saved slots : Places) (frames : List Frame) → length (points_of ms saved slots frames) ≡ length ms
+count [] saved slots frames = refl
+count (m ∷ ms) saved slots frames = ap suc (count ms (take m.first saved) (take m.slots slots) (take m.frames frames))

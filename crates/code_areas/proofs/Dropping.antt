@@ -1,62 +1,79 @@
 -- Choice points that are dropped: what is current stays, and so do the older ones.
-use Rattle.std.proofs.Common.{◌≡◌, ℕ, zero, suc, ◌-◌, ◌<◌, ◌≤◌, List, [], ◌∷◌, ◌++◌, length, take, drop, reverse, refl, ap, sym, ◌∙◌, subst, inl, inr, arith, length-take, length-drop}
-use Rattle.std.proofs.lemmas.Bool.{cases_lt}
-use Rattle.std.proofs.lemmas.List.{take-take, get_or-take, reverse-append, length-reverse, take-append-drop}
+use Rattle.std.proofs.Common.{◌≡◌, ℕ, zero, suc, ◌-◌, ◌<◌, ◌≤◌, List, [], ◌∷◌, ◌++◌, length, take, drop, reverse, refl, ap, sym, ◌∙◌, arith, get_or, length-take, length-drop}
+use Rattle.std.proofs.lemmas.List.{take-take, reverse-append, length-reverse, take-append-drop, get_or-reverse}
 use Rattle.std.proofs.Math.Seq.{drop-append_seam}
-use Rattle.code_areas.specs.declared.Frame.{Frame}
 use Rattle.code_areas.specs.declared.Mark.{Mark}
-use Rattle.code_areas.specs.Areas.{Places, Point}
-use Rattle.code_areas.specs.AreaFields.{no_frame, frame_at, points_of, IsLevel, IsAbove, AreMarks}
-use Rattle.code_areas.proofs.Levels.{SameBelow, AboveNewest, points_same, marks_same}
+use Rattle.code_areas.specs.Areas.{Places}
+use Rattle.code_areas.specs.AreaFields.{Stack, kept_by, points_of, slots_kept, frames_kept, IsLevel, AreMarks}
+use Rattle.code_areas.proofs.Levels.{Keeps, marks_kept, points_kept, slots_below, frames_below}
 
 -- The newest mark goes: the next one is below what is current too.
-module _ (m : Mark) (cells : Places) (first : ℕ) (slots : Places) (base : ℕ) (frames : List Frame) (o : IsAbove m cells first slots base frames) (l : IsLevel (take m.cells cells) m.first (take m.slots slots) m.base (take m.frames frames) m.newest) where
-  next_above : (ms : List Mark) → AboveNewest ms (take m.cells cells) m.first (take m.slots slots) m.base (take m.frames frames) → AboveNewest ms cells first slots base frames
-  next_above [] a = tt
-  next_above (n ∷ ms) a =
-      let c = a.cells_kept in let s = a.slots_kept in let f = a.frames_kept in
-      let ci = l.first_in in let si = l.base_in in
-      let ct = length-take m.cells cells in let st = length-take m.slots slots in let ft = length-take m.frames frames in
-      let oc = o.cells_kept in let os = o.slots_kept in let of' = o.frames_kept in
+module _ (r q : ℕ) (saved : Places) (s : Stack) (l : IsLevel s) (m : Mark) (ms : List Mark) (a : AreMarks (m ∷ ms) r q saved s) where
+  abbrev t : Stack
+  t = kept_by m s.slots s.frames
+
+  next_keeps : Keeps ms r q r q t s
+  next_keeps =
+      let x = slots_below ms r q (take m.first saved) t a.2 in
+      let y = frames_below ms r q (take m.first saved) t a.2 in
+      let xe = length-take m.slots s.slots in
+      let ye = length-take m.frames s.frames in
       record {
-        cells_kept = omega (arith, c, ci, ct, oc);
-        slots_kept = omega (arith, s, si, st, os);
-        frames_kept = omega (arith, f, ft);
-        since = λ k low high. elim (cases_lt k m.frames) [
-          | inl i ↦ subst (λ (x : Frame). n.slots ≤ x.start) (get_or-take m.frames frames k no_frame i) (a.since k low (omega (arith, i, high, ft)))
-          | inr i ↦ let z = o.since k i high in omega (arith, z, s, si, st)
-        ];
+        registers = omega arith;
+        room = omega arith;
+        slots_same = take-take (slots_kept ms) m.slots s.slots (omega (arith, x, xe));
+        frames_same = take-take (frames_kept ms) m.frames s.frames (omega (arith, y, ye));
+        slots_in = omega (arith, x, xe);
+        frames_in = omega (arith, y, ye);
+        roomy = λ b. a.0.roomy (omega (arith, b, x, xe));
       }
 
-  next_same : (ms : List Mark) → AboveNewest ms (take m.cells cells) m.first (take m.slots slots) m.base (take m.frames frames) → SameBelow ms (take m.cells cells) (take m.slots slots) (take m.frames frames) cells slots frames
-  next_same [] a = tt
-  next_same (n ∷ ms) a =
-      let c = a.cells_kept in let s = a.slots_kept in let f = a.frames_kept in
-      let ci = l.first_in in let si = l.base_in in
-      let ct = length-take m.cells cells in let st = length-take m.slots slots in let ft = length-take m.frames frames in
-      (take-take n.cells m.cells cells (omega (arith, c, ci, ct)), take-take n.slots m.slots slots (omega (arith, s, si, st)), take-take n.frames m.frames frames (omega (arith, f, ft)))
+  one_marks : AreMarks ms r q (take m.first saved) s
+  one_marks = marks_kept r q r q (take m.first saved) t s ms a.2 next_keeps
 
-  newest_of : (ms : List Mark) → AreMarks ms (take m.cells cells) m.first (take m.slots slots) m.base (take m.frames frames) → AboveNewest ms (take m.cells cells) m.first (take m.slots slots) m.base (take m.frames frames)
-  newest_of [] a = tt
-  newest_of (n ∷ ms) a = a.0
+  one_points : points_of ms (take m.first saved) (take m.slots s.slots) (take m.frames s.frames) ≡ points_of ms (take m.first saved) s.slots s.frames
+  one_points = sym (points_kept r q r q (take m.first saved) t s ms next_keeps)
 
-  pub one_dropped : (ms : List Mark) → AreMarks ms (take m.cells cells) m.first (take m.slots slots) m.base (take m.frames frames) → AreMarks ms cells first slots base frames × (points_of ms (take m.cells cells) (take m.slots slots) (take m.frames frames) ≡ points_of ms cells slots frames)
-  one_dropped ms a =
-      let above = newest_of ms a in
-      let same = next_same ms above in (
-        marks_same ms (take m.cells cells) m.first (take m.slots slots) m.base (take m.frames frames) cells first slots base frames a same (next_above ms above),
-        points_same ms (take m.cells cells) (take m.slots slots) (take m.frames frames) cells slots frames same,
-      )
+-- what is left of the saved registers when so many marks go
+abbrev pub saved_left : ℕ → List Mark → Places → Places
+saved_left zero ms saved = saved
+saved_left (suc j) [] saved = saved
+saved_left (suc j) (m ∷ ms) saved = saved_left j ms (take m.first saved)
 
 -- So many marks go.
-pub many_dropped : (j : ℕ) (ms : List Mark) (cells : Places) (first : ℕ) (slots : Places) (base : ℕ) (frames : List Frame) → AreMarks ms cells first slots base frames
-    → AreMarks (drop j ms) cells first slots base frames × (points_of (drop j ms) cells slots frames ≡ drop j (points_of ms cells slots frames))
-many_dropped zero ms cells first slots base frames a = (a, refl)
-many_dropped (suc j) [] cells first slots base frames a = (a, refl)
-many_dropped (suc j) (m ∷ ms) cells first slots base frames a =
-    let one = one_dropped m cells first slots base frames a.0 a.1 ms a.2 in
-    let rest = many_dropped j ms cells first slots base frames one.0 in
-    (rest.0, rest.1 ∙ ap (drop j) (sym one.1))
+pub many_dropped : (j : ℕ) (r q : ℕ) (saved : Places) (s : Stack) → IsLevel s → (ms : List Mark) → AreMarks ms r q saved s
+    → AreMarks (drop j ms) r q (saved_left j ms saved) s × (points_of (drop j ms) (saved_left j ms saved) s.slots s.frames ≡ drop j (points_of ms saved s.slots s.frames))
+many_dropped zero r q saved s l ms a = (a, refl)
+many_dropped (suc j) r q saved s l [] a = (a, refl)
+many_dropped (suc j) r q saved s l (m ∷ ms) a =
+    let rest = many_dropped j r q (take m.first saved) s l ms (one_marks r q saved s l m ms a) in
+    (rest.0, rest.1 ∙ ap (drop j) (sym (one_points r q saved s l m ms a)))
+
+first_low : (j : ℕ) (r q : ℕ) (saved : Places) (s : Stack) (ms : List Mark) → AreMarks ms r q saved s → (d : Mark) → j < length ms → (get_or ms j d).first ≤ length saved
+first_low j r q saved s [] a d l = absurd (omega (arith, l))
+first_low zero r q saved s (m ∷ ms) a d l = a.0.saved_kept
+first_low (suc j) r q saved s (m ∷ ms) a d l =
+    let i = first_low j r q (take m.first saved) (kept_by m s.slots s.frames) ms a.2 d (omega (arith, l)) in
+    let e = length-take m.first saved in
+    omega (arith, i, e)
+
+left_is : (j : ℕ) (r q : ℕ) (saved : Places) (s : Stack) (ms : List Mark) → AreMarks ms r q saved s → (d : Mark) → j < length ms → saved_left (suc j) ms saved ≡ take (get_or ms j d).first saved
+left_is j r q saved s [] a d l = absurd (omega (arith, l))
+left_is zero r q saved s (m ∷ ms) a d l = refl
+left_is (suc j) r q saved s (m ∷ ms) a d l =
+    let i = first_low j r q (take m.first saved) (kept_by m s.slots s.frames) ms a.2 d (omega (arith, l)) in
+    let e = length-take m.first saved in
+    left_is j r q (take m.first saved) (kept_by m s.slots s.frames) ms a.2 d (omega (arith, l)) ∙ take-take (get_or ms j d).first m.first saved (omega (arith, i, e))
+
+-- what is left of them, by the oldest mark that goes
+pub saved_to : (k : ℕ) (r q : ℕ) (saved : Places) (s : Stack) (marks : List Mark) → AreMarks (reverse marks) r q saved s → (d : Mark) → k < length marks → saved_left (length marks - k) (reverse marks) saved ≡ take (get_or marks k d).first saved
+saved_to k r q saved s marks a d l =
+    let many : length marks - k ≡ suc (length marks - 1 - k) = omega (arith, l) in
+    let back : length marks - 1 - (length marks - 1 - k) ≡ k = omega (arith, l) in
+    let size = length-reverse marks in
+    ap (λ j. saved_left j (reverse marks) saved) many
+    ∙ left_is (length marks - 1 - k) r q saved s (reverse marks) a d (omega (arith, l, size))
+    ∙ ap (λ (m : Mark). take m.first saved) (get_or-reverse marks (length marks - 1 - k) d (omega (arith, l)) ∙ ap (λ j. get_or marks j d) back)
 
 -- the marks that are kept, from the newest
 pub kept_marks : {A : Type 0} (k : ℕ) (xs : List A) → k ≤ length xs → reverse (take k xs) ≡ drop (length xs - k) (reverse xs)

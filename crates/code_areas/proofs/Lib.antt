@@ -1,7 +1,7 @@
 mod Levels
 mod Moving
-mod Lowering
 mod Fields
+mod Putting
 mod Copying
 mod Counting
 mod Dropping

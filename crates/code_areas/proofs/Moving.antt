@@ -1,323 +1,285 @@
--- What each call makes of the fields, and of what is seen of them. The marks are listed from the newest.
-use Rattle.std.proofs.Common.{◌≡◌, ℕ, suc, ◌<◌, ◌≤◌, List, [], ◌∷◌, ◌++◌, length, take, drop, slice_range, refl, ap, sym, ◌∙◌, subst, inl, inr, arith, length-append, length-take}
+-- What each call makes of the slots and the frames, and of what is seen of them.
+use Rattle.std.proofs.Common.{◌≡◌, ℕ, suc, ◌+◌, ◌-◌, ◌<◌, ◌≤◌, List, [], ◌∷◌, ◌++◌, length, take, drop, slice_set, refl, ap, sym, ◌∙◌, subst, inl, inr, arith, length-append, length-take, length-drop}
 use Rattle.std.proofs.lemmas.Bool.{cases_lt}
-use Rattle.std.proofs.lemmas.List.{take-take, take-append-le, get_or-take, get_or_append_left}
-use Rattle.std.proofs.Math.Seq.{take-length, take-append_seam, drop-append_seam, drop-length, get_or-append_seam}
+use Rattle.std.proofs.lemmas.List.{take-take, take-append-le, length-set, take-set-le, drop-set-add, length-take-le}
+use Rattle.std.proofs.Math.Seq.{take-length, take-append_seam, drop-append_seam, get_or-append_seam, take-set-lt}
 use Rattle.code_areas.specs.declared.Frame.{Frame}
 use Rattle.code_areas.specs.declared.Mark.{Mark}
-use Rattle.code_areas.specs.Areas.{Places, Point, Contents}
-use Rattle.code_areas.specs.AreaFields.{no_frame, frame_at, return_of, returns_of, points_of, frames_kept, IsLevel, AreMarks}
-use Rattle.code_areas.proofs.Levels.{slice_is, AreFrames, returns_same, returns_next, level_frames, SameBelow, AboveNewest, points_same, marks_same, same_below, newest_above}
+use Rattle.code_areas.specs.Areas.{Held, Places, Contents}
+use Rattle.code_areas.specs.AreaFields.{Stack, no_frame, frame_at, return_of, returns_of, end_of, slots_of, points_of, seen, frames_kept, slots_kept, IsLevel, AreMarks, Holds}
+use Rattle.code_areas.proofs.Levels.{part_same, frame_same, end_same, frames_of, returns_same, returns_next, Keeps, marks_kept, seen_kept, slots_below, frames_below}
 
-abbrev pub seen : ℕ → Places → ℕ → Places → ℕ → List Frame → ℕ → List Mark → Contents
-seen noted cells first slots base frames newest ms = record { registers = drop first cells; slots = drop base slots; returns = returns_of slots frames newest; points = points_of ms cells slots frames; noted = noted }
+-- places that stand as they are up to some number are as long
+whole : (xs : Places) (n : ℕ) → n ≤ length xs → (ys : Places) → take n (xs ++ ys) ≡ take n xs
+whole xs n l ys = take-append-le n xs ys l
 
-abbrev pub Holds : Places → ℕ → Places → ℕ → List Frame → ℕ → List Mark → Type 0
-Holds cells first slots base frames newest ms = IsLevel cells first slots base frames newest × AreMarks ms cells first slots base frames
+module _ (noted : ℕ) (held saved : Places) (r q : ℕ) (s : Stack) (ms : List Mark) (h : Holds r q saved s ms) where
+  abbrev l : IsLevel s
+  l = h.0
 
-frames_most : (ms : List Mark) (cells : Places) (first : ℕ) (slots : Places) (base : ℕ) (frames : List Frame) → AboveNewest ms cells first slots base frames → (m : Mark) (rest : List Mark) → ms ≡ m ∷ rest → m.frames ≤ length frames
-frames_most ms cells first slots base frames a m rest e = (subst (λ l. AboveNewest l cells first slots base frames) e a).frames_kept
+  abbrev old : Contents
+  old = seen noted held saved s ms
 
-module _ (noted : ℕ) (cells : Places) (first : ℕ) (slots : Places) (base : ℕ) (frames : List Frame) (newest : ℕ) (ms : List Mark) (s : Holds cells first slots base frames newest ms) where
-  abbrev l : IsLevel cells first slots base frames newest
-  l = s.0
+  high : slots_kept ms ≤ length s.slots
+  high = slots_below ms r q saved s h.1
 
-  above : AboveNewest ms cells first slots base frames
-  above = newest_above ms cells first slots base frames s.1
+  highest : frames_kept ms ≤ length s.frames
+  highest = frames_below ms r q saved s h.1
 
-  fs : AreFrames frames base (length frames)
-  fs = level_frames cells first slots base frames newest l
+  -- more registers, and more room
+  pub more_hold : (r' q' : ℕ) → r ≤ r' → q ≤ q' → Holds r' q' saved s ms
+  more_hold r' q' i j = (l, marks_kept r q r' q' saved s s ms h.1 keeps)
+    where
+      keeps : Keeps ms r q r' q' s s
+      keeps = record { registers = i; room = j; slots_same = refl; frames_same = refl; slots_in = high; frames_in = highest; roomy = λ b. (let k = room ms h.1 b in omega (arith, k, j)) }
+        where
+          room : (ms : List Mark) → AreMarks ms r q saved s → s.base < slots_kept ms → length s.slots + s.size ≤ q
+          room [] a b = absurd (omega (arith, b))
+          room (m ∷ ms) a b = a.0.roomy b
 
-  -- other slots behind the frames
-  module _ (slots' : Places) (same : take base slots ≡ take base slots') (long : base ≤ length slots') where
-    below : SameBelow ms cells slots frames cells slots' frames
-    below = same_below ms cells first slots base frames cells slots' frames (length frames) above refl same refl (frames_most ms cells first slots base frames above)
+  -- a frame above all slots
+  module _ (q' : ℕ) (more : q ≤ q') (xs : Places) where
+    abbrev put : Stack
+    put = record { slots = s.slots ++ xs; base = length s.slots; size = length xs; frames = s.frames; newest = s.newest }
 
-    above' : (ms : List Mark) → AboveNewest ms cells first slots base frames → AboveNewest ms cells first slots' base frames
-    above' [] a = tt
-    above' (m ∷ ms) a = record { cells_kept = a.cells_kept; slots_kept = a.slots_kept; frames_kept = a.frames_kept; since = a.since }
+    put_keeps : Keeps ms r q r q' s put
+    put_keeps =
+        let i = high in
+        let e = length-append s.slots xs in
+        record { registers = omega arith; room = more; slots_same = sym (whole s.slots (slots_kept ms) high xs); frames_same = refl; slots_in = omega (arith, i, e); frames_in = highest; roomy = λ b. absurd (omega (arith, i, b)) }
 
-    pub slots_hold : Holds cells first slots' base frames newest ms
-    slots_hold = (
-      record { first_in = l.first_in; base_in = long; newest_in = l.newest_in; ordered = l.ordered; ended = l.ended; older = l.older; rising = l.rising },
-      marks_same ms cells first slots base frames cells first slots' base frames s.1 below (above' ms above),
-    )
+    pub put_holds : Holds r q' saved put ms
+    put_holds =
+        let e = length-append s.slots xs in
+        let i = l.above in
+        let j = l.there in (
+          record { there = omega (arith, e); newest_in = l.newest_in; above = omega (arith, i, j); ordered = l.ordered; older = l.older; rising = l.rising },
+          marks_kept r q r q' saved s put ms h.1 put_keeps,
+        )
 
-    pub slots_seen : seen noted cells first slots' base frames newest ms ≡ record (seen noted cells first slots base frames newest ms) { slots = drop base slots' }
-    slots_seen =
-        ap (λ r. record { registers = drop first cells; slots = drop base slots'; returns = r; points = points_of ms cells slots' frames; noted = noted }) (sym (returns_same slots slots' frames frames base (length frames) fs same refl newest l.newest_in))
-        ∙ ap (λ r. record { registers = drop first cells; slots = drop base slots'; returns = returns_of slots frames newest; points = r; noted = noted }) (sym (points_same ms cells slots frames cells slots' frames below))
+    pub put_seen : seen noted held saved put ms ≡ record old { slots = xs }
+    put_seen =
+        let i = l.above in
+        let j = l.there in
+        seen_kept r q r q' saved s put noted held xs (returns_of s.slots s.frames s.newest) ms put_keeps
+        (ap (take (length xs)) (drop-append_seam s.slots xs) ∙ take-length xs)
+        (sym (returns_same s.slots (s.slots ++ xs) s.frames s.frames (length s.slots) (length s.frames) (frames_of s l (length s.frames) (omega arith))
+        (sym (whole s.slots (length s.slots) (omega arith) xs)) refl s.newest l.newest_in (omega (arith, i, j))))
 
-  -- other registers behind those that were saved
-  module _ (cells' : Places) (same : take first cells ≡ take first cells') (long : first ≤ length cells') where
-    below' : SameBelow ms cells slots frames cells' slots frames
-    below' = same_below ms cells first slots base frames cells' slots frames (length frames) above same refl refl (frames_most ms cells first slots base frames above)
+  -- a slot of the current frame is set, which no mark keeps
+  module _ (own : slots_kept ms ≤ s.base) (n : ℕ) (v : Held) (in_frame : n < s.size) where
+    abbrev set : Stack
+    set = record s { slots = slice_set s.slots (s.base + n) v }
 
-    above'' : (ms : List Mark) → AboveNewest ms cells first slots base frames → AboveNewest ms cells' first slots base frames
-    above'' [] a = tt
-    above'' (m ∷ ms) a = record { cells_kept = a.cells_kept; slots_kept = a.slots_kept; frames_kept = a.frames_kept; since = a.since }
+    same_size : length (slice_set s.slots (s.base + n) v) ≡ length s.slots
+    same_size = length-set s.slots (s.base + n) v
 
-    pub cells_hold : Holds cells' first slots base frames newest ms
-    cells_hold = (
-      record { first_in = long; base_in = l.base_in; newest_in = l.newest_in; ordered = l.ordered; ended = l.ended; older = l.older; rising = l.rising },
-      marks_same ms cells first slots base frames cells' first slots base frames s.1 below' (above'' ms above),
-    )
+    same_front : (k : ℕ) → k ≤ s.base → take k s.slots ≡ take k (slice_set s.slots (s.base + n) v)
+    same_front k i = sym (take-set-le k s.slots (s.base + n) v (omega (arith, i)))
 
-    pub cells_seen : seen noted cells' first slots base frames newest ms ≡ record (seen noted cells first slots base frames newest ms) { registers = drop first cells' }
-    cells_seen = ap (λ r. record { registers = drop first cells'; slots = drop base slots; returns = returns_of slots frames newest; points = r; noted = noted }) (sym (points_same ms cells slots frames cells' slots frames below'))
+    set_keeps : Keeps ms r q r q s set
+    set_keeps =
+        let e = same_size in
+        let i = high in
+        record { registers = omega arith; room = omega arith; slots_same = same_front (slots_kept ms) own; frames_same = refl; slots_in = omega (arith, e, i); frames_in = highest; roomy = λ b. absurd (omega (arith, b, own)) }
+
+    pub set_holds : Holds r q saved set ms
+    set_holds =
+        let e = same_size in
+        let i = l.there in (
+          record { there = omega (arith, e, i); newest_in = l.newest_in; above = l.above; ordered = l.ordered; older = l.older; rising = l.rising },
+          marks_kept r q r q saved s set ms h.1 set_keeps,
+        )
+
+    pub set_seen : seen noted held saved set ms ≡ record old { slots = slice_set (slots_of s) n v }
+    set_seen =
+        seen_kept r q r q saved s set noted held (slice_set (slots_of s) n v) (returns_of s.slots s.frames s.newest) ms set_keeps
+        (ap (take s.size) (drop-set-add s.base s.slots n v) ∙ take-set-lt s.size (drop s.base s.slots) n v in_frame)
+        (sym (returns_same s.slots (slice_set s.slots (s.base + n) v) s.frames s.frames s.base (length s.frames) (frames_of s l (length s.frames) (omega arith))
+        (same_front s.base (omega arith)) refl s.newest l.newest_in l.above))
+
+  -- slots and frames are cut off behind what marks, the current frame and its continuations need
+  module _ (most some base size newest : ℕ) (slots_most : slots_kept ms ≤ most) (frames_some : frames_kept ms ≤ some) (within : base + size ≤ most) (there : base + size ≤ length s.slots) (few : newest ≤ some) (known : newest ≤ length s.frames)
+      (above : end_of s.frames newest ≤ base) (q' : ℕ) (more : q ≤ q') (roomy : base < slots_kept ms → length s.slots + size ≤ q')
+    where
+      abbrev cut : Stack
+      cut = record { slots = take most s.slots; base = base; size = size; frames = take some s.frames; newest = newest }
+
+      front : (k : ℕ) → k ≤ most → take k s.slots ≡ take k (take most s.slots)
+      front k i = sym (take-take k most s.slots i)
+
+      first : (k : ℕ) → k ≤ some → take k s.frames ≡ take k (take some s.frames)
+      first k i = sym (take-take k some s.frames i)
+
+      cut_keeps : Keeps ms r q r q' s cut
+      cut_keeps =
+          let e = length-take most s.slots in
+          let f = length-take some s.frames in
+          let i = high in
+          let j = highest in
+          record { registers = omega arith; room = more; slots_same = front (slots_kept ms) slots_most; frames_same = first (frames_kept ms) frames_some; slots_in = omega (arith, e, i, slots_most); frames_in = omega (arith, f, j, frames_some); roomy = λ b. (let k = roomy b in omega (arith, e, k)) }
+
+      at : (k : ℕ) → k < length (take some s.frames) → frame_at s.frames k ≡ frame_at (take some s.frames) k
+      at k i = let f = length-take some s.frames in frame_same some s.frames (take some s.frames) (first some (omega arith)) k (omega (arith, f, i))
+
+      in_frames : (k : ℕ) → k < length (take some s.frames) → k < length s.frames
+      in_frames k i = let f = length-take some s.frames in omega (arith, f, i)
+
+      cut_rises : (k : ℕ) → k < length (take some s.frames) → end_of (take some s.frames) (frame_at (take some s.frames) k).behind ≤ (frame_at (take some s.frames) k).start
+      cut_rises k i =
+          let f = length-take some s.frames in
+          let o = l.older k (in_frames k i) in
+          let e = end_same some s.frames (take some s.frames) (first some (omega arith)) (frame_at s.frames k).behind (omega (arith, o, f, i)) in
+          subst (λ (x : Frame). end_of (take some s.frames) x.behind ≤ x.start) (at k i) (subst (λ x. x ≤ (frame_at s.frames k).start) e (l.rising k (in_frames k i)))
+
+      pub cut_holds : Holds r q' saved cut ms
+      cut_holds =
+          let e = length-take most s.slots in
+          let f = length-take some s.frames in (
+            record {
+              there = omega (arith, e, within, there);
+              newest_in = omega (arith, f, few, known);
+              above = subst (λ x. x ≤ base) (end_same some s.frames (take some s.frames) (first some (omega arith)) newest few) above;
+              ordered = λ k i. subst (λ (x : Frame). x.start ≤ x.end) (at k i) (l.ordered k (in_frames k i));
+              older = λ k i. subst (λ (x : Frame). x.behind ≤ k) (at k i) (l.older k (in_frames k i));
+              rising = cut_rises;
+            },
+            marks_kept r q r q' saved s cut ms h.1 cut_keeps,
+          )
+
+      pub cut_seen : seen noted held saved cut ms ≡ record old { slots = take size (drop base s.slots); returns = returns_of s.slots s.frames newest }
+      cut_seen =
+          seen_kept r q r q' saved s cut noted held (take size (drop base s.slots)) (returns_of s.slots s.frames newest) ms cut_keeps
+          (sym (part_same most s.slots (take most s.slots) (front most (omega arith)) base size within))
+          (sym (returns_same s.slots (take most s.slots) s.frames (take some s.frames) base newest (frames_of s l newest known) (front base (omega (arith, within))) (first newest few) newest (omega arith) above))
+
+      -- and by what is there then
+      pub cut_stays : seen noted held saved cut ms ≡ record old { slots = slots_of cut; returns = returns_of (take most s.slots) (take some s.frames) newest }
+      cut_stays = seen_kept r q r q' saved s cut noted held (slots_of cut) (returns_of (take most s.slots) (take some s.frames) newest) ms cut_keeps refl refl
+
+  -- the current frame moves down to what marks and continuations need
+  module _ (end : ℕ) (order : end ≤ s.base) (slots_end : slots_kept ms ≤ end) (above : end_of s.frames s.newest ≤ end) where
+    abbrev moved : Stack
+    moved = record s { slots = take end s.slots ++ drop s.base s.slots; base = end }
+
+    size_front : length (take end s.slots) ≡ end
+    size_front = let i = l.there in length-take-le end s.slots (omega (arith, i, order))
+
+    size_moved : length (take end s.slots ++ drop s.base s.slots) ≡ end + (length s.slots - s.base)
+    size_moved = let e = size_front in let f = length-append (take end s.slots) (drop s.base s.slots) in let g = length-drop s.base s.slots in omega (arith, e, f, g)
+
+    moved_front : (k : ℕ) → k ≤ end → take k s.slots ≡ take k (take end s.slots ++ drop s.base s.slots)
+    moved_front k i = let e = size_front in sym (whole (take end s.slots) k (omega (arith, e, i)) (drop s.base s.slots) ∙ take-take k end s.slots i)
+
+    moved_rest : drop end (take end s.slots ++ drop s.base s.slots) ≡ drop s.base s.slots
+    moved_rest = ap (λ k. drop k (take end s.slots ++ drop s.base s.slots)) (sym size_front) ∙ drop-append_seam (take end s.slots) (drop s.base s.slots)
+
+    moved_keeps : Keeps ms r q r q s moved
+    moved_keeps =
+        let e = size_moved in
+        record { registers = omega arith; room = omega arith; slots_same = moved_front (slots_kept ms) slots_end; frames_same = refl; slots_in = omega (arith, e, slots_end); frames_in = highest; roomy = λ b. absurd (omega (arith, b, slots_end)) }
+
+    pub moved_holds : Holds r q saved moved ms
+    moved_holds =
+        let e = size_moved in
+        let i = l.there in (
+          record { there = omega (arith, e, i); newest_in = l.newest_in; above = above; ordered = l.ordered; older = l.older; rising = l.rising },
+          marks_kept r q r q saved s moved ms h.1 moved_keeps,
+        )
+
+    pub moved_seen : seen noted held saved moved ms ≡ old
+    moved_seen =
+        seen_kept r q r q saved s moved noted held (slots_of s) (returns_of s.slots s.frames s.newest) ms moved_keeps
+        (ap (take s.size) moved_rest)
+        (sym (returns_same s.slots (take end s.slots ++ drop s.base s.slots) s.frames s.frames end (length s.frames) (frames_of s l (length s.frames) (omega arith)) (moved_front end (omega arith)) refl s.newest l.newest_in above))
 
   -- a call
   module _ (to : ℕ) where
     abbrev f : Frame
-    f = record { to = to; start = base; end = length slots; behind = newest }
+    f = record { to = to; start = s.base; end = s.base + s.size; behind = s.newest }
 
-    abbrev called : List Frame
-    called = frames ++ f ∷ []
+    abbrev frames : List Frame
+    frames = s.frames ++ f ∷ []
 
-    prefix : take (length frames) frames ≡ take (length frames) called
-    prefix = take-length frames ∙ sym (take-append_seam frames (f ∷ []))
+    abbrev called : Stack
+    called = record { slots = s.slots; base = length s.slots; size = 0; frames = frames; newest = suc (length s.frames) }
 
-    size : length called ≡ suc (length frames)
-    size = omega (arith, length-append frames (f ∷ []))
+    size_frames : length frames ≡ suc (length s.frames)
+    size_frames = let e = length-append s.frames (f ∷ []) in omega (arith, e)
 
-    old_at : (k : ℕ) → k < length frames → frame_at called k ≡ frame_at frames k
-    old_at k i = get_or_append_left frames (f ∷ []) no_frame k i
+    front_frames : (k : ℕ) → k ≤ length s.frames → take k s.frames ≡ take k frames
+    front_frames k i = sym (take-append-le k s.frames (f ∷ []) i)
 
-    new_at : frame_at called (length frames) ≡ f
-    new_at = get_or-append_seam frames f [] no_frame
+    new_at : frame_at frames (length s.frames) ≡ f
+    new_at = get_or-append_seam s.frames f [] no_frame
 
-    -- what holds of the old frames and of the new one holds of all
-    each : (T : ℕ → Frame → Type 0) → ((k : ℕ) → k < length frames → T k (frame_at frames k)) → T (length frames) f → (k : ℕ) → k < length called → T k (frame_at called k)
-    each T old new k i = elim (cases_lt k (length frames)) [
-      | inl j ↦ subst (T k) (sym (old_at k j)) (old k j)
-      | inr j ↦ (let e : length frames ≡ k = omega (arith, i, j, size) in subst (λ k. T k (frame_at called k)) e (subst (T (length frames)) (sym new_at) new))
+    each : (T : ℕ → Frame → Type 0) → ((k : ℕ) → k < length s.frames → T k (frame_at s.frames k)) → T (length s.frames) f → (k : ℕ) → k < length frames → T k (frame_at frames k)
+    each T h g k i = elim (cases_lt k (length s.frames)) [
+      | inl j ↦ subst (T k) (frame_same (length s.frames) s.frames frames (front_frames (length s.frames) (omega arith)) k j) (h k j)
+      | inr j ↦ (let e = size_frames in let here : length s.frames ≡ k = omega (arith, e, i, j) in subst (λ k. T k (frame_at frames k)) here (subst (T (length s.frames)) (sym new_at) g))
     ]
 
-    rises : (i k : ℕ) → i < k → k < length called → (frame_at called i).end ≤ (frame_at called k).start
-    rises i k u v = elim (cases_lt k (length frames)) [
-      | inl j ↦ (let a = old_at i (omega (arith, u, j)) in let b = old_at k j in subst (λ (x : Frame). x.end ≤ (frame_at called k).start) (sym a) (subst (λ (y : Frame). (frame_at frames i).end ≤ y.start) (sym b) (l.rising i k u j)))
-      | inr j ↦
-          let e : length frames ≡ k = omega (arith, v, j, size) in
-          let a = old_at i (omega (arith, u, e)) in
-          subst (λ k. (frame_at called i).end ≤ (frame_at called k).start) e (subst (λ (y : Frame). (frame_at called i).end ≤ y.start) (sym new_at) (subst (λ (x : Frame). x.end ≤ base) (sym a) (l.ended i (omega (arith, u, e)))))
-    ]
+    ends : (k : ℕ) → k ≤ length s.frames → end_of s.frames k ≡ end_of frames k
+    ends k i = end_same (length s.frames) s.frames frames (front_frames (length s.frames) (omega arith)) k i
 
-    above_called : (ms : List Mark) → AboveNewest ms cells first slots base frames → AboveNewest ms cells first slots (length slots) called
-    above_called [] a = tt
-    above_called (m ∷ ms) a = record {
-      cells_kept = a.cells_kept;
-      slots_kept = (let i = a.slots_kept in let j = l.base_in in omega (arith, i, j));
-      frames_kept = (let i = a.frames_kept in omega (arith, i, size));
-      since = λ k i j. each (λ k (x : Frame). m.frames ≤ k → m.slots ≤ x.start) (λ k u v. a.since k v u) (λ u. a.slots_kept) k j i;
-    }
+    call_keeps : Keeps ms r q r q s called
+    call_keeps =
+        let i = high in
+        let j = highest in
+        let e = size_frames in
+        record { registers = omega arith; room = omega arith; slots_same = refl; frames_same = front_frames (frames_kept ms) highest; slots_in = i; frames_in = omega (arith, e, j); roomy = λ b. absurd (omega (arith, i, b)) }
 
-    below_called : SameBelow ms cells slots frames cells slots called
-    below_called = same_below ms cells first slots base frames cells slots called (length frames) above refl refl prefix (frames_most ms cells first slots base frames above)
+    call_rises : (k : ℕ) → k < length s.frames → end_of frames (frame_at s.frames k).behind ≤ (frame_at s.frames k).start
+    call_rises k i = let o = l.older k i in subst (λ x. x ≤ (frame_at s.frames k).start) (ends (frame_at s.frames k).behind (omega (arith, o, i))) (l.rising k i)
 
-    pub call_holds : Holds cells first slots (length slots) called (length called) ms
-    call_holds = (
-      record {
-        first_in = l.first_in;
-        base_in = omega arith;
-        newest_in = omega arith;
-        ordered = each (λ k (x : Frame). x.start ≤ x.end) l.ordered l.base_in;
-        ended = each (λ k (x : Frame). x.end ≤ length slots) (λ k i. (let e = l.ended k i in let b = l.base_in in omega (arith, e, b))) (omega arith);
-        older = each (λ k (x : Frame). x.behind ≤ k) l.older l.newest_in;
-        rising = rises;
-      },
-      marks_same ms cells first slots base frames cells first slots (length slots) called s.1 below_called (above_called ms above),
-    )
+    pub call_holds : Holds r q saved called ms
+    call_holds =
+        let e = size_frames in
+        let i = l.there in (
+          record {
+            there = omega arith;
+            newest_in = omega (arith, e);
+            above = subst (λ (x : Frame). x.end ≤ length s.slots) (sym new_at) i;
+            ordered = each (λ k (x : Frame). x.start ≤ x.end) l.ordered (omega arith);
+            older = each (λ k (x : Frame). x.behind ≤ k) l.older l.newest_in;
+            rising = each (λ k (x : Frame). end_of frames x.behind ≤ x.start) call_rises (subst (λ x. x ≤ s.base) (ends s.newest l.newest_in) l.above);
+          },
+          marks_kept r q r q saved s called ms h.1 call_keeps,
+        )
 
-    abbrev frames_called : AreFrames called (length slots) (length called)
-    frames_called = level_frames cells first slots (length slots) called (length called) call_holds.0
+    many : s.base + s.size - s.base ≡ s.size
+    many = omega arith
 
-    returns_called : returns_of slots called (length called) ≡ record { to = to; slots = drop base slots } ∷ returns_of slots frames newest
-    returns_called =
-        ap (returns_of slots called) size
-        ∙ returns_next slots called (length slots) (length called) frames_called (length frames) (omega (arith, size))
-        ∙ ap (λ (x : Frame). return_of slots x ∷ returns_of slots called x.behind) new_at
-        ∙ ap (λ x. record { to = to; slots = x } ∷ returns_of slots called newest) (slice_is slots base (length slots) l.base_in ∙ ap (drop base) (take-length slots))
-        ∙ ap (λ r. record { to = to; slots = drop base slots } ∷ r) (sym (returns_same slots slots frames called base (length frames) fs refl prefix newest l.newest_in))
-
-    pub call_seen : seen noted cells first slots (length slots) called (length called) ms
-        ≡ record (seen noted cells first slots base frames newest ms) { slots = []; returns = record { to = to; slots = drop base slots } ∷ returns_of slots frames newest }
+    pub call_seen : seen noted held saved called ms ≡ record old { slots = []; returns = record { to = to; slots = slots_of s } ∷ returns_of s.slots s.frames s.newest }
     call_seen =
-        ap (λ x. record { registers = drop first cells; slots = x; returns = returns_of slots called (length called); points = points_of ms cells slots called; noted = noted }) (drop-length slots)
-        ∙ ap (λ r. record { registers = drop first cells; slots = []; returns = r; points = points_of ms cells slots called; noted = noted }) returns_called
-        ∙ ap (λ r. record { registers = drop first cells; slots = []; returns = record { to = to; slots = drop base slots } ∷ returns_of slots frames newest; points = r; noted = noted }) (sym (points_same ms cells slots frames cells slots called below_called))
-
-  -- a return from the frame at place k
-  module _ (k : ℕ) (is : newest ≡ suc k) where
-    abbrev g : Frame
-    g = frame_at frames k
-
-    in_range : k < length frames
-    in_range = let n = l.newest_in in omega (arith, n, is)
-
-    pub returns_there : returns_of slots frames newest ≡ return_of slots g ∷ returns_of slots frames g.behind
-    returns_there = ap (returns_of slots frames) is ∙ returns_next slots frames base (length frames) fs k in_range
-
-    low : g.behind ≤ length frames
-    low = let o = l.older k in_range in let i = in_range in omega (arith, o, i)
-
-    -- a choice point is newer: its slots are copied
-    abbrev copied : Places
-    copied = slots ++ slice_range slots g.start g.end
-
-    same_copied : take base slots ≡ take base copied
-    same_copied = sym (take-append-le base slots (slice_range slots g.start g.end) l.base_in)
-
-    above_copied : (ms : List Mark) → AboveNewest ms cells first slots base frames → AboveNewest ms cells first copied (length slots) frames
-    above_copied [] a = tt
-    above_copied (m ∷ ms) a = record { cells_kept = a.cells_kept; slots_kept = (let i = a.slots_kept in let j = l.base_in in omega (arith, i, j)); frames_kept = a.frames_kept; since = a.since }
-
-    below_copied : SameBelow ms cells slots frames cells copied frames
-    below_copied = same_below ms cells first slots base frames cells copied frames (length frames) above refl same_copied refl (frames_most ms cells first slots base frames above)
-
-    pub copy_holds : Holds cells first copied (length slots) frames g.behind ms
-    copy_holds = (
-      record {
-        first_in = l.first_in;
-        base_in = (let e = length-append slots (slice_range slots g.start g.end) in omega (arith, e));
-        newest_in = low;
-        ordered = l.ordered;
-        ended = λ j i. (let e = l.ended j i in let b = l.base_in in omega (arith, e, b));
-        older = l.older;
-        rising = l.rising;
-      },
-      marks_same ms cells first slots base frames cells first copied (length slots) frames s.1 below_copied (above_copied ms above),
-    )
-
-    pub copy_seen : seen noted cells first copied (length slots) frames g.behind ms ≡ record (seen noted cells first slots base frames newest ms) { slots = slice_range slots g.start g.end; returns = returns_of slots frames g.behind }
-    copy_seen =
-        ap (λ x. record { registers = drop first cells; slots = x; returns = returns_of copied frames g.behind; points = points_of ms cells copied frames; noted = noted }) (drop-append_seam slots (slice_range slots g.start g.end))
-        ∙ ap (λ r. record { registers = drop first cells; slots = slice_range slots g.start g.end; returns = r; points = points_of ms cells copied frames; noted = noted }) (sym (returns_same slots copied frames frames base (length frames) fs same_copied refl g.behind low))
-        ∙ ap (λ r. record { registers = drop first cells; slots = slice_range slots g.start g.end; returns = returns_of slots frames g.behind; points = r; noted = noted }) (sym (points_same ms cells slots frames cells copied frames below_copied))
-
-    -- none is: what lies behind the frame is cut off
-    module _ (free : frames_kept ms ≤ k) where
-      abbrev cut : Places
-      cut = take g.end slots
-
-      abbrev fewer : List Frame
-      fewer = take k frames
-
-      ordered_here : g.start ≤ g.end
-      ordered_here = l.ordered k in_range
-
-      ends_here : g.end ≤ base
-      ends_here = l.ended k in_range
-
-      size_fewer : length fewer ≡ k
-      size_fewer = let i = in_range in omega (arith, length-take k frames, i)
-
-      size_cut : length cut ≡ g.end
-      size_cut = let i = ends_here in let b = l.base_in in omega (arith, length-take g.end slots, i, b)
-
-      at_fewer : (j : ℕ) → j < k → frame_at fewer j ≡ frame_at frames j
-      at_fewer j i = get_or-take k frames j no_frame i
-
-      within_fewer : (j : ℕ) → j < length fewer → (j < k) × (j < length frames)
-      within_fewer j i = let e = size_fewer in let r = in_range in (omega (arith, i, e), omega (arith, i, e, r))
-
-      each_fewer : (T : ℕ → Frame → Type 0) → ((j : ℕ) → j < k → j < length frames → T j (frame_at frames j)) → (j : ℕ) → j < length fewer → T j (frame_at fewer j)
-      each_fewer T h j i = let w = within_fewer j i in subst (T j) (sym (at_fewer j w.0)) (h j w.0 w.1)
-
-      same_cut : take g.start slots ≡ take g.start cut
-      same_cut = sym (take-take g.start g.end slots ordered_here)
-
-      same_fewer : take k frames ≡ take k fewer
-      same_fewer = sym (take-take k k frames (omega arith))
-
-      above_cut : (ms : List Mark) → AboveNewest ms cells first slots base frames → frames_kept ms ≤ k → AboveNewest ms cells first cut g.start fewer
-      above_cut [] a u = tt
-      above_cut (m ∷ ms) a u = record {
-        cells_kept = a.cells_kept;
-        slots_kept = a.since k u in_range;
-        frames_kept = (let e = size_fewer in omega (arith, e, u));
-        since = λ j i v. each_fewer (λ j (x : Frame). m.frames ≤ j → m.slots ≤ x.start) (λ j v w o. a.since j o w) j v i;
-      }
-
-      below_cut : (ms : List Mark) → AboveNewest ms cells first slots base frames → frames_kept ms ≤ k → SameBelow ms cells slots frames cells cut fewer
-      below_cut [] a u = tt
-      below_cut (m ∷ ms) a u = (
-        refl,
-        (let o = a.since k u in_range in let e = ordered_here in sym (take-take m.slots g.end slots (omega (arith, o, e)))),
-        sym (take-take m.frames k frames u),
-      )
-
-      frames_cut : AreFrames frames g.start k
-      frames_cut = record {
-        ordered = λ j i. (let r = in_range in l.ordered j (omega (arith, i, r)));
-        ended = λ j i. l.rising j k i in_range;
-        older = λ j i. (let r = in_range in l.older j (omega (arith, i, r)));
-      }
-
-      pub cut_holds : Holds cells first cut g.start fewer g.behind ms
-      cut_holds = (
-        record {
-          first_in = l.first_in;
-          base_in = (let e = size_cut in let o = ordered_here in omega (arith, e, o));
-          newest_in = (let o = l.older k in_range in let e = size_fewer in omega (arith, o, e));
-          ordered = each_fewer (λ j (x : Frame). x.start ≤ x.end) (λ j v w. l.ordered j w);
-          ended = each_fewer (λ j (x : Frame). x.end ≤ g.start) (λ j v w. l.rising j k v in_range);
-          older = each_fewer (λ j (x : Frame). x.behind ≤ j) (λ j v w. l.older j w);
-          rising = λ i j u v. each_fewer (λ j (x : Frame). i < j → (frame_at fewer i).end ≤ x.start) (λ j v w u. subst (λ (x : Frame). x.end ≤ (frame_at frames j).start) (sym (at_fewer i (omega (arith, u, v)))) (l.rising i j u w)) j v u;
-        },
-        marks_same ms cells first slots base frames cells first cut g.start fewer s.1 (below_cut ms above free) (above_cut ms above free),
-      )
-
-      pub cut_seen : seen noted cells first cut g.start fewer g.behind ms ≡ record (seen noted cells first slots base frames newest ms) { slots = slice_range slots g.start g.end; returns = returns_of slots frames g.behind }
-      cut_seen =
-          ap (λ x. record { registers = drop first cells; slots = x; returns = returns_of cut fewer g.behind; points = points_of ms cells cut fewer; noted = noted }) (sym (slice_is slots g.start g.end ordered_here))
-          ∙ ap (λ r. record { registers = drop first cells; slots = slice_range slots g.start g.end; returns = r; points = points_of ms cells cut fewer; noted = noted }) (sym (returns_same slots cut frames fewer g.start k frames_cut same_cut same_fewer g.behind (l.older k in_range)))
-          ∙ ap (λ r. record { registers = drop first cells; slots = slice_range slots g.start g.end; returns = returns_of slots frames g.behind; points = r; noted = noted }) (sym (points_same ms cells slots frames cells cut fewer (below_cut ms above free)))
+        let e = size_frames in
+        seen_kept r q r q saved s called noted held [] (record { to = to; slots = slots_of s } ∷ returns_of s.slots s.frames s.newest) ms call_keeps
+        refl
+        (returns_next s.slots frames (length frames) (frames_of called call_holds.0 (length frames) (omega arith)) (length s.frames) (omega (arith, e))
+        ∙ ap (λ (x : Frame). return_of s.slots x ∷ returns_of s.slots frames x.behind) new_at
+        ∙ ap (λ k. record { to = to; slots = take k (drop s.base s.slots) } ∷ returns_of s.slots frames s.newest) many
+        ∙ ap (λ x. record { to = to; slots = slots_of s } ∷ x) (sym (returns_same s.slots s.slots s.frames frames s.base (length s.frames) (frames_of s l (length s.frames) (omega arith)) refl (front_frames (length s.frames) (omega arith)) s.newest l.newest_in l.above)))
 
   -- a choice point
-  module _ (place : ℕ) where
+  module _ (place q' : ℕ) (more : q ≤ q') (room : length s.slots + s.size ≤ q') (fits : length held ≤ r) where
     abbrev mark : Mark
-    mark = record { place = place; first = first; cells = length cells; base = base; slots = length slots; frames = length frames; newest = newest; noted = noted }
+    mark = record { place = place; first = length saved; base = s.base; size = s.size; slots = length s.slots; frames = length s.frames; newest = s.newest; noted = noted }
 
-    abbrev cells' : Places
-    cells' = cells ++ drop first cells
+    saved_same : take (length saved) (saved ++ held) ≡ saved
+    saved_same = take-append_seam saved held
 
-    abbrev slots' : Places
-    slots' = slots ++ drop base slots
+    pub push_holds : Holds r q' (saved ++ held) s (mark ∷ ms)
+    push_holds =
+        let e = length-append saved held in
+        let below : IsLevel s × AreMarks ms r q' saved s = more_hold r q' (omega arith) more in
+        let T : Places → Places → List Frame → Type 0 = λ x y z. IsLevel (record { slots = y; base = s.base; size = s.size; frames = z; newest = s.newest }) × AreMarks ms r q' x (record { slots = y; base = s.base; size = s.size; frames = z; newest = s.newest }) in
+        let all = subst (λ x. T x (take (length s.slots) s.slots) (take (length s.frames) s.frames)) (sym saved_same) (subst (λ y. T saved y (take (length s.frames) s.frames)) (sym (take-length s.slots)) (subst (T saved s.slots) (sym (take-length s.frames)) below)) in
+        (l, (record { saved_kept = omega (arith, e); slots_kept = omega arith; frames_kept = omega arith; fitting = omega (arith, e, fits); roomy = λ b. room }, all.0, all.1))
 
-    cells_same : take (length cells) cells' ≡ cells
-    cells_same = take-append_seam cells (drop first cells)
-
-    slots_same : take (length slots) slots' ≡ slots
-    slots_same = take-append_seam slots (drop base slots)
-
-    frames_same : take (length frames) frames ≡ frames
-    frames_same = take-length frames
-
-    pub push_holds : Holds cells' (length cells) slots' (length slots) frames newest (mark ∷ ms)
-    push_holds = (
-      record {
-        first_in = (let e = length-append cells (drop first cells) in omega (arith, e));
-        base_in = (let e = length-append slots (drop base slots) in omega (arith, e));
-        newest_in = l.newest_in;
-        ordered = l.ordered;
-        ended = λ k i. (let e = l.ended k i in let b = l.base_in in omega (arith, e, b));
-        older = l.older;
-        rising = l.rising;
-      },
-      (record { cells_kept = omega arith; slots_kept = omega arith; frames_kept = omega arith; since = λ k i j. absurd (omega (arith, i, j)) }, both.0, both.1),
-    )
-      where
-        both : IsLevel (take (length cells) cells') first (take (length slots) slots') base (take (length frames) frames) newest × AreMarks ms (take (length cells) cells') first (take (length slots) slots') base (take (length frames) frames)
-        both =
-            let T : Places → Places → List Frame → Type 0 = λ x y z. IsLevel x first y base z newest × AreMarks ms x first y base z in
-            subst (λ x. T x (take (length slots) slots') (take (length frames) frames)) (sym cells_same) (subst (λ y. T cells y (take (length frames) frames)) (sym slots_same) (subst (T cells slots) (sym frames_same) s))
-
-    pub push_seen : seen noted cells' (length cells) slots' (length slots) frames newest (mark ∷ ms)
-        ≡ record (seen noted cells first slots base frames newest ms) { points = record { place = place; registers = drop first cells; slots = drop base slots; returns = returns_of slots frames newest; noted = noted } ∷ points_of ms cells slots frames }
+    pub push_seen : seen noted held (saved ++ held) s (mark ∷ ms) ≡ record old { points = record { place = place; registers = held; slots = slots_of s; returns = returns_of s.slots s.frames s.newest; noted = noted } ∷ points_of ms saved s.slots s.frames }
     push_seen =
-        let point : Places → Places → List Frame → List Point = λ x y z. record { place = place; registers = drop first x; slots = drop base y; returns = returns_of y z newest; noted = noted } ∷ points_of ms x y z in
-        ap (λ x. record { registers = x; slots = drop (length slots) slots'; returns = returns_of slots' frames newest; points = points_of (mark ∷ ms) cells' slots' frames; noted = noted }) (drop-append_seam cells (drop first cells))
-        ∙ ap (λ x. record { registers = drop first cells; slots = x; returns = returns_of slots' frames newest; points = points_of (mark ∷ ms) cells' slots' frames; noted = noted }) (drop-append_seam slots (drop base slots))
-        ∙ ap (λ r. record { registers = drop first cells; slots = drop base slots; returns = r; points = points_of (mark ∷ ms) cells' slots' frames; noted = noted }) (sym (returns_same slots slots' frames frames base (length frames) fs (sym (take-append-le base slots (drop base slots) l.base_in)) refl newest l.newest_in))
-        ∙ ap (λ r. record { registers = drop first cells; slots = drop base slots; returns = returns_of slots frames newest; points = r; noted = noted })
-        (ap (λ x. point x (take (length slots) slots') (take (length frames) frames)) cells_same ∙ ap (λ y. point cells y (take (length frames) frames)) slots_same ∙ ap (point cells slots) frames_same)
+        let point = λ (w x y : Places) (z : List Frame). record old { points = record { place = place; registers = w; slots = take s.size (drop s.base y); returns = returns_of y z s.newest; noted = noted } ∷ points_of ms x y z } in
+        ap (λ w. point w (take (length saved) (saved ++ held)) (take (length s.slots) s.slots) (take (length s.frames) s.frames)) (drop-append_seam saved held)
+        ∙ ap (λ x. point held x (take (length s.slots) s.slots) (take (length s.frames) s.frames)) saved_same
+        ∙ ap (λ y. point held saved y (take (length s.frames) s.frames)) (take-length s.slots)
+        ∙ ap (point held saved s.slots) (take-length s.frames)

@@ -1,13 +1,17 @@
 //! The argument registers, the frames and the choice points of a machine that runs code.
 //!
-//! Cells lie in two vectors. In each the current ones are the last: behind them stand those of
-//! choice points and of calls that have not returned, and these are never written.
+//! The registers stay where they are: a choice point copies those that are held behind the ones
+//! that older choice points have saved, and going back copies them from there.
+//!
+//! The slots of all frames lie in one vector. A call leaves a frame where it is, and coming back
+//! uses it there. What a choice point keeps is never written: a write into such a frame copies it
+//! behind all others first.
 #![tactic(auto)]
 
 ghost use Rattle.std.specs.Prelude.{ℕ, ◌≡◌, ◌+◌, ◌-◌, ◌<◌, ◌≤◌, [], ◌∷◌, ◌++◌, length, take, drop, reverse, replicate, slice_range, slice_set, Some, None, IfOk, OnOk, OnErr};
 ghost use Rattle.std.specs.Vec.{vec_len, vec_capacity};
 ghost use Rattle.code_areas.specs.Areas.{cell_at, level_at, holds, level, nothing_held, IsSet, IsLevelSet, IsPut, nothing};
-ghost use Rattle.code_areas.specs.AreaFields.{cells_kept, end_of, frames_kept, slots_kept};
+ghost use Rattle.code_areas.specs.AreaFields.{end_of, frames_kept, slots_kept};
 
 use fd_language::NoMemory;
 use heap_cells::Cell;
@@ -57,14 +61,15 @@ struct Frame {
     behind: usize,
 }
 
-/// A choice point: the place to come back to, where its registers and slots begin, the lengths and
-/// the newest frame of then, and what was noted.
+/// A choice point: the place to come back to, where its registers begin among the saved ones, where
+/// the slots of its frame begin and how many these are, the lengths and the newest frame of then,
+/// and what was noted.
 #[derive(Clone, Copy)]
 struct Mark {
     place: usize,
     first: usize,
-    cells: usize,
     base: usize,
+    size: usize,
     slots: usize,
     frames: usize,
     newest: usize,
@@ -79,9 +84,12 @@ struct Mark {
 #[derive(Drop)]
 pub struct Areas {
     cells: Vec<Place>,
-    first: usize,
+    held: usize,
+    saved: Vec<Place>,
     slots: Vec<Place>,
     base: usize,
+    size: usize,
+    floor: usize,
     frames: Vec<Frame>,
     newest: usize,
     marks: Vec<Mark>,
@@ -93,13 +101,28 @@ impl Model for Areas {
 
     ghost Value = { Contents };
 
-    ghost use Rattle.code_areas.specs.AreaFields.{contents_of, AreStored};
+    ghost use Rattle.std.specs.Prelude.{length, take, reverse};
+    ghost use Rattle.std.specs.Vec.{vec_capacity};
+    ghost use Rattle.code_areas.specs.AreaFields.{seen, AreStored};
 
-    ghost view = { λ a. contents_of a.noted a.cells.items a.first a.slots.items a.base
-        a.frames.items a.newest a.marks.items };
+    ghost view = { λ a. seen a.noted (take a.held a.cells.items) a.saved.items
+        (record {
+          slots = a.slots.items;
+          base = a.base;
+          size = a.size;
+          frames = a.frames.items;
+          newest = a.newest;
+        }) (reverse a.marks.items) };
 
-    ghost invariant = { λ a. AreStored a.cells.items a.first a.slots.items a.base a.frames.items
-        a.newest a.marks.items };
+    ghost invariant = { λ a. AreStored a.held (length a.cells.items) (vec_capacity a.slots)
+        a.saved.items a.floor
+        (record {
+          slots = a.slots.items;
+          base = a.base;
+          size = a.size;
+          frames = a.frames.items;
+          newest = a.newest;
+        }) (reverse a.marks.items) };
 }
 
 impl Areas {
@@ -109,9 +132,12 @@ impl Areas {
     {
         Areas {
             cells: Vec::new(alloc),
-            first: 0,
+            held: 0,
+            saved: Vec::new(alloc),
             slots: Vec::new(alloc),
             base: 0,
+            size: 0,
+            floor: 0,
             frames: Vec::new(alloc),
             newest: 0,
             marks: Vec::new(alloc),
@@ -125,7 +151,7 @@ impl Areas {
         requires { IsSet self.now.registers n }
         ensures { cell_at self.now.registers n ≡ Some result }
     {
-        set_cell(&self.cells, self.first + n)
+        set_cell(&self.cells, n)
     }
 
     /// Puts a cell into the register `n`. The error is want of memory.
@@ -135,7 +161,7 @@ impl Areas {
         ensures same { self.new ≡ record self.old { registers = self.new.registers } }
         ensures unchanged { OnErr result (self.new ≡ self.old) }
     {
-        put_cell(&mut self.cells, self.first, n, cell)?;
+        self.held = put_cell(&mut self.cells, self.held, n, cell)?;
         Ok(())
     }
 
@@ -144,7 +170,9 @@ impl Areas {
     pub fn keep_registers(&mut self, n: usize)
         ensures { self.new ≡ record self.old { registers = take n self.old.registers } }
     {
-        cut_cells(&mut self.cells, self.first, n);
+        if n < self.held {
+            self.held = n;
+        }
     }
 
     /// The cell in the slot `n`.
@@ -160,7 +188,7 @@ impl Areas {
     pub fn slots(&self) -> usize
         ensures { result ≡ length self.now.slots }
     {
-        self.slots.len() - self.base
+        self.size
     }
 
     /// Puts a cell into the slot `n` of the current frame. No memory.
@@ -170,8 +198,7 @@ impl Areas {
         ensures { self.new
             ≡ record self.old { slots = slice_set self.old.slots n (holds cell) } }
     {
-        let at = self.base + n;
-        self.slots[at] = place_of(cell);
+        self.set_place(n, place_of(cell));
     }
 
     /// The level in the slot `n`.
@@ -190,33 +217,46 @@ impl Areas {
         ensures { self.new
             ≡ record self.old { slots = slice_set self.old.slots n (level points) } }
     {
-        let at = self.base + n;
-        self.slots[at] = level_place(points);
+        self.set_place(n, level_place(points));
+    }
+
+    /// Puts a place into the slot `n` of the current frame, which is copied first where a choice
+    /// point keeps it. No memory.
+    #[inline(always)]
+    fn set_place(&mut self, n: usize, place: Place)
+        requires { n < length self.old.slots }
+        ensures { self.new
+            ≡ record self.old { slots = slice_set self.old.slots n place } }
+    {
+        self.base = put_place(&mut self.slots, self.base, self.size, self.floor, n, place);
     }
 
     /// Begins a frame of `n` slots, of which none is set. The error is want of memory.
-    #[inline]
+    #[inline(always)]
     pub fn allocate(&mut self, n: usize) -> Result<(), NoMemory>
         requires none { length self.old.slots ≡ 0 }
         ensures slots { OnOk result (self.new ≡ record self.old { slots = replicate n nothing_held }) }
         ensures unchanged { OnErr result (self.new ≡ self.old) }
     {
         make_room(&mut self.slots, n)?;
+        self.base = self.slots.len();
+        self.size = n;
         put_unset(&mut self.slots, n);
         Ok(())
     }
 
     /// Ends the current frame. No memory.
-    #[inline]
+    #[inline(always)]
     pub fn deallocate(&mut self)
         ensures { self.new ≡ record self.old { slots = [] } }
     {
-        self.slots.truncate(self.base);
+        self.slots.truncate(greater(self.base, self.floor));
+        self.size = 0;
     }
 
     /// Leaves the current frame to a call, which is to go on at the place `to`. The error is want
     /// of memory.
-    #[inline]
+    #[inline(always)]
     pub fn call(&mut self, to: usize) -> Result<(), NoMemory>
         ensures called { OnOk result (self.new ≡ record self.old {
           slots = [];
@@ -224,22 +264,22 @@ impl Areas {
         }) }
         ensures unchanged { OnErr result (self.new ≡ self.old) }
     {
-        let end = self.slots.len();
         self.frames.push(Frame {
             to,
             start: self.base,
-            end,
+            end: self.base + self.size,
             behind: self.newest,
         })?;
         self.newest = self.frames.len();
-        self.base = end;
+        self.base = self.slots.len();
+        self.size = 0;
         Ok(())
     }
 
     /// Goes back to the newest continuation: its slots are the current ones, and the result is its
     /// place. Where no choice point is newer, its memory is given back. The error is want of
     /// memory.
-    #[inline]
+    #[inline(always)]
     pub fn proceed(&mut self) -> Result<usize, NoMemory>
         requires { 0 < length self.old.returns }
         ensures returned { IfOk result (λ to. self.old.returns
@@ -250,17 +290,12 @@ impl Areas {
     {
         let k = self.newest - 1;
         let frame = self.frames[k];
-        if k < kept_frames(&self.marks) {
-            let base = self.slots.len();
-            make_room(&mut self.slots, frame.end - frame.start)?;
-            put_copies(&mut self.slots, frame.start, frame.end);
-            self.base = base;
-            self.newest = frame.behind;
-            return Ok(frame.to);
-        }
-        self.slots.truncate(frame.end);
-        self.frames.truncate(k);
+        let size = frame.end - frame.start;
+        room_to_copy(&mut self.slots, frame.start, size, self.floor)?;
+        self.frames.truncate(greater(k, kept_frames(&self.marks)));
+        self.slots.truncate(greater(frame.end, self.floor));
         self.base = frame.start;
+        self.size = size;
         self.newest = frame.behind;
         Ok(frame.to)
     }
@@ -288,31 +323,26 @@ impl Areas {
         self.noted
     }
 
-    /// Moves the registers down to what the newest choice point keeps. No memory.
-    fn lower_registers(&mut self)
+    /// Gives back the frames and the slots that neither what is current nor a continuation nor a
+    /// choice point needs. No memory.
+    fn give_back(&mut self)
         ensures { self.new ≡ self.old }
     {
-        let kept = kept_cells(&self.marks);
-        move_down(&mut self.cells, kept, self.first);
-        self.first = kept;
+        self.frames
+            .truncate(greater(self.newest, kept_frames(&self.marks)));
+        self.slots
+            .truncate(greater(self.base + self.size, self.floor));
     }
 
-    /// Gives back the frames that neither a continuation nor a choice point needs. No memory.
-    fn drop_frames(&mut self)
+    /// Moves the current frame down to what a continuation or a choice point needs. No memory.
+    fn lower_frame(&mut self)
         ensures { self.new ≡ self.old }
     {
-        let needed = greater(self.newest, kept_frames(&self.marks));
-        self.frames.truncate(needed);
-    }
-
-    /// Moves the slots of the current frame down to what the newest choice point and the frames
-    /// keep. No memory.
-    fn lower_slots(&mut self)
-        ensures { self.new ≡ self.old }
-    {
-        let kept = greater(kept_slots(&self.marks), last_end(&self.frames));
-        move_down(&mut self.slots, kept, self.base);
-        self.base = kept;
+        let end = greater(end_at(&self.frames, self.newest), self.floor);
+        if end < self.base {
+            move_down(&mut self.slots, end, self.base);
+            self.base = end;
+        }
     }
 
     /// Drops the choice points above the oldest `k`, and gives back what only they kept. What is
@@ -322,10 +352,15 @@ impl Areas {
         ensures { self.new
             ≡ record self.old { points = drop (length self.old.points - k) self.old.points } }
     {
+        if k == self.marks.len() {
+            return;
+        }
+        let first = self.marks[k].first;
+        self.saved.truncate(first);
         self.marks.truncate(k);
-        self.lower_registers();
-        self.drop_frames();
-        self.lower_slots();
+        self.floor = kept_slots(&self.marks);
+        self.give_back();
+        self.lower_frame();
     }
 
     /// Makes a choice point of all that is current, to come back to at `place`. The error is want
@@ -344,22 +379,20 @@ impl Areas {
     {
         let mark = Mark {
             place,
-            first: self.first,
-            cells: self.cells.len(),
+            first: self.saved.len(),
             base: self.base,
+            size: self.size,
             slots: self.slots.len(),
             frames: self.frames.len(),
             newest: self.newest,
             noted: self.noted,
         };
         self.marks.reserve(1)?;
-        make_room(&mut self.cells, mark.cells - mark.first)?;
-        make_room(&mut self.slots, mark.slots - mark.base)?;
-        put_copies(&mut self.cells, mark.first, mark.cells);
-        put_copies(&mut self.slots, mark.base, mark.slots);
+        make_room(&mut self.slots, self.size)?;
+        make_room(&mut self.saved, self.held)?;
+        put_first(&mut self.saved, &self.cells, self.held);
         self.marks.push_reserved(mark);
-        self.first = mark.cells;
-        self.base = mark.slots;
+        self.floor = mark.slots;
         Ok(())
     }
 
@@ -376,11 +409,13 @@ impl Areas {
         } ∷ self.new.points }
     {
         let mark = self.marks.pop().unwrap();
-        self.cells.truncate(mark.cells);
+        self.held = put_back(&mut self.cells, &self.saved, mark.first);
+        self.saved.truncate(mark.first);
         self.slots.truncate(mark.slots);
         self.frames.truncate(mark.frames);
-        self.first = mark.first;
+        self.floor = kept_slots(&self.marks);
         self.base = mark.base;
+        self.size = mark.size;
         self.newest = mark.newest;
         self.noted = mark.noted;
         mark.place
@@ -453,11 +488,55 @@ fn set_level_of(cells: &[Place], at: usize) -> usize
 fn make_room(places: &mut Vec<Place>, count: usize) -> Result<(), NoMemory>
     ensures items { places.new.items ≡ places.old.items }
     ensures room { OnOk result (vec_len places.new + count ≤ vec_capacity places.new) }
+    ensures more { vec_capacity places.old ≤ vec_capacity places.new }
 {
     if places.capacity() - places.len() < count {
-        places.reserve(count)?;
+        return reserve(places, count);
     }
     Ok(())
+}
+
+/// Makes room for a copy of a frame that begins below the floor. The error is want of memory.
+#[inline(always)]
+fn room_to_copy(
+    slots: &mut Vec<Place>,
+    start: usize,
+    size: usize,
+    floor: usize,
+) -> Result<(), NoMemory>
+    ensures items { slots.new.items ≡ slots.old.items }
+    ensures room { OnOk result (start < floor → vec_len slots.new + size
+        ≤ vec_capacity slots.new) }
+    ensures more { vec_capacity slots.old ≤ vec_capacity slots.new }
+{
+    if start < floor {
+        return make_room(slots, size);
+    }
+    Ok(())
+}
+
+/// Makes room for so many more places, where there is none. The error is want of memory.
+#[cold]
+#[inline(never)]
+fn reserve(places: &mut Vec<Place>, count: usize) -> Result<(), NoMemory>
+    ensures items { places.new.items ≡ places.old.items }
+    ensures room { OnOk result (vec_len places.new + count ≤ vec_capacity places.new) }
+    ensures more { vec_capacity places.old ≤ vec_capacity places.new }
+{
+    places.reserve(count)?;
+    Ok(())
+}
+
+/// Puts the first so many of some places behind the last one. There is room for them.
+#[inline(always)]
+fn put_first(places: &mut Vec<Place>, from: &[Place], count: usize)
+    requires there { count ≤ length from.now }
+    requires room { vec_len places.old + count ≤ vec_capacity places.old }
+    ensures { places.new.items ≡ places.old.items ++ take count from.now }
+{
+    for at in 0..count {
+        places.push_reserved(from[at]);
+    }
 }
 
 /// Puts copies of the places from `start` to `end` behind the last one. There is room for them.
@@ -466,7 +545,9 @@ fn put_copies(places: &mut Vec<Place>, start: usize, end: usize)
     requires order { start ≤ end }
     requires end { end ≤ length places.old.items }
     requires room { vec_len places.old + (end - start) ≤ vec_capacity places.old }
-    ensures { places.new.items ≡ places.old.items ++ slice_range places.old.items start end }
+    ensures items { places.new.items
+        ≡ places.old.items ++ slice_range places.old.items start end }
+    ensures same { vec_capacity places.new ≡ vec_capacity places.old }
 {
     for at in start..end {
         let place = places[at];
@@ -487,57 +568,154 @@ fn put_unset(places: &mut Vec<Place>, count: usize)
     }
 }
 
-/// Puts a cell behind the first ones at the number `n`.
+/// Puts a place into the slot `n` of the frame that begins at `base`: where that lies below the
+/// floor, of a copy above all slots. There is room for that. The result is where the frame begins.
 #[inline(always)]
-fn put_cell(cells: &mut Vec<Place>, first: usize, n: usize, cell: Cell) -> Result<(), NoMemory>
-    requires { first ≤ length cells.old.items }
-    ensures put { OnOk result (IsPut cells.old.items (first + n) cell cells.new.items) }
-    ensures kept { OnOk result (take first cells.new.items ≡ take first cells.old.items) }
-    ensures longer { OnOk result (first ≤ length cells.new.items) }
-    ensures unchanged { OnErr result (cells.new.items ≡ cells.old.items) }
+fn put_place(
+    slots: &mut Vec<Place>,
+    base: usize,
+    size: usize,
+    floor: usize,
+    n: usize,
+    place: Place,
+) -> usize
+    requires there { base + size ≤ length slots.old.items }
+    requires in_frame { n < size }
+    requires room { base < floor → vec_len slots.old + size ≤ vec_capacity slots.old }
+    ensures kept { floor ≤ base → (result ≡ base)
+        × (slots.new.items ≡ slice_set slots.old.items (base + n) place) }
+    ensures copied { base < floor → (result ≡ length slots.old.items)
+        × (slots.new.items ≡ slice_set (slots.old.items
+        ++ slice_range slots.old.items base (base + size)) (result + n) place) }
+    ensures same { vec_capacity slots.new ≡ vec_capacity slots.old }
 {
-    let held = cells.len() - first;
-    if n < held {
-        cells[first + n] = place_of(cell);
-        return Ok(());
+    if base < floor {
+        let copy = copy_frame(slots, base, size);
+        slots[copy + n] = place;
+        return copy;
     }
-    if n == held && cells.len() < cells.capacity() {
-        cells.push_reserved(place_of(cell));
-        return Ok(());
-    }
-    put_beyond(cells, first, n, cell)
+    slots[base + n] = place;
+    base
 }
 
-/// Puts a cell past the end, at the number `n` behind the first ones: those between are not set.
+/// Copies the frame that begins at `base` behind the last place. There is room for it. The result is
+/// where it begins.
 #[inline(never)]
-fn put_beyond(cells: &mut Vec<Place>, first: usize, n: usize, cell: Cell) -> Result<(), NoMemory>
-    requires within { first ≤ length cells.old.items }
-    requires beyond { length cells.old.items ≤ first + n }
-    ensures put { OnOk result (IsPut cells.old.items (first + n) cell cells.new.items) }
-    ensures kept { OnOk result (take first cells.new.items ≡ take first cells.old.items) }
-    ensures longer { OnOk result (first ≤ length cells.new.items) }
+fn copy_frame(slots: &mut Vec<Place>, base: usize, size: usize) -> usize
+    requires there { base + size ≤ length slots.old.items }
+    requires room { vec_len slots.old + size ≤ vec_capacity slots.old }
+    ensures items { slots.new.items
+        ≡ slots.old.items ++ slice_range slots.old.items base (base + size) }
+    ensures same { vec_capacity slots.new ≡ vec_capacity slots.old }
+    ensures place { result ≡ length slots.old.items }
+{
+    let end = slots.len();
+    put_copies(slots, base, base + size);
+    end
+}
+
+/// Puts a cell into the register `n`, where so many are held. The result is how many are held now.
+#[inline(always)]
+fn put_cell(cells: &mut Vec<Place>, held: usize, n: usize, cell: Cell) -> Result<usize, NoMemory>
+    requires { held ≤ length cells.old.items }
+    ensures put { IfOk result (λ now. IsPut (take held cells.old.items) n cell
+        (take now cells.new.items)) }
+    ensures within { IfOk result (λ now. now ≤ length cells.new.items) }
+    ensures longer { length cells.old.items ≤ length cells.new.items }
     ensures unchanged { OnErr result (cells.new.items ≡ cells.old.items) }
 {
-    let at = first.checked_add(n).ok_or(NoMemory)?;
-    let missing = at - cells.len();
-    make_room(cells, missing.saturating_add(1))?;
-    put_unset(cells, missing);
-    cells.push_reserved(place_of(cell));
+    if n < held {
+        cells[n] = place_of(cell);
+        return Ok(held);
+    }
+    if n == held && n < cells.len() {
+        cells[n] = place_of(cell);
+        return Ok(n + 1);
+    }
+    put_beyond(cells, held, n, cell)
+}
+
+/// Puts a cell into the register `n` past those that are held: those between are not set. The result
+/// is how many are held now.
+#[inline(never)]
+fn put_beyond(cells: &mut Vec<Place>, held: usize, n: usize, cell: Cell) -> Result<usize, NoMemory>
+    requires within { held ≤ length cells.old.items }
+    requires beyond { held ≤ n }
+    ensures put { IfOk result (λ now. IsPut (take held cells.old.items) n cell
+        (take now cells.new.items)) }
+    ensures within { IfOk result (λ now. now ≤ length cells.new.items) }
+    ensures longer { length cells.old.items ≤ length cells.new.items }
+    ensures unchanged { OnErr result (cells.new.items ≡ cells.old.items) }
+{
+    if n < cells.len() {
+        put_further(cells, held, n, cell);
+        return Ok(n + 1);
+    }
+    let now = n.checked_add(1).ok_or(NoMemory)?;
+    fill_to(cells, now)?;
+    put_further(cells, held, n, cell);
+    Ok(now)
+}
+
+/// Puts a cell into the place `n`, and sets none of those from `held` on before it.
+#[inline(always)]
+fn put_further(places: &mut [Place], held: usize, n: usize, cell: Cell)
+    requires order { held ≤ n }
+    requires there { n < length places.old }
+    ensures put { IsPut (take held places.old) n cell (take (n + 1) places.new) }
+    ensures same { length places.new ≡ length places.old }
+{
+    forget(places, held, n);
+    places[n] = place_of(cell);
+}
+
+/// Fills up to so many places at least: the further ones are not set. The error is want of memory.
+#[cold]
+#[inline(never)]
+fn fill_to(places: &mut Vec<Place>, count: usize) -> Result<(), NoMemory>
+    ensures kept { (k : ℕ) → k ≤ length places.old.items
+        → take k places.new.items ≡ take k places.old.items }
+    ensures filled { OnOk result (count ≤ length places.new.items) }
+    ensures longer { length places.old.items ≤ length places.new.items }
+    ensures unchanged { OnErr result (places.new.items ≡ places.old.items) }
+{
+    if places.len() < count {
+        let missing = count - places.len();
+        make_room(places, missing)?;
+        put_unset(places, missing);
+    }
     Ok(())
 }
 
-/// Takes away the cells from the number `n` on behind the first ones.
-#[inline]
-#[tactic(auto, using(std::proofs::lemmas::List::take_all))]
-fn cut_cells(cells: &mut Vec<Place>, first: usize, n: usize)
-    requires { first ≤ length cells.old.items }
-    ensures { cells.new.items ≡ take (first + n) cells.old.items }
+/// Sets none of the places from `start` to `end`.
+#[inline(always)]
+fn forget(places: &mut [Place], start: usize, end: usize)
+    requires order { start ≤ end }
+    requires there { end ≤ length places.old }
+    ensures forgotten { take end places.new
+        ≡ take start places.old ++ replicate (end - start) nothing_held }
+    ensures same { length places.new ≡ length places.old }
 {
-    let held = cells.len() - first;
-    if n >= held {
-        return;
+    for at in start..end {
+        places[at] = unset();
     }
-    cells.truncate(first + n);
+}
+
+/// Copies the saved places from the number `first` on to the front of the registers. The result is
+/// how many these are.
+#[inline(always)]
+fn put_back(cells: &mut [Place], saved: &[Place], first: usize) -> usize
+    requires order { first ≤ length saved.now }
+    requires fitting { length saved.now ≤ first + length cells.old }
+    ensures copied { take result cells.new ≡ drop first saved.now }
+    ensures within { result ≤ length cells.new }
+    ensures same { length cells.new ≡ length cells.old }
+{
+    let held = saved.len() - first;
+    for at in 0..held {
+        cells[at] = saved[first + at];
+    }
+    held
 }
 
 /// How many frames the newest choice point keeps.
@@ -546,16 +724,6 @@ fn kept_frames(marks: &[Mark]) -> usize
 {
     match marks.last() {
         Some(mark) => mark.frames,
-        None => 0,
-    }
-}
-
-/// How many registers the newest choice point keeps.
-fn kept_cells(marks: &[Mark]) -> usize
-    ensures { result ≡ cells_kept (reverse marks.now) }
-{
-    match marks.last() {
-        Some(mark) => mark.cells,
         None => 0,
     }
 }
@@ -570,14 +738,15 @@ fn kept_slots(marks: &[Mark]) -> usize
     }
 }
 
-/// Where the slots of the last frame end.
-fn last_end(frames: &[Frame]) -> usize
-    ensures { result ≡ end_of (reverse frames.now) }
+/// Where the slots of the frame with such a number end: 0 is none.
+fn end_at(frames: &[Frame], newest: usize) -> usize
+    requires { newest ≤ length frames.now }
+    ensures { result ≡ end_of frames.now newest }
 {
-    match frames.last() {
-        Some(frame) => frame.end,
-        None => 0,
+    if newest == 0 {
+        return 0;
     }
+    frames[newest - 1].end
 }
 
 /// The greater of two numbers.
@@ -595,11 +764,9 @@ fn greater(a: usize, b: usize) -> usize
 fn move_down(places: &mut Vec<Place>, to: usize, from: usize)
     requires order { to ≤ from }
     requires there { from ≤ length places.old.items }
-    ensures { places.new.items ≡ take to places.old.items ++ drop from places.old.items }
+    ensures items { places.new.items ≡ take to places.old.items ++ drop from places.old.items }
+    ensures same { vec_capacity places.new ≡ vec_capacity places.old }
 {
-    if to == from {
-        return;
-    }
     let count = places.len() - from;
     places.copy_within(from.., to);
     places.truncate(to + count);

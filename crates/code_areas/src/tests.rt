@@ -20,8 +20,8 @@ fn call_once(rt: &impl Abort, areas: &mut Areas) -> Result<(), Fail> {
     Ok(())
 }
 
-fn check_lengths(rt: &impl Abort, areas: &Areas, cells: usize, slots: usize, frames: usize) {
-    assert_eq!(rt; areas.cells.len(), cells);
+fn check_lengths(rt: &impl Abort, areas: &Areas, saved: usize, slots: usize, frames: usize) {
+    assert_eq!(rt; areas.saved.len(), saved);
     assert_eq!(rt; areas.slots.len(), slots);
     assert_eq!(rt; areas.frames.len(), frames);
 }
@@ -46,11 +46,11 @@ fn a_choice_point_that_is_taken_away_leaves_nothing(rt: HostRuntime) -> Result<(
     for _ in 0..1000 {
         call_once(&rt, &mut areas)?;
     }
-    check_lengths(&rt, &areas, 4, 4, 1);
+    check_lengths(&rt, &areas, 2, 4, 1);
     let points = areas.points();
     assert!(rt; points > 0);
     let place = areas.pop_point();
     assert_eq!(rt; place, 30);
-    check_lengths(&rt, &areas, 2, 4, 1);
+    check_lengths(&rt, &areas, 0, 4, 1);
     Ok(())
 }

@@ -5,3 +5,4 @@ abbrev pub invariant-loop-at : goal.invariant-loop-at
 invariant-loop-at l =
     (l.places.items ≡ l.initial.places.items ++ slice_range l.initial.places.items l.start l.at)
     × (l.start ≤ l.at) × (l.at ≤ l.end) × (vec_len l.places + (l.end - l.at) ≤ vec_capacity l.places)
+    × (vec_capacity l.places ≡ vec_capacity l.initial.places)

@@ -1,29 +1,13 @@
-use Rattle.std.proofs.Common.{◌≡◌, ℕ, ◌+◌, [], length, take, drop, reverse, ap, sym, ◌∙◌, arith, length-take}
+use Rattle.std.proofs.Common.{[], length, take, reverse, ap, ◌∙◌, vec_capacity}
 use Rattle.code_areas.specs.Areas.{Places, Contents}
-use Rattle.code_areas.specs.AreaFields.{contents_of}
-use Rattle.std.proofs.lemmas.List.{drop-take, take-take}
-use Rattle.code_areas.proofs.Moving.{slots_hold, slots_seen}
+use Rattle.code_areas.specs.AreaFields.{Stack, seen}
+use Rattle.code_areas.proofs.Fields.{ended}
 use Rattle.code_areas.proofs.Areas.deallocate.Goals as goal
-
-cut_none : (n : ℕ) (xs : Places) → drop n (take n xs) ≡ []
-cut_none n xs = let e : n + 0 ≡ n = omega arith in ap (λ k. drop n (take k xs)) (sym e) ∙ drop-take n 0 xs
-
-pub invariant_of-self : goal.invariant_of-self
-invariant_of-self c =
-    let a = c.self.inside in
-    let e = c.truncate.ensures.items in
-    let b = c.self.invariant.0.base_in in
-    slots_hold a.noted a.cells.items a.first a.slots.items a.base a.frames.items a.newest (reverse a.marks.items) c.self.invariant c.truncate.new.self.items
-    (sym (ap (take a.base) e ∙ take-take a.base a.base a.slots.items (omega arith)))
-    (let k = ap length e in omega (arith, b, k, length-take a.base a.slots.items))
 
 pub returns : goal.returns
 returns c =
     let a = c.self.inside in
-    let e = c.truncate.ensures.items in
-    let b = c.self.invariant.0.base_in in
-    slots_seen a.noted a.cells.items a.first a.slots.items a.base a.frames.items a.newest (reverse a.marks.items) c.self.invariant c.truncate.new.self.items
-    (sym (ap (take a.base) e ∙ take-take a.base a.base a.slots.items (omega arith)))
-    (let k = ap length e in omega (arith, b, k, length-take a.base a.slots.items))
-    ∙ ap (λ x. record (contents_of a.noted a.cells.items a.first a.slots.items a.base a.frames.items a.newest a.marks.items) { slots = x }) (ap (drop a.base) e ∙ cut_none a.base a.slots.items)
+    let s : Stack = record { slots = a.slots.items; base = a.base; size = a.size; frames = a.frames.items; newest = a.newest } in
+    ap (λ (ys : Places). seen a.noted (take a.held a.cells.items) a.saved.items (record s { slots = ys; size = 0 }) (reverse a.marks.items)) c.truncate.ensures.items
+    ∙ (ended a.noted a.held (length a.cells.items) (vec_capacity a.slots) a.floor (take a.held a.cells.items) a.saved.items s (reverse a.marks.items) c.self.invariant c.greater.result c.greater.ensures.second c.greater.ensures.first).1
     ∙ ap (λ (k : Contents). record k { slots = [] }) c.self.view_is

@@ -7,4 +7,4 @@ use Rattle.code_areas.proofs.Areas.points.Goals as goal
 pub returns : goal.returns
 returns c =
     let a = c.self.inside in
-    omega (arith, c.len.ensures, a.marks.ok.0) ∙ sym (length-reverse a.marks.items) ∙ sym (count (reverse a.marks.items) a.cells.items a.slots.items a.frames.items) ∙ ap (λ (k : Contents). length k.points) c.self.view_is
+    omega (arith, c.len.ensures, a.marks.ok.0) ∙ sym (length-reverse a.marks.items) ∙ sym (count (reverse a.marks.items) a.saved.items a.slots.items a.frames.items) ∙ ap (λ (k : Contents). length k.points) c.self.view_is
