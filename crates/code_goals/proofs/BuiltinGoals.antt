@@ -51,7 +51,7 @@ use Rattle.code_goals.specs.declared.next.Next.TheVariants.{On, Back, Fault, Wri
 use Rattle.code_goals.specs.Builtins.{IsFound, IsSecond, ComesTo}
 use Rattle.code_goals.specs.Tasks.{names_of, task_of}
 use Rattle.code_goals.specs.GoalTexts.{text_at}
-use Rattle.code_goals.specs.Taking.{next_by, IsSafeNext, LeadsNext, RunsNext, Takes}
+use Rattle.code_goals.specs.Taking.{next_by, IsSafeNext, LeadsNext, RunsNext, Takes, SaysNothing}
 use Rattle.machine_frames.proofs.Lemmas.{model_wider}
 use Rattle.code_goals.proofs.Moving.{runs_grown}
 use Rattle.code_goals.proofs.Safe.{choices_same, sound_below, grown_cells, arguments_there, moved_safe, on_safe, on_same, goes_back}
@@ -247,6 +247,11 @@ grown_taken area s s1 at c i first f g e s' x t prog q ls n k es r runnable m =
 pub next_leads : (at : ℕ) (holds : Bool) → LeadsNext at (next_by at holds)
 next_leads at true = refl
 next_leads at false = tt
+
+-- and says nothing
+pub next_silent : (at : ℕ) (holds : Bool) → SaysNothing (next_by at holds)
+next_silent at true = tt
+next_silent at false = tt
 
 -- ---- what a goal comes to is found
 

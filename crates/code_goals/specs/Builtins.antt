@@ -11,6 +11,12 @@ use Rattle.wam_code.specs.Area.{Area}
 use Rattle.code_areas.specs.Areas.{cell_at, Contents}
 use Rattle.code_goals.specs.Tasks.{names_of}
 
+-- a goal that says nothing
+abbrev pub IsSilent : BuiltinKind → Type 0
+IsSilent kind.Write = ⊥
+IsSilent kind.Nl = ⊥
+IsSilent _ = Unit {0}
+
 -- a goal that says nothing, and comes to something by the terms of its arguments
 abbrev pub IsFound : BuiltinKind → Type 0
 IsFound kind.True = ⊥

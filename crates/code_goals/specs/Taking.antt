@@ -37,6 +37,12 @@ LeadsNext at (Fault f) = Unit {0}
 LeadsNext at (Write to) = to ≡ suc at
 LeadsNext at (Newline to) = to ≡ suc at
 
+-- it writes nothing and ends no line
+abbrev pub SaysNothing : Next → Type 0
+SaysNothing (Write to) = ⊥
+SaysNothing (Newline to) = ⊥
+SaysNothing _ = Unit {0}
+
 -- One reduction is spent, these events are said, and then the rest is to come.
 abbrev pub SpendsTo : (Future → Type 0) → List Event → ℕ → Option ℕ → List Event → ℕ → Type 0
 SpendsTo Then said n k es r = Spends (λ later j. Then (record { budget = n; answers = k; events = later; reductions = j })) said es r

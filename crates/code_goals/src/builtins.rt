@@ -9,8 +9,8 @@ ghost use Rattle.wam_code.specs.Arities.{builtin_arity};
 ghost use Rattle.wam_code.specs.Area.{Holds};
 ghost use Rattle.code_states.specs.Safety.{IsSafe};
 ghost use Rattle.code_goals.specs.Arguments.{HasArguments};
-ghost use Rattle.code_goals.specs.Builtins.{ComesTo, IsFound, IsSecond, has_one_argument};
-ghost use Rattle.code_goals.specs.Taking.{IsSafeNext, LeadsNext, Takes};
+ghost use Rattle.code_goals.specs.Builtins.{ComesTo, IsFound, IsSecond, IsSilent, has_one_argument};
+ghost use Rattle.code_goals.specs.Taking.{IsSafeNext, LeadsNext, SaysNothing, Takes};
 
 use crate::next::{Next, next_if, pool_of};
 use branch_goals::{Found, find};
@@ -25,7 +25,7 @@ use std::alloc::Global;
 use unify_core::Touch;
 use wam_code::CodeArea;
 
-/// Takes `S = T`, as `take_builtin` does.
+/// Takes `S = T`, as `take_silent` does.
 fn take_unify<A: Agenda + Drop>(
     code: &CodeArea,
     at: usize,
@@ -38,6 +38,7 @@ fn take_unify<A: Agenda + Drop>(
     ensures safe { IfOk result (IsSafeNext code.now branch.new areas.now) }
     ensures takes { IfOk result (Takes code.now branch.old at areas.now branch.new) }
     ensures leads { IfOk result (LeadsNext at) }
+    ensures silent { IfOk result SaysNothing }
     ensures same { OnOk result (IsSameBelow branch.old branch.new) }
 {
     pool_of(code);
@@ -114,6 +115,7 @@ fn act_on<A: Agenda + Drop>(
     ensures safe { IfOk result (IsSafeNext code.now branch.new areas.now) }
     ensures takes { IfOk result (Takes code.now branch.old at areas.now branch.new) }
     ensures leads { IfOk result (LeadsNext at) }
+    ensures silent { IfOk result SaysNothing }
     ensures same { OnOk result (IsSameBelow branch.old branch.new) }
 {
     pool_of(code);
@@ -127,7 +129,7 @@ fn act_on<A: Agenda + Drop>(
     }
 }
 
-/// Takes a goal that says nothing, as `take_builtin` does.
+/// Takes a goal that comes to something by the terms of its arguments, as `take_silent` does.
 fn take_found<A: Agenda + Drop>(
     code: &CodeArea,
     at: usize,
@@ -142,11 +144,40 @@ fn take_found<A: Agenda + Drop>(
     ensures safe { IfOk result (IsSafeNext code.now branch.new areas.now) }
     ensures takes { IfOk result (Takes code.now branch.old at areas.now branch.new) }
     ensures leads { IfOk result (LeadsNext at) }
+    ensures silent { IfOk result SaysNothing }
     ensures same { OnOk result (IsSameBelow branch.old branch.new) }
 {
     let alloc = *touches.allocator();
     let found = find_goal(alloc, code, at, kind, branch, areas)?;
     act_on(code, at, (kind, found), branch, areas, touches)
+}
+
+/// Takes the built-in goal at a place as `take_builtin` does, where it says nothing: it is neither `write` nor `nl`.
+#[inline(never)]
+pub fn take_silent<A: Agenda + Drop>(
+    code: &CodeArea,
+    at: usize,
+    kind: BuiltinKind,
+    branch: &mut BranchState<A>,
+    areas: &Areas,
+    touches: &mut Vec<Touch>,
+) -> Result<Next, NoMemory>
+    requires safe { IsSafe code.now branch.old at 0 areas.now }
+    requires holds { Holds code.now at (step.Builtin kind) }
+    requires silent { IsSilent kind }
+    ensures safe { IfOk result (IsSafeNext code.now branch.new areas.now) }
+    ensures takes { IfOk result (Takes code.now branch.old at areas.now branch.new) }
+    ensures leads { IfOk result (LeadsNext at) }
+    ensures silent { IfOk result SaysNothing }
+    ensures same { OnOk result (IsSameBelow branch.old branch.new) }
+{
+    match kind {
+        BuiltinKind::True => Ok(Next::On(behind(code, at))),
+        BuiltinKind::Fail | BuiltinKind::False => Ok(Next::Back),
+        BuiltinKind::Unify => take_unify(code, at, branch, areas, touches),
+        BuiltinKind::Write | BuiltinKind::Nl => unreachable!(),
+        _ => take_found(code, at, kind, branch, areas, touches),
+    }
 }
 
 /// Takes the built-in goal at a place, whose arguments are in the first registers; `touches` is lent for what the store is told. After a
@@ -167,11 +198,8 @@ pub fn take_builtin<A: Agenda + Drop>(
     ensures same { OnOk result (IsSameBelow branch.old branch.new) }
 {
     match kind {
-        BuiltinKind::True => Ok(Next::On(behind(code, at))),
-        BuiltinKind::Fail | BuiltinKind::False => Ok(Next::Back),
         BuiltinKind::Nl => Ok(Next::Newline(behind(code, at))),
-        BuiltinKind::Unify => take_unify(code, at, branch, areas, touches),
         BuiltinKind::Write => Ok(Next::Write(behind(code, at))),
-        _ => take_found(code, at, kind, branch, areas, touches),
+        _ => take_silent(code, at, kind, branch, areas, touches),
     }
 }

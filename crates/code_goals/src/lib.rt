@@ -11,7 +11,7 @@ mod ranges;
 
 pub use crate::answers::{show_answer, show_written};
 pub use crate::best::take_best;
-pub use crate::builtins::take_builtin;
+pub use crate::builtins::{take_builtin, take_silent};
 pub use crate::constraints::take_constraint;
 pub use crate::labels::{Labelled, Tried, ValuesLeft, take_label, try_value};
 pub use crate::next::Next;

@@ -1,9 +1,9 @@
 use Rattle.std.proofs.Common.{subst, sym}
 use Rattle.wam_code.specs.declared.instruction.Code.TheVariants as step
 use Rattle.code_states.proofs.Lemmas.{within_code}
-use Rattle.code_goals.specs.Taking.{IsSafeNext, LeadsNext, Takes}
+use Rattle.code_goals.specs.Taking.{IsSafeNext, LeadsNext, SaysNothing, Takes}
 use Rattle.code_goals.specs.declared.next.Next.{Next}
-use Rattle.code_goals.proofs.BuiltinGoals.{next_leads, found_fault, found_decided, found_cells, found_equal, decided_safe, equal_safe}
+use Rattle.code_goals.proofs.BuiltinGoals.{next_leads, next_silent, found_fault, found_decided, found_cells, found_equal, decided_safe, equal_safe}
 use Rattle.code_goals.proofs.builtins.act_on.Goals as goal
 
 pub next_if-requires : goal.next_if-requires
@@ -49,3 +49,9 @@ returns-in-Decided-clause-leads g c = subst (LeadsNext c.args.at) (sym c.next_if
 
 pub returns-in_ok-equal-in-Equal-clause-leads : goal.returns-in_ok-equal-in-Equal-clause-leads
 returns-in_ok-equal-in-Equal-clause-leads g c = subst (LeadsNext c.args.at) (sym c.next_if-in-Equal.ensures) (next_leads c.args.at c.in_ok-equal-in-Equal.equal)
+
+pub returns-in-Decided-clause-silent : goal.returns-in-Decided-clause-silent
+returns-in-Decided-clause-silent g c = subst SaysNothing (sym c.next_if.ensures) (next_silent c.args.at c.in-Decided.holds)
+
+pub returns-in_ok-equal-in-Equal-clause-silent : goal.returns-in_ok-equal-in-Equal-clause-silent
+returns-in_ok-equal-in-Equal-clause-silent g c = subst SaysNothing (sym c.next_if-in-Equal.ensures) (next_silent c.args.at c.in_ok-equal-in-Equal.equal)

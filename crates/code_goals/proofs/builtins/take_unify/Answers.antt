@@ -2,9 +2,9 @@ use Rattle.std.proofs.Common.{subst, sym, refl, arith}
 use Rattle.fd_model.specs.declared.kinds.BuiltinKind.TheVariants as kind
 use Rattle.wam_code.specs.declared.instruction.Code.TheVariants as step
 use Rattle.code_states.proofs.Lemmas.{within_code}
-use Rattle.code_goals.specs.Taking.{IsSafeNext, LeadsNext, Takes}
+use Rattle.code_goals.specs.Taking.{IsSafeNext, LeadsNext, SaysNothing, Takes}
 use Rattle.code_goals.specs.declared.next.Next.{Next}
-use Rattle.code_goals.proofs.BuiltinGoals.{next_leads, unify_taken, equal_safe}
+use Rattle.code_goals.proofs.BuiltinGoals.{next_leads, next_silent, unify_taken, equal_safe}
 use Rattle.code_goals.proofs.Safe.{arguments_there}
 use Rattle.code_goals.proofs.builtins.take_unify.Goals as goal
 
@@ -38,3 +38,6 @@ returns-clause-takes g c =
 
 pub returns-clause-leads : goal.returns-clause-leads
 returns-clause-leads g c = subst (LeadsNext c.args.at) (sym c.next_if.ensures) (next_leads c.args.at c.in_ok-equal.equal)
+
+pub returns-clause-silent : goal.returns-clause-silent
+returns-clause-silent g c = subst SaysNothing (sym c.next_if.ensures) (next_silent c.args.at c.in_ok-equal.equal)
