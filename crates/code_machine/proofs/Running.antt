@@ -3,6 +3,7 @@ use Rattle.std.proofs.Common.{◌≡◌, ℕ, zero, suc, ◌+◌, ◌*◌, ◌<�
 use Rattle.std.proofs.lemmas.Bool.{true≢false}
 use Rattle.std.proofs.lemmas.Option.{same_Some}
 use Rattle.fd_language.proofs.Lemmas.{two}
+use Rattle.fd_model.specs.declared.kinds.QueryFault.{QueryFault}
 use Rattle.fd_model.specs.Goal as model
 use Rattle.fd_model.specs.Goal.{Program, Query, Event}
 use Rattle.fd_model.specs.Run.{IsLimit}
@@ -28,7 +29,7 @@ use Rattle.code_states.proofs.Lemmas.{left_falls, left_spent, left_up, budget_en
 use Rattle.code_goals.specs.declared.next.Next.{Next}
 use Rattle.code_goals.specs.declared.next.Next.TheVariants as next
 use Rattle.code_goals.specs.Answers.{IsAsked, ShowsAnswer}
-use Rattle.code_goals.specs.Taking.{IsSafeNext, RunsNext}
+use Rattle.code_goals.specs.Taking.{IsSafeNext, RunsNext, SaysNothing}
 use Rattle.code_goals.specs.Tasks.{task_of}
 use Rattle.code_goals.specs.GoalTexts.{first_written}
 use Rattle.code_goals.specs.Values.{RunsWent}
@@ -383,6 +384,28 @@ module _ (area : Area) (query : ℕ) (s s' : branch.State) (at : ℕ) (c c' : Co
     says = λ e is. subst (λ y. Says before y (after (Going to))) (sym is) (saying to event.Newline model.Newline (λ names. refl) refl (λ later. refl) tt (λ j. refl) g l told);
   }
 
+  fault_by : (f : QueryFault) → Told (next.Fault f) → IsQuiet before (after (Ended (ending.Fault f)))
+  fault_by f told = record {
+    stands = λ es total h.
+        (let w = told h.program h.query h.task es h.later h.stands in
+        record { program = h.program; query = h.query; task = h.task; later = 0; all = (let a = h.all in let j = w.1 in omega (arith, a, j)); stands = (w.0, refl) });
+    falls = omega arith;
+    paced = one_spent;
+    limit = refl;
+    unended = λ x e. going_on at x e;
+  }
+
+  next_quiet : (y : Next) → SaysNothing y → next_work area c' ls' y ≤ most area * suc (whole_at area at c ls) → Told y → IsQuiet before (after (stage_next y))
+  next_quiet (next.On to) silent l told = quiet_by to l told
+  next_quiet next.Back silent l told = gone_by l told
+  next_quiet (next.Fault f) silent l told = fault_by f told
+  next_quiet (next.Write to) silent l told = absurd silent
+  next_quiet (next.Newline to) silent l told = absurd silent
+
+  -- a goal that says nothing is a quiet step, also to its fault, which the end says then
+  pub spent_quiet : SaysNothing x → IsQuiet before (after (stage_next x))
+  spent_quiet silent = next_quiet x silent spends.work (λ prog q task es r runs. spends.runs query prog q task n k es r runs)
+
   pub spent_step : IsStep before (saying_next x) (after (stage_next x))
   spent_step = next_step x spends.safe goal spends.work (λ prog q task es r runs. spends.runs query prog q task n k es r runs)
 
@@ -518,6 +541,22 @@ module _ (area : Area) (query : ℕ) (s : branch.State) (at : ℕ) (c : Contents
 -- the code and the query stay
 pub same_trans : (a b c : State) → IsSame a b → IsSame b c → IsSame a c
 same_trans a b c h k = (k.0 ∙ h.0, k.1 ∙ h.1, k.2 ∙ h.2)
+
+-- none yet
+pub rests : (s : State) → IsMachine s → StillRuns s s
+rests s m = record { machine = m; same = (refl, refl, refl); stands = λ es total w. w; less = omega arith; paced = refl; limit = refl; still = λ x e. (e, refl) }
+
+-- one
+pub quiet_still : (old new : State) → IsMachine new → IsSame old new → IsQuiet old new → StillRuns old new
+quiet_still old new m same quiet = record {
+  machine = m;
+  same = same;
+  stands = quiet.stands;
+  less = (let a = quiet.falls in omega (arith, a));
+  paced = quiet.paced;
+  limit = quiet.limit;
+  still = λ x e. absurd (quiet.unended x e);
+}
 
 -- quiet steps behind others
 pub run_on_from : (old s new : State) → StillRuns old s → StillRuns s new → StillRuns old new

@@ -16,6 +16,7 @@ use Rattle.code_states.specs.Queries.{IsInQuery, EndsIn}
 use Rattle.code_states.specs.Safety.{AreBehind, IsSafe}
 use Rattle.code_goals.specs.declared.next.Next.{Next}
 use Rattle.code_goals.specs.Answers.{ShowsAnswer}
+use Rattle.code_goals.specs.Taking.{SaysNothing}
 use Rattle.code_machine.specs.declared.run.Ending.TheVariants as ending
 use Rattle.code_machine.specs.declared.run.Label.{Label}
 use Rattle.code_machine.specs.declared.run.Saying.{Saying}
@@ -25,7 +26,7 @@ use Rattle.code_machine.specs.declared.run.Stage.TheVariants.{Going, Returning, 
 use Rattle.code_machine.specs.States.{State, IsMachine, IsQuiet, IsStep, Says, Tells, behind_answer, one_fewer}
 use Rattle.code_machine.specs.Instructions.{IsCall, IsGoal}
 use Rattle.code_machine.specs.Steps.{Spends, ComesBack, stage_of, stage_next, saying_next}
-use Rattle.code_machine.proofs.Running.{seen, NeedsGoal, back_machine, back_quiet, spent_machine, spent_step, told_end, budget_says, none_says, answer_machine, answer_says}
+use Rattle.code_machine.proofs.Running.{seen, NeedsGoal, back_machine, back_quiet, spent_machine, spent_quiet, spent_step, told_end, budget_says, none_says, answer_machine, answer_says}
 
 -- a goal takes one of those still to come
 pub goal_takes : (i : Code) → IsGoal i → TakesGoal i
@@ -74,6 +75,13 @@ module _ (area : Area) (query : ℕ) (s : branch.State) (c : Contents) (ls : Lis
 
         pub spends_machine : IsMachine (seen area query s' c' ls' st' (n - 1) k (spent + 1))
         spends_machine = subst (λ y. IsMachine (seen area query s' c' ls' y (n - 1) k (spent + 1))) (sym is') (spent_machine area query s s' at c c' ls ls' (n - 1) k spent x spends goal before)
+
+        pub spends_quiet : SaysNothing x → IsQuiet old (seen area query s' c' ls' st' (n - 1) k (spent + 1))
+        spends_quiet silent =
+            subst (λ y. IsQuiet (seen area query s c ls y n k spent) (seen area query s' c' ls' st' (n - 1) k (spent + 1))) (sym is)
+            (subst (λ j. IsQuiet (seen area query s c ls (Going at) j k spent) (seen area query s' c' ls' st' (n - 1) k (spent + 1))) (sym one_less)
+            (subst (λ y. IsQuiet (seen area query s c ls (Going at) (suc (n - 1)) k spent) (seen area query s' c' ls' y (n - 1) k (spent + 1))) (sym is')
+            (spent_quiet area query s s' at c c' ls ls' (n - 1) k spent x spends goal before silent)))
 
         pub spends_step : (o : Option Saying) → o ≡ saying_next x → IsStep old o (seen area query s' c' ls' st' (n - 1) k (spent + 1))
         spends_step o said =

@@ -20,7 +20,6 @@ use Rattle.wam_code.specs.Ending.{weight}
 use Rattle.wam_code.specs.Tries.{IsQueryCode}
 use Rattle.code_areas.specs.Areas.{IsSet, Point, Contents}
 use Rattle.code_steps.specs.Running.{Left}
-use Rattle.code_states.specs.declared.went.Went.{Went}
 use Rattle.code_states.specs.Queries.{EndsIn, IsInQuery}
 use Rattle.code_states.specs.Safety.{IsSafe, IsSafeBack}
 use Rattle.code_states.specs.Stages.{Task, RunsAt, ReturnsTo, IsReadyToRun}
@@ -282,11 +281,6 @@ MaySayAt area c n (Ended e) = Unit {0}
 
 abbrev pub IsToSay : State → Type 0
 IsToSay s = MaySayAt s.area s.areas s.budget s.stage
-
--- After an instruction that said nothing; or none was taken, since something may have to be said.
-abbrev pub IsWalk : State → State → Option Went → Type 0
-IsWalk old new (Some w) = IsQuiet old new
-IsWalk old new None = (new ≡ old) × IsToSay old
 
 -- the state after steps that say nothing
 pub record StillRuns (old new : State) : Type 0 where

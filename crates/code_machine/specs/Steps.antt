@@ -1,5 +1,5 @@
 -- What the instructions do to a branch, the areas and the labels of a machine.
-use Rattle.std.specs.Prelude.{◌≡◌, ◌⊎◌, ℕ, suc, ◌*◌, ◌<◌, ◌≤◌, List, ◌∷◌, Option, Some, None}
+use Rattle.std.specs.Prelude.{◌≡◌, ◌⊎◌, ℕ, suc, ◌*◌, ◌<◌, ◌≤◌, List, ◌∷◌, Option, Some, None, false}
 use Rattle.fd_model.specs.Goal.{Program, Query, Event}
 use Rattle.branch_state.specs.States as branch
 use Rattle.branch_state.specs.States.{IsSameBelow, with_pair}
@@ -28,17 +28,12 @@ use Rattle.code_machine.specs.declared.run.Stage.{Stage}
 use Rattle.code_machine.specs.declared.run.Stage.TheVariants.{Going, Returning, Ended}
 use Rattle.code_machine.specs.Instructions.{IsOther}
 use Rattle.code_machine.specs.Labels.{lefts_by, AreLabels, whole_at, whole_back}
-use Rattle.code_machine.specs.States.{state_at, IsTask, most, IsInside, IsMachine, IsWalk}
+use Rattle.code_machine.specs.States.{state_at, state_of, IsTask, most, IsInside, IsMachine, IsQuiet, WalksOn}
 
 -- where an instruction leads
 abbrev pub stage_of : Went → Stage
 stage_of (On to) = Going to
 stage_of Back = Returning
-
--- nowhere else, where no instruction was taken
-abbrev pub stage_after : ℕ → Option Went → Stage
-stage_after at (Some w) = stage_of w
-stage_after at None = Going at
 
 -- and a goal
 abbrev pub stage_next : Next → Stage
@@ -141,8 +136,13 @@ pub record ComesBack (area : Area) (s : branch.State) (c : Contents) (ls : List 
 
 -- ---- walks
 
--- The instruction at a place was taken and said nothing; or it was not taken, since something may have to be said.
-pub record IsTaken (area : Area) (at : ℕ) (s : branch.State) (r : Run) (s' : branch.State) (r' : Run) (o : Option Went) : Type 0 where
-  pub machine : IsMachine (state_at area s' r' (stage_after at o))
+-- The instruction at a place was taken, said nothing, and leads on or back.
+pub record IsMoved (area : Area) (at : ℕ) (s : branch.State) (r : Run) (s' : branch.State) (r' : Run) (w : Went) : Type 0 where
+  pub machine : IsMachine (state_at area s' r' (stage_of w))
   pub same : r'.query ≡ r.query
-  pub walks : IsWalk (state_at area s r (Going at)) (state_at area s' r' (stage_after at o)) o
+  pub quiet : IsQuiet (state_at area s r (Going at)) (state_at area s' r' (stage_of w))
+
+-- So it was; or the run stands where something may have to be said.
+abbrev pub IsTaken : Area → ℕ → branch.State → Run → branch.State → Run → Option Went → Type 0
+IsTaken area at s r s' r' (Some w) = IsMoved area at s r s' r' w
+IsTaken area at s r s' r' None = WalksOn (state_at area s r (Going at)) (state_of area s' r' false) false

@@ -6,7 +6,8 @@ ghost use Rattle.branch_state.specs.States.{IsSameBelow};
 ghost use Rattle.wam_code.specs.Area.{Holds};
 ghost use Rattle.wam_code.specs.Standing.{StandsAt};
 ghost use Rattle.code_states.specs.Safety.{IsSafe};
-ghost use Rattle.code_goals.specs.Taking.{IsSafeNext, LeadsNext, Takes};
+ghost use Rattle.code_goals.specs.Builtins.{IsSilent};
+ghost use Rattle.code_goals.specs.Taking.{IsSafeNext, LeadsNext, SaysNothing, Takes};
 ghost use Rattle.code_machine.specs.Labels.{AreLabels};
 ghost use Rattle.code_machine.specs.Instructions.{IsCall, IsGoal, IsPost};
 ghost use Rattle.code_goals.specs.declared.next.Next.TheVariants as next;
@@ -17,12 +18,15 @@ use crate::run::Label;
 use branch_state::BranchState;
 use code_areas::Areas;
 use code_control::{call, cut_to, either, enter_test, execute, test_only};
-use code_goals::{Labelled, Next, take_best, take_builtin, take_constraint, take_label, take_post};
+use code_goals::{
+    Labelled, Next, take_best, take_builtin, take_constraint, take_label, take_post, take_silent,
+};
 use code_states::Went;
 use fd_language::NoMemory;
-use fd_model::kinds::Order;
+use fd_model::kinds::{BuiltinKind, Order};
 use propagate_queue::Agenda;
 use term_instructions::Scratch;
+use unify_core::Touch;
 use wam_code::{Code, CodeArea, Instr};
 
 /// Where a labelling leads that has tried a value.
@@ -137,6 +141,29 @@ pub(crate) fn take_call<A: Agenda + Drop>(
         Code::CutTo(n) => Ok(take_cut(code, at, n, branch, areas, labels)),
         _ => unreachable!(),
     }
+}
+
+/// Takes the built-in goal at a place as `take_goal` does, where it says nothing.
+#[inline(always)]
+pub(crate) fn take_quietly<A: Agenda + Drop>(
+    code: &CodeArea,
+    at: usize,
+    kind: BuiltinKind,
+    branch: &mut BranchState<A>,
+    areas: &Areas,
+    labels: &Vec<Label>,
+    touches: &mut Vec<Touch>,
+) -> Result<Next, NoMemory>
+    requires safe { IsSafe code.now branch.old at 0 areas.now }
+    requires labels { AreLabels code.now areas.now.points branch.old.heaps.below
+        (reverse labels.now.items) }
+    requires holds { Holds code.now at (step.Builtin kind) }
+    requires silent { IsSilent kind }
+    ensures spends { IfOk result (Spends code.now branch.old at areas.now (reverse labels.now.items)
+        branch.new areas.now (reverse labels.now.items)) }
+    ensures silent { IfOk result SaysNothing }
+{
+    take_silent(code, at, kind, branch, areas, touches)
 }
 
 /// Takes the goal at a place, whose arguments are in the first registers; `scratch` is lent. After a way back the current pair of the

@@ -27,17 +27,17 @@ use wam_code::{Code, CodeArea};
 pub(crate) fn take_term<A: Agenda + Drop>(
     code: &CodeArea,
     at: usize,
-    instruction: Code,
+    instruction: &Code,
     branch: &mut BranchState<A>,
     areas: &mut Areas,
     scratch: &mut Scratch,
 ) -> Result<Option<Went>, NoMemory>
     requires safe { IsSafe code.now branch.old at 0 areas.old }
-    requires holds { Holds code.now at instruction }
-    ensures { IfOk result (TakesTerm code.now at instruction branch.old areas.old branch.new
+    requires holds { Holds code.now at instruction.now }
+    ensures { IfOk result (TakesTerm code.now at instruction.now branch.old areas.old branch.new
         areas.new) }
 {
-    match instruction {
+    match *instruction {
         Code::GetVariable(r, a) => Ok(Some(get_variable(code, at, r, a, branch, areas)?)),
         Code::GetValue(r, a) => {
             Ok(Some(get_value(code, at, r, a, branch, areas, &mut scratch.touches)?))

@@ -211,7 +211,7 @@ fn step<A: Agenda + Drop>(
 {
     match run.stage {
         Stage::Going(at) => {
-            let instruction = code_at(code, at);
+            let instruction = *code_at(code, at);
             speak(code, at, instruction, branch, run)
         }
         Stage::Returning => Ok(Some(end(code, branch, run))),

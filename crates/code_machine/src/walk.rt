@@ -1,34 +1,38 @@
 //! Steps that say nothing.
 
 ghost use Rattle.std.specs.Prelude.{◌≡◌, ◌<◌, reverse, length, true, false, IfOk, OnOk};
+ghost use Rattle.wam_code.specs.declared.instruction.Code.TheVariants as step;
 ghost use Rattle.wam_code.specs.Area.{Holds};
 ghost use Rattle.code_states.specs.Safety.{IsSafeBack};
+ghost use Rattle.code_goals.specs.Builtins.{IsSilent};
 ghost use Rattle.code_machine.specs.declared.run.Stage.TheVariants as stage;
 ghost use Rattle.code_machine.specs.Labels.{AreLabels};
-ghost use Rattle.code_machine.specs.States.{state_at, state_of, IsMachine, IsQuiet, IsToSay, StillRuns, WalksOn};
+ghost use Rattle.code_machine.specs.States.{state_at, state_of, IsMachine, IsQuiet, IsToSay, MaySay, StillRuns, WalksOn};
 ghost use Rattle.code_machine.specs.Instructions.{IsCall, IsOther};
 ghost use Rattle.code_machine.specs.Steps.{stage_of, ComesBack, IsTaken};
 
-use crate::goals::take_call;
+use crate::goals::{take_call, take_quietly};
 use crate::labels::{keep_values, take_values};
 use crate::quiet::{take_choice, take_term};
-use crate::run::{Label, Run, Stage};
+use crate::run::{Ending, Label, Run, Stage};
 use branch_state::BranchState;
 use code_areas::Areas;
 use code_control::go_back;
-use code_goals::try_value;
+use code_goals::{Next, try_value};
 use code_states::Went;
 use fd_language::NoMemory;
+use fd_model::kinds::BuiltinKind;
 use propagate_queue::Agenda;
 use term_instructions::Scratch;
 use wam_code::{Code, CodeArea};
 
-/// The instruction at a place.
-pub(crate) fn code_at(code: &CodeArea, at: usize) -> Code
+/// The instruction at a place, where it lies.
+#[inline]
+pub(crate) fn code_at(code: &CodeArea, at: usize) -> &Code
     requires { at < length code.now.code }
-    ensures { Holds code.now at result }
+    ensures { Holds code.now at result.now }
 {
-    code.parts().code[at]
+    &code.parts().code[at]
 }
 
 /// The stage where an instruction leads.
@@ -39,6 +43,24 @@ fn stage_of(went: Went) -> Stage
         Went::On(to) => Stage::Going(to),
         Went::Back => Stage::Returning,
     }
+}
+
+/// Stays at a place whose instruction may say something.
+#[inline(always)]
+fn stay<A: Agenda + Drop>(
+    code: &CodeArea,
+    at: usize,
+    instruction: Code,
+    branch: &BranchState<A>,
+    run: &mut Run,
+) -> Option<Went>
+    requires machine { IsMachine (state_at code.now branch.now run.old (stage.Going at)) }
+    requires holds { Holds code.now at instruction }
+    requires says { MaySay run.old.budget instruction }
+    ensures { IsTaken code.now at branch.now run.old branch.now run.new result }
+{
+    run.stage = Stage::Going(at);
+    None
 }
 
 /// Takes a call, a disjunction, a test or a cut, if a reduction is left for it, and gives where it leads. The error is want of memory.
@@ -56,7 +78,7 @@ fn call_on<A: Agenda + Drop>(
     ensures { IfOk result (IsTaken code.now at branch.old run.old branch.new run.new) }
 {
     if run.budget == 0 {
-        return Ok(None);
+        return Ok(stay(code, at, instruction, branch, run));
     }
     run.budget -= 1;
     run.spent += 1;
@@ -71,36 +93,70 @@ fn call_on<A: Agenda + Drop>(
     Ok(Some(Went::On(to)))
 }
 
+/// Takes a built-in goal that says nothing, if a reduction is left for it, and gives where it leads; a fault ends the run. The error is want
+/// of memory.
+#[inline(always)]
+fn builtin_on<A: Agenda + Drop>(
+    code: &CodeArea,
+    at: usize,
+    kind: BuiltinKind,
+    branch: &mut BranchState<A>,
+    run: &mut Run,
+) -> Result<Option<Went>, NoMemory>
+    requires machine { IsMachine (state_at code.now branch.old run.old (stage.Going at)) }
+    requires holds { Holds code.now at (step.Builtin kind) }
+    requires silent { IsSilent kind }
+    ensures { IfOk result (IsTaken code.now at branch.old run.old branch.new run.new) }
+{
+    if run.budget == 0 {
+        return Ok(stay(code, at, Code::Builtin(kind), branch, run));
+    }
+    run.budget -= 1;
+    run.spent += 1;
+    let touches = &mut run.scratch.touches;
+    let next = take_quietly(code, at, kind, branch, &run.areas, &run.labels, touches)?;
+    match next {
+        Next::On(to) => Ok(Some(Went::On(to))),
+        Next::Back => Ok(Some(Went::Back)),
+        Next::Fault(fault) => {
+            run.stage = Stage::Ended(Ending::Fault(fault));
+            Ok(None)
+        }
+        Next::Write(_) | Next::Newline(_) => unreachable!(),
+    }
+}
+
 /// Takes an instruction that `take_term` doesn't take, unless it may say something, and gives where it leads. The error
 /// is want of memory.
 #[inline(always)]
 fn other_on<A: Agenda + Drop>(
     code: &CodeArea,
     at: usize,
-    instruction: Code,
+    instruction: &Code,
     branch: &mut BranchState<A>,
     run: &mut Run,
 ) -> Result<Option<Went>, NoMemory>
     requires machine { IsMachine (state_at code.now branch.old run.old (stage.Going at)) }
-    requires holds { Holds code.now at instruction }
-    requires other { IsOther instruction }
+    requires holds { Holds code.now at instruction.now }
+    requires other { IsOther instruction.now }
     ensures { IfOk result (IsTaken code.now at branch.old run.old branch.new run.new) }
 {
-    match instruction {
+    match *instruction {
         Code::Call(_)
         | Code::Execute(_)
         | Code::Either(_)
         | Code::TestOnly(_)
         | Code::EnterTest(_, _, _)
-        | Code::CutTo(_) => call_on(code, at, instruction, branch, run),
+        | Code::CutTo(_) => call_on(code, at, *instruction, branch, run),
         Code::AnswerNow
-        | Code::Builtin(_)
+        | Code::Builtin(BuiltinKind::Write | BuiltinKind::Nl)
         | Code::Constrain(_)
         | Code::Label(_)
         | Code::Best(_, _)
-        | Code::PostRange(_, _) => Ok(None),
+        | Code::PostRange(_, _) => Ok(stay(code, at, *instruction, branch, run)),
+        Code::Builtin(kind) => builtin_on(code, at, kind, branch, run),
         _ => {
-            let went = take_choice(code, at, instruction, branch, &mut run.areas)?;
+            let went = take_choice(code, at, *instruction, branch, &mut run.areas)?;
             Ok(Some(went))
         }
     }
@@ -151,10 +207,7 @@ fn walk_from<A: Agenda + Drop>(
                 run.stage = Stage::Returning;
                 return Ok(true);
             }
-            None => {
-                run.stage = Stage::Going(at);
-                return Ok(false);
-            }
+            None => return Ok(false),
         }
     }
 }

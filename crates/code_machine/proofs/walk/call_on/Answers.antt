@@ -16,5 +16,5 @@ returns g c =
     record {
       machine = spends_machine c.args.code.now r.query c.args.branch.now r.areas ls (Going c.args.at) r.budget r.limit r.spent m c.args.at refl n.branch n.areas (Going to) c.if-run-eq0.false ls' (On to) spends tt refl;
       same = refl;
-      walks = spends_step c.args.code.now r.query c.args.branch.now r.areas ls (Going c.args.at) r.budget r.limit r.spent m c.args.at refl n.branch n.areas (Going to) c.if-run-eq0.false ls' (On to) spends tt refl None refl;
+      quiet = spends_step c.args.code.now r.query c.args.branch.now r.areas ls (Going c.args.at) r.budget r.limit r.spent m c.args.at refl n.branch n.areas (Going to) c.if-run-eq0.false ls' (On to) spends tt refl None refl;
     }

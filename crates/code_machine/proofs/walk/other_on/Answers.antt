@@ -10,5 +10,5 @@ returns-in_ok-went-in_default g c =
     record {
       machine = moved_machine c.args.code.now r.query c.args.branch.now n.branch r.areas n.areas ls r.budget r.limit r.spent c.args.at c.in_ok-went-in_default.went c.in_ok-went-in_default.ensures c.requires.machine;
       same = refl;
-      walks = moved_quiet c.args.code.now r.query c.args.branch.now n.branch r.areas n.areas ls r.budget r.limit r.spent c.args.at c.in_ok-went-in_default.went c.in_ok-went-in_default.ensures c.requires.machine;
+      quiet = moved_quiet c.args.code.now r.query c.args.branch.now n.branch r.areas n.areas ls r.budget r.limit r.spent c.args.at c.in_ok-went-in_default.went c.in_ok-went-in_default.ensures c.requires.machine;
     }
