@@ -1,0 +1,3 @@
+mod Joining
+mod SlotNodes
+pub mod Lemmas

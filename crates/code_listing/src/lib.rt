@@ -1,0 +1,16 @@
+//! The listing of code: a text that has all of it, with the state of each place.
+#![tactic(auto)]
+
+mod instruction;
+mod listed;
+mod names;
+mod numbers;
+mod slots;
+mod states;
+mod words;
+mod write;
+
+pub use crate::listed::Listed;
+pub use crate::names::{builtin_arity, constraint_arity};
+pub use crate::states::{PlaceState, Slot};
+pub use crate::write::write_listing;
