@@ -1,0 +1,4 @@
+pub mod Handing
+pub mod Leading
+pub mod Failing
+pub mod Laws
