@@ -1,0 +1,9 @@
+mod Telling
+mod Owning
+mod Stepping
+mod Crossing
+mod Reaching
+mod Beginning
+mod Placing
+mod Faults
+mod Alls
