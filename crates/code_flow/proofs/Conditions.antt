@@ -2,11 +2,11 @@
 use Rattle.std.proofs.Common.{◌≡◌, ℕ, List, [], length, get_or, slice_get, Some, min, refl, subst, inl, inr, arith, All}
 use Rattle.std.proofs.lemmas.Option.{slice_get_within, get_or_from_slice_get, slice_get-get_or}
 use Rattle.wam_code.specs.declared.instruction.Code.{Code}
-use Rattle.wam_code.specs.declared.instruction.Code.TheVariants.{TryMeElse, RetryMeElse, SwitchOnConstant, SwitchOnInteger, SwitchOnStructure}
+use Rattle.wam_code.specs.declared.instruction.Code.TheVariants.{AnswerNow, TryMeElse, RetryMeElse, SwitchOnConstant, SwitchOnInteger, SwitchOnStructure}
 use Rattle.wam_code.specs.Area.{State, Area, Holds}
 use Rattle.wam_code.specs.VerifiedCode.{NamesOther, IsAtom, IsKey, IsThere, IsVerifiedBy}
 use Rattle.code_listing.specs.Listing.{table_of}
-use Rattle.code_flow.specs.Failing.{FitsAt}
+use Rattle.code_flow.specs.Failing.{FitsAt, IsLast}
 
 module _ {A : Type 0} (P : A → Type 0) (xs : List A) where
   pub all_get : (n : ℕ) (x : A) → All P xs → slice_get xs n ≡ Some x → P x
@@ -50,9 +50,12 @@ verified_fits a ss v at = record {
   };
   entries = λ n e h g. record { begins = v.entries n e h; name = all_get (λ x. IsAtom a x.name) a.entries n e v.predicate_names h };
   queries = λ n q h g. record { begins = v.firsts n q h; span = v.queries n q h; apart = λ m p r k x y. v.apart n m p q r h k x y; names = all_get (λ x. All (λ c. IsAtom a c) x.names) a.queries n q v.query_names h };
-  answers = v.answers at;
+  answers = answers;
   tables = λ e. v.keys;
 }
+  where
+    answers : Holds a at AnswerNow → IsLast a at
+    answers h = let g = v.answers at h in (g.0, g.1, g.2, (omega (arith, (v.queries g.0 g.1 g.2).some, g.3), omega (arith, g.3)), g.3)
 
 pub fits_verified : (a : Area) (ss : List State) → ((at : ℕ) → FitsAt a ss at) → IsVerifiedBy a ss
 fits_verified a ss f = record {
@@ -64,7 +67,7 @@ fits_verified a ss f = record {
   firsts = λ n q h. ((f q.at).queries n q h refl).begins;
   queries = λ n q h. ((f q.at).queries n q h refl).span;
   apart = λ n m at p q h g x y. ((f p.at).queries n p h refl).apart m at q g x y;
-  answers = λ at h. (f at).answers h;
+  answers = λ at h. let g = (f at).answers h in (g.0, g.1, g.2, g.4);
   choices = record {
     others = λ at to n. let w = other_names a at to n in ((f at).instruction w.0 w.1).others to n;
     named_once = λ to. (f to).before.named_once;

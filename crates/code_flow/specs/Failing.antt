@@ -44,7 +44,7 @@ pub record FitsQuery (a : Area) (ss : List State) (n : ℕ) (q : Span) : Type 0 
 
 -- the last place of a query
 abbrev pub IsLast : Area → ℕ → Type 0
-IsLast a at = (n : ℕ) × (q : Span) × HasQuery a n q × (suc at ≡ q.end)
+IsLast a at = (n : ℕ) × (q : Span) × HasQuery a n q × IsIn q at × (suc at ≡ q.end)
 
 -- ---- all conditions, each at its place
 

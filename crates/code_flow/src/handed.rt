@@ -226,7 +226,7 @@ fn copy_slots(alloc: Global, state: &PlaceState) -> Result<Option<Vec<Slot>>, No
     }
 }
 
-/// The registers in a set.
+/// The numbers in a set.
 pub fn set_of(alloc: Global, numbers: &[usize]) -> Result<IndexSet<usize>, NoMemory>
     ensures { IfOk result (λ s. (n : ℕ) → has s.keys n ≡ has numbers.now n) }
 {
@@ -253,7 +253,7 @@ fn registers_once(alloc: Global, state: &PlaceState) -> Result<Vec<usize>, NoMem
     each_once(alloc, &state.regs)
 }
 
-/// The registers of each state, each of them once.
+/// The registers of each state, in whatever order.
 pub fn registers_of(alloc: Global, states: &[PlaceState]) -> Result<Vec<Vec<usize>>, NoMemory>
     ensures { IfOk result (λ v. AreRegisters states.now v.items) }
 {
@@ -291,6 +291,7 @@ fn are_same_slots(one: &[Slot], two: &[Slot]) -> bool
     true
 }
 
+/// Whether two slots are the same.
 fn is_same_slot(one: Slot, two: Slot) -> bool
     ensures { IsTrue result ↔ (slot_of one ≡ slot_of two) }
 {
@@ -358,7 +359,7 @@ impl Handed {
         self.mark(two)
     }
 
-    /// So many slots that are unset.
+    /// The frame becomes one of so many slots, all unset.
     fn open(&mut self, alloc: Global, count: usize) -> Result<(), NoMemory>
         ensures { OnOk result (self.new
             ≡ record self.old { frame = Some (replicate count area.Unset) }) }

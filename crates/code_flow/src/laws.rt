@@ -1,4 +1,4 @@
-//! The laws of listings, each the contract of a function that does nothing.
+//! The law of places, as the contract of a function that does nothing.
 
 ghost use Rattle.code_flow.specs.Laws.{PlacesDecide};
 

@@ -1,4 +1,5 @@
--- The listing of code: a text that has all of it, with the state of each place.
+-- The listing of code: a text that has all of it but the pool's terms, its first three atoms and
+-- the variables of ranges, with the state of each place.
 use Rattle.std.specs.Prelude.{◌≡◌, ℕ, List, [], ◌∷◌, ◌++◌, map, drop, length, slice_index_or, codes, decimal}
 use Rattle.fd_language.specs.Term.{Name}
 use Rattle.fd_language.specs.Writing.{Quoted, atom_text}

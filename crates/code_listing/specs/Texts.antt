@@ -23,7 +23,7 @@ separator_at (suc i) sep = sep
 
 -- ---- ranges
 
--- a node that names no variable, and one that names one, with its number
+-- a name with a number behind it
 abbrev pub numbered : List ℕ → ℕ → List ℕ
 numbered name n = name ++ (codes " " ++ decimal n)
 

@@ -1,4 +1,5 @@
-//! The listing of code: a text that has all of it, with the state of each place.
+//! The listing of code: a text that has all of it but the pool's terms, its first three atoms and
+//! the variables of ranges, with the state of each place.
 #![tactic(auto)]
 
 mod instruction;

@@ -35,7 +35,7 @@ impl Model for Listed {
 
 impl Listed {
     /// The code with these states, by which it is verified.
-    pub(crate) fn from_verified(area: CodeArea, states: Vec<PlaceState>) -> Listed
+    pub fn from_verified(area: CodeArea, states: Vec<PlaceState>) -> Listed
         requires verified { IsVerifiedBy area (states_of states.items) }
         requires tables { HasOrderedTables area }
         ensures { result ≡ record { area = area; states = states_of states.items } }

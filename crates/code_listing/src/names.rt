@@ -10,6 +10,7 @@ use fd_model::kinds::{BuiltinKind, ConstraintKind, Order, Relation};
 use std::alloc::Global;
 use term_writer::write_atom;
 
+/// The name of a relation.
 fn relation_name(relation: Relation) -> &'static str
     ensures { result.now ≡ names.relation_name relation }
 {
@@ -23,6 +24,7 @@ fn relation_name(relation: Relation) -> &'static str
     }
 }
 
+/// The name of a kind of constraint.
 fn constraint_name(kind: ConstraintKind) -> &'static str
     ensures { result.now ≡ names.constraint_name kind }
 {
@@ -54,6 +56,7 @@ pub fn constraint_arity(kind: ConstraintKind) -> usize
     }
 }
 
+/// The name of a kind of built-in goal.
 fn builtin_name(kind: BuiltinKind) -> &'static str
     ensures { result.now ≡ names.builtin_name kind }
 {
@@ -140,7 +143,7 @@ pub(crate) fn order_word(order: Order) -> &'static [u8]
     }
 }
 
-/// Whether the least cost is wanted, or the greatest.
+/// The word of the cost that is wanted: the least, or the greatest.
 pub(crate) fn aim_word(least: bool) -> &'static [u8]
     ensures { result.now ≡ names.aim_word least }
 {

@@ -1,12 +1,13 @@
 -- How places are reached.
-use Rattle.std.proofs.Common.{◌≡◌, ◌≢◌, ◌⊎◌, ◌↔◌, ℕ, zero, suc, ◌+◌, ◌<◌, ◌≤◌, Bool, true, false, ◌||◌, not, nat_eq, IsTrue, List, [], ◌∷◌, ◌++◌, map, set, length, slice_get, Option, Some, None, refl, sym, ap, ◌∙◌, subst, inl, inr, arith}
-use Rattle.std.proofs.lemmas.Bool.{cases_Bool, cases_eq, or_cases, or_left, or_right, eqb-true, eq-eqb}
+use Rattle.std.proofs.Common.{◌≡◌, ◌≢◌, ◌⊎◌, ◌↔◌, ℕ, zero, suc, ◌+◌, ◌<◌, ◌≤◌, Bool, true, false, ◌||◌, not, nat_eq, nat_lt, cond, IsTrue, List, [], ◌∷◌, ◌++◌, map, filter, set, length, slice_get, Option, Some, None, refl, sym, ap, ◌∙◌, subst, inl, inr, arith}
+use Rattle.std.proofs.lemmas.Bool.{cases_Bool, cases_eq, or_cases, or_left, or_right, eqb-true, eq-eqb, ltb-true, lt-ltb}
 use Rattle.std.proofs.lemmas.List.{get_or-set_same, get_or-set_other}
 use Rattle.std.proofs.lemmas.Option.{slice_get_within}
 use Rattle.fd_language.specs.Family.{has}
 use Rattle.wam_code.specs.declared.instruction.Code.{Code}
 use Rattle.wam_code.specs.declared.instruction.Code.TheVariants.{TryMeElse, RetryMeElse}
-use Rattle.wam_code.specs.Area.{Area, Holds}
+use Rattle.wam_code.specs.declared.parts.QueryEntry.{QueryEntry}
+use Rattle.wam_code.specs.Area.{Span, Area, Holds, span_of}
 use Rattle.wam_code.specs.VerifiedCode.{named, Names, NamesOther, IsNoStart}
 use Rattle.code_text.specs.declared.reach.Namers.{Namers}
 use Rattle.code_text.specs.declared.reach.Namers.TheVariants.{Nobody, One, More}
@@ -38,6 +39,28 @@ map_back f (y ∷ ys) p (suc n) x e z = or_right (nat_eq (f y) p) (has (map f ys
 
 pub has_map : {A : Type 0} (f : A → ℕ) (xs : List A) (p : ℕ) → IsTrue (has (map f xs) p) ↔ ((n : ℕ) × (x : A) × (slice_get xs n ≡ Some x) × (f x ≡ p))
 has_map f xs p = (map_there f xs p, λ (n, x, e, z). map_back f xs p n x e z)
+
+-- ---- those that pass a test
+
+filter_there : {A : Type 0} (p : A → Bool) (xs : List A) (n : ℕ) (x : A) → slice_get (filter p xs) n ≡ Some x → (m : ℕ) × (slice_get xs m ≡ Some x) × (p x ≡ true)
+filter_there p [] n x e = absurd (let g : None ≡ Some x = e in cc (g))
+filter_there {A} p (y ∷ ys) n x e = go (λ k. filter_there p ys k x) (p y) refl n e
+  where
+    go : ((k : ℕ) → slice_get (filter p ys) k ≡ Some x → (m : ℕ) × (slice_get ys m ≡ Some x) × (p x ≡ true)) → (b : Bool) → p y ≡ b → (n : ℕ) → slice_get (cond b (y ∷ filter p ys) (filter p ys)) n ≡ Some x → (m : ℕ) × (slice_get (y ∷ ys) m ≡ Some x) × (p x ≡ true)
+    go rest true t zero e = let z : y ≡ x = cc (e) in (0, e, ap p (sym z) ∙ t)
+    go rest true t (suc n) e = let r = rest n e in (suc r.0, r.1, r.2)
+    go rest false t n e = let r = rest n e in (suc r.0, r.1, r.2)
+
+filter_back : {A : Type 0} (p : A → Bool) (xs : List A) (n : ℕ) (x : A) → slice_get xs n ≡ Some x → p x ≡ true → (m : ℕ) × (slice_get (filter p xs) m ≡ Some x)
+filter_back p [] n x e t = absurd (let g : None ≡ Some x = e in cc (g))
+filter_back p (y ∷ ys) zero x e t =
+    let z : y ≡ x = cc (e) in
+    subst (λ b. (m : ℕ) × (slice_get (cond b (y ∷ filter p ys) (filter p ys)) m ≡ Some x)) (sym (ap p z ∙ t)) (0, e)
+filter_back p (y ∷ ys) (suc n) x e t = go (p y) (filter_back p ys n x e t)
+  where
+    go : (b : Bool) → (m : ℕ) × (slice_get (filter p ys) m ≡ Some x) → (m : ℕ) × (slice_get (cond b (y ∷ filter p ys) (filter p ys)) m ≡ Some x)
+    go true r = (suc r.0, r.1)
+    go false r = r
 
 -- ---- the other part of a choice
 
@@ -190,9 +213,23 @@ module _ (a : Area) where
       back (inl x) = is ∙ or_left (has es p) (has qs p) ((has_map (λ e. e.at) a.entries p).1 x)
       back (inr x) = is ∙ or_right (has es p) (has qs p) ((has_map (λ q. q.at) a.queries p).1 x)
 
-  pub lasts_are : (keys : List ℕ) → ((p : ℕ) → has keys p ≡ has (map (λ q. q.end) a.queries) p) → (p : ℕ) → IsTrue (has keys (suc p)) ↔ IsLast a p
-  lasts_are keys e p =
-      (λ t. (let g = (has_map (λ q. q.end) a.queries (suc p)).0 (sym (e (suc p)) ∙ t) in (g.0, g.1, g.2, sym g.3)), λ (n, q, h, z). e (suc p) ∙ (has_map (λ q. q.end) a.queries (suc p)).1 (n, q, h, sym z))
+  pub lasts_are : (keys : List ℕ) → ((p : ℕ) → has keys p ≡ has (map (λ q. q.end) (filter (λ q. nat_lt q.at q.end) a.queries)) p) → (p : ℕ) → IsTrue (has keys (suc p)) ↔ IsLast a p
+  lasts_are keys e p = (there, back)
+    where
+      filled : List Span
+      filled = filter (λ q. nat_lt q.at q.end) a.queries
+
+      there : has keys (suc p) ≡ true → IsLast a p
+      there t =
+          let g = (has_map (λ q. q.end) filled (suc p)).0 (sym (e (suc p)) ∙ t) in
+          let r = filter_there (λ q. nat_lt q.at q.end) a.queries g.0 g.1 g.2 in
+          let low : g.1.at < g.1.end = ltb-true g.1.at g.1.end r.2 in
+          (r.0, g.1, r.1, (omega (arith, low, g.3), omega (arith, g.3)), sym g.3)
+
+      back : IsLast a p → has keys (suc p) ≡ true
+      back (n, q, h, i, z) =
+          let r = filter_back (λ q. nat_lt q.at q.end) a.queries n q h (lt-ltb q.at q.end (omega (arith, i.0, i.1))) in
+          e (suc p) ∙ (has_map (λ q. q.end) filled (suc p)).1 (r.0, q, r.1, sym z)
 
   pub start_or_not : (p : ℕ) → ¬ IsStart a p → IsNoStart a p
   start_or_not p never = record { entries = λ n e h z. never (inl (n, e, h, z)); queries = λ n q h z. never (inr (n, q, h, z)) }
@@ -200,6 +237,16 @@ module _ (a : Area) where
   pub not_start : (p : ℕ) → IsNoStart a p → ¬ IsStart a p
   not_start p never (inl (n, e, h, z)) = never.entries n e h z
   not_start p never (inr (n, q, h, z)) = never.queries n q h z
+
+-- the ends of queries that aren't empty, as they are kept and as they are seen
+pub ends_are : (qs : List QueryEntry) → map (λ q. q.end) (filter (λ q. nat_lt q.at q.end) qs) ≡ map (λ q. q.end) (filter (λ q. nat_lt q.at q.end) (map span_of qs))
+ends_are [] = refl
+ends_are (q ∷ qs) = go (ends_are qs) (nat_lt q.at q.end)
+  where
+    go : map (λ (x : QueryEntry). x.end) (filter (λ x. nat_lt x.at x.end) qs) ≡ map (λ (x : Span). x.end) (filter (λ x. nat_lt x.at x.end) (map span_of qs)) → (b : Bool) → map (λ (x : QueryEntry). x.end) (cond b (q ∷ filter (λ x. nat_lt x.at x.end) qs) (filter (λ x. nat_lt x.at x.end) qs))
+        ≡ map (λ (x : Span). x.end) (cond b (span_of q ∷ filter (λ x. nat_lt x.at x.end) (map span_of qs)) (filter (λ x. nat_lt x.at x.end) (map span_of qs)))
+    go rest true = ap (λ l. q.end ∷ l) rest
+    go rest false = rest
 
 -- the same numbers
 pub same_set : (keys ns : List ℕ) (p : ℕ) (P : Type 0) → has keys p ≡ has ns p → (IsTrue (has ns p) ↔ P) → IsTrue (has keys p) ↔ P

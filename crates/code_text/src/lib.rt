@@ -11,3 +11,4 @@ mod there;
 mod verifying;
 
 pub use crate::verifying::{VerifyFault, verify};
+pub use code_listing::{Listed, PlaceState, Slot, write_listing};

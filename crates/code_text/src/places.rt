@@ -24,6 +24,7 @@ use fd_language::NoMemory;
 use std::alloc::Global;
 use wam_code::{Code, CodeParts};
 
+/// Whether the instruction is RetryMeElse or TrustMe.
 fn is_other(code: Code) -> bool
     ensures { result ≡ verified.is_other code }
 {
@@ -34,6 +35,7 @@ fn is_other(code: Code) -> bool
     }
 }
 
+/// Whether the instruction is Try or Retry.
 fn is_before(code: Code) -> bool
     ensures { result ≡ verified.is_before code }
 {
@@ -44,6 +46,7 @@ fn is_before(code: Code) -> bool
     }
 }
 
+/// Whether the instruction is Retry or Trust.
 fn is_behind(code: Code) -> bool
     ensures { result ≡ verified.is_behind code }
 {
@@ -299,7 +302,7 @@ pub(crate) fn is_answer(code: Code) -> bool
     }
 }
 
-/// Whether a query ends behind the place.
+/// Whether the place is the last one of a query.
 fn is_last(parts: &CodeParts, reach: &Reach, at: usize) -> bool
     requires within { at < length (area_of parts.now).code }
     requires reach { IsReach (area_of parts.now) reach.now }
@@ -308,7 +311,7 @@ fn is_last(parts: &CodeParts, reach: &Reach, at: usize) -> bool
     reach.ends.contains(&(at + 1))
 }
 
-/// Whether a query ends behind the place, where it answers.
+/// Whether the place is the last one of a query, where it answers.
 fn fits_answer(parts: &CodeParts, reach: &Reach, at: usize) -> bool
     requires within { at < length (area_of parts.now).code }
     requires reach { IsReach (area_of parts.now) reach.now }

@@ -1,6 +1,6 @@
 //! How places are reached.
 
-ghost use Rattle.std.specs.Prelude.{◌≡◌, ◌+◌, ◌<◌, ◌↔◌, ◌++◌, ℕ, length, map, replicate, IsTrue, IfOk, OnOk};
+ghost use Rattle.std.specs.Prelude.{◌≡◌, ◌+◌, ◌<◌, ◌↔◌, ◌++◌, ℕ, nat_lt, length, filter, map, replicate, IsTrue, IfOk, OnOk};
 ghost use Rattle.fd_language.specs.Family.{has};
 ghost use Rattle.wam_code.specs.Area.{area_of};
 ghost use Rattle.code_text.specs.Reached as reached;
@@ -29,7 +29,7 @@ pub(crate) struct Reach {
     pub plain: IndexSet<usize>,
     /// The places where predicates and queries begin.
     pub starts: IndexSet<usize>,
-    /// The places behind queries.
+    /// The places behind queries that aren't empty.
     pub ends: IndexSet<usize>,
 }
 
@@ -134,11 +134,19 @@ fn query_places(alloc: Global, parts: &CodeParts) -> Result<Vec<usize>, NoMemory
     Ok(parts.queries.iter().map(|query| query.at).collect(alloc)?)
 }
 
-/// The places behind queries.
+/// The places behind queries that aren't empty.
 fn query_ends(alloc: Global, parts: &CodeParts) -> Result<Vec<usize>, NoMemory>
-    ensures { IfOk result (λ v. v.items ≡ map (λ q. q.end) parts.now.queries.items) }
+    ensures { IfOk result (λ v. v.items
+        ≡ map (λ q. q.end) (filter (λ q. nat_lt q.at q.end) parts.now.queries.items)) }
 {
-    Ok(parts.queries.iter().map(|query| query.end).collect(alloc)?)
+    Ok(
+        parts
+            .queries
+            .iter()
+            .filter(|query| query.at < query.end)
+            .map(|query| query.end)
+            .collect(alloc)?,
+    )
 }
 
 /// The places where predicates and queries begin.
