@@ -3,10 +3,10 @@ use Rattle.std.proofs.Common.{◌≡◌, ℕ, List, [], length, get_or, slice_ge
 use Rattle.std.proofs.lemmas.Option.{slice_get_within, get_or_from_slice_get, slice_get-get_or}
 use Rattle.wam_code.specs.declared.instruction.Code.{Code}
 use Rattle.wam_code.specs.declared.instruction.Code.TheVariants.{AnswerNow, TryMeElse, RetryMeElse, SwitchOnConstant, SwitchOnInteger, SwitchOnStructure}
-use Rattle.wam_code.specs.Area.{State, Area, Holds}
-use Rattle.wam_code.specs.VerifiedCode.{NamesOther, IsAtom, IsKey, IsThere, IsVerifiedBy}
+use Rattle.wam_code.specs.Area.{State, Span, Area, Holds}
+use Rattle.wam_code.specs.VerifiedCode.{NamesOther, IsAtom, IsKey, IsThere, IsQuery, IsVerifiedBy}
 use Rattle.code_listing.specs.Listing.{table_of}
-use Rattle.code_flow.specs.Failing.{FitsAt, IsLast}
+use Rattle.code_flow.specs.Failing.{FitsAt, IsSpan, IsLastOf, IsLast, ShowsAt}
 
 module _ {A : Type 0} (P : A → Type 0) (xs : List A) where
   pub all_get : (n : ℕ) (x : A) → All P xs → slice_get xs n ≡ Some x → P x
@@ -26,6 +26,34 @@ keys_of a i f h = λ k d l. absurd (omega (arith, l))
 other_names : (a : Area) (at to : ℕ) → NamesOther a at to → (i : Code) × Holds a at i
 other_names a at to (inl h) = (TryMeElse to, h)
 other_names a at to (inr h) = (RetryMeElse to, h)
+
+-- a query's code, with what its answer shows and without
+span_of_query : (a : Area) (ss : List State) (q : Span) → IsQuery a ss q → IsSpan a q
+span_of_query a ss q w = record {
+  some = w.some;
+  within = w.within;
+  last = w.last;
+  no_proceed = w.no_proceed;
+  no_execute = w.no_execute;
+  no_entry = w.no_entry;
+  stays = w.stays;
+  not_named = w.not_named;
+  not_fallen = w.not_fallen;
+}
+
+query_of_span : (a : Area) (ss : List State) (q : Span) → IsSpan a q → ((at : ℕ) → Holds a at AnswerNow → IsLastOf q at → ShowsAt ss at (length q.names)) → IsQuery a ss q
+query_of_span a ss q w f = record {
+  some = w.some;
+  within = w.within;
+  last = w.last;
+  shown = λ at s e g. f at (w.last at e) ((omega (arith, w.some, e), omega (arith, e)), e) s g;
+  no_proceed = w.no_proceed;
+  no_execute = w.no_execute;
+  no_entry = w.no_entry;
+  stays = w.stays;
+  not_named = w.not_named;
+  not_fallen = w.not_fallen;
+}
 
 pub verified_fits : (a : Area) (ss : List State) → IsVerifiedBy a ss → (at : ℕ) → FitsAt a ss at
 verified_fits a ss v at = record {
@@ -49,13 +77,14 @@ verified_fits a ss v at = record {
     no_start_behind = v.choices.no_start_behind at;
   };
   entries = λ n e h g. record { begins = v.entries n e h; name = all_get (λ x. IsAtom a x.name) a.entries n e v.predicate_names h };
-  queries = λ n q h g. record { begins = v.firsts n q h; span = v.queries n q h; apart = λ m p r k x y. v.apart n m p q r h k x y; names = all_get (λ x. All (λ c. IsAtom a c) x.names) a.queries n q v.query_names h };
+  queries = λ n q h g. record { begins = v.firsts n q h; span = span_of_query a ss q (v.queries n q h); apart = λ m p r k x y. v.apart n m p q r h k x y; names = all_get (λ x. All (λ c. IsAtom a c) x.names) a.queries n q v.query_names h };
   answers = answers;
+  shown = λ n q h hq l s g. (v.queries n q hq).shown at s l.1 g;
   tables = λ e. v.keys;
 }
   where
     answers : Holds a at AnswerNow → IsLast a at
-    answers h = let g = v.answers at h in (g.0, g.1, g.2, (omega (arith, (v.queries g.0 g.1 g.2).some, g.3), omega (arith, g.3)), g.3)
+    answers h = let g = v.answers at h in (g.0, g.1, g.2, ((omega (arith, (v.queries g.0 g.1 g.2).some, g.3), omega (arith, g.3)), g.3))
 
 pub fits_verified : (a : Area) (ss : List State) → ((at : ℕ) → FitsAt a ss at) → IsVerifiedBy a ss
 fits_verified a ss f = record {
@@ -65,9 +94,9 @@ fits_verified a ss f = record {
   next = λ at to n. ((f at).instruction n.0 n.1).next to n;
   entries = λ n e h. ((f e.at).entries n e h refl).begins;
   firsts = λ n q h. ((f q.at).queries n q h refl).begins;
-  queries = λ n q h. ((f q.at).queries n q h refl).span;
+  queries = λ n q h. query_of_span a ss q ((f q.at).queries n q h refl).span (λ at x l. (f at).shown n q x h l);
   apart = λ n m at p q h g x y. ((f p.at).queries n p h refl).apart m at q g x y;
-  answers = λ at h. let g = (f at).answers h in (g.0, g.1, g.2, g.4);
+  answers = λ at h. let g = (f at).answers h in (g.0, g.1, g.2, g.3.1);
   choices = record {
     others = λ at to n. let w = other_names a at to n in ((f at).instruction w.0 w.1).others to n;
     named_once = λ to. (f to).before.named_once;

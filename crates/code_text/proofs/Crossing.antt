@@ -6,9 +6,9 @@ use Rattle.wam_code.specs.declared.instruction.Code.{Code}
 use Rattle.wam_code.specs.declared.instruction.Code.TheVariants.{AnswerNow, Proceed, Execute}
 use Rattle.wam_code.specs.declared.parts.Entry.{Entry}
 use Rattle.wam_code.specs.Area.{State, Span, Area, Holds, HasQuery, HasEntry}
-use Rattle.wam_code.specs.VerifiedCode.{Names, Falls, IsIn, IsQuery, HoldsOne, goes_on}
+use Rattle.wam_code.specs.VerifiedCode.{Names, Falls, IsIn, HoldsOne, goes_on}
 use Rattle.code_text.specs.Alone.{FitsAlone}
-use Rattle.code_flow.specs.Failing.{FitsAt, FitsQuery}
+use Rattle.code_flow.specs.Failing.{FitsAt, IsSpan, FitsQuery}
 use Rattle.code_text.specs.Told.{IsTold}
 use Rattle.code_text.specs.Owners.{owner_at, AreOwners, IsCrossing, IsOwnersPlace, IsOwnerTold, IsCrossed, leaves, AreCrossings}
 use Rattle.code_text.proofs.Owning.{one_query}
@@ -41,7 +41,7 @@ module _ (a : Area) (own : List (Option ℕ)) (told : Option ℕ) (o : AreOwners
     pub leaving_fails : (at : ℕ) → HoldsOne a leaves at → IsOwnersPlace a (owner_at own at) p → ⊥
     leaving_fails at (i, h, t) (n, q, s, hq, e) = go i h t
       where
-        span : IsQuery a ss q
+        span : IsSpan a q
         span = (fits_query n q hq e).span
 
         go : (i : Code) → Holds a at i → leaves i ≡ true → ⊥
@@ -157,7 +157,6 @@ module _ (a : Area) (own : List (Option ℕ)) (told : Option ℕ) (o : AreOwners
         some = alone.some;
         within = alone.within;
         last = alone.last;
-        shown = alone.shown;
         no_proceed = λ at i h. never ((steps at (low at i)).leaving (Proceed, h, refl) n q (own_it at i) hq);
         no_execute = λ at e i h. never ((steps at (low at i)).leaving (Execute e, h, refl) n q (own_it at i) hq);
         no_entry = λ k e he i. never (entries k e he n q (own_it e.at i) hq);

@@ -1,11 +1,12 @@
 -- What is told of code that isn't verified.
-use Rattle.std.proofs.Common.{◌≡◌, ◌⊎◌, ℕ, ◌<◌, ◌≤◌, List, length, min, Option, Some, None, refl, sym, ◌∙◌, subst, inl, inr, arith}
+use Rattle.std.proofs.Common.{◌≡◌, ◌⊎◌, ℕ, ◌<◌, ◌≤◌, suc, ◌-◌, List, length, min, Option, Some, None, refl, sym, ◌∙◌, subst, inl, inr, arith}
 use Rattle.std.proofs.lemmas.Bool.{cases_lt}
 use Rattle.std.specs.Prelude.{MatchOption}
+use Rattle.wam_code.specs.declared.instruction.Code.TheVariants.{AnswerNow}
 use Rattle.wam_code.specs.declared.parts.Entry.{Entry}
-use Rattle.wam_code.specs.Area.{State, Span, Area, HasEntry, HasQuery}
-use Rattle.code_text.specs.Alone.{AreAloneTold, FitsAlone}
-use Rattle.code_flow.specs.Failing.{FitsAt, FitsEntry, FitsQuery, IsFirstFailing}
+use Rattle.wam_code.specs.Area.{State, Span, Area, Holds, HasEntry, HasQuery}
+use Rattle.code_text.specs.Alone.{AreAloneTold, FitsAlone, IsAnswerTold, AreAnswersTold}
+use Rattle.code_flow.specs.Failing.{FitsAt, FitsEntry, FitsQuery, IsLastOf, ShowsAt, IsFirstFailing}
 use Rattle.code_text.specs.Owners.{owner_at, AreOwners, IsOwnerTold, IsOwnersPlace, AreCrossings}
 use Rattle.code_text.specs.Places.{FitsPlace, IsEntryTold, AreSpansTold, HasAllKeys}
 use Rattle.code_text.specs.Told.{IsTold, IsFault, Tells, TellsFaults}
@@ -21,13 +22,16 @@ pub place_of : (a : Area) (ss : List State) (at : ℕ) → FitsAt a ss at → Fi
 place_of a ss at f = record { instruction = f.instruction; before = f.before; answers = f.answers }
 
 pub alone_of : (a : Area) (ss : List State) (n : ℕ) (q : Span) → FitsQuery a ss n q → FitsAlone a ss q
-alone_of a ss n q f = record { some = f.span.some; within = f.span.within; last = f.span.last; shown = f.span.shown; begins = f.begins; names = f.names }
+alone_of a ss n q f = record { some = f.span.some; within = f.span.within; last = f.span.last; begins = f.begins; names = f.names }
 
 -- ---- what stays told
 
 pub fits_kept : (A : Type 0) (old new : Option ℕ) (p : ℕ) → ((p : ℕ) → IsTold old p → IsTold new p) → A ⊎ IsTold old p → A ⊎ IsTold new p
 fits_kept A old new p kept (inl x) = inl x
 fits_kept A old new p kept (inr t) = inr (kept p t)
+
+pub answer_kept : (a : Area) (ss : List State) (old new : Option ℕ) (q : Span) → ((p : ℕ) → IsTold old p → IsTold new p) → IsAnswerTold a ss old q → IsAnswerTold a ss new q
+answer_kept a ss old new q kept f at x l = fits_kept (ShowsAt ss at (length q.names)) old new at kept (f at x l)
 
 pub entry_kept : (a : Area) (ss : List State) (own : List (Option ℕ)) (old new : Option ℕ) (n : ℕ) → ((p : ℕ) → IsTold old p → IsTold new p) → IsEntryTold a ss own old n → IsEntryTold a ss own new n
 entry_kept a ss own old new n kept f e h = let g = f e h in (fits_kept (FitsEntry a ss e) old new e.at kept g.0, λ m q x y. kept q.at (g.1 m q x y))
@@ -57,6 +61,18 @@ module _ (a : Area) (ss : List State) where
     pub alone_fault : (old new : Option ℕ) → ¬ FitsAlone a ss q → Tells (λ p. p ≡ q.at) old new → TellsFaults a ss old new
     alone_fault old new miss t = faults_by a ss (λ p. p ≡ q.at) old new t (λ p e never f. miss (alone_of a ss n q (f.queries n q h (sym e))))
 
+    pub answer_fault : (old new : Option ℕ) → q.at < q.end → Holds a (q.end - 1) AnswerNow → ¬ ShowsAt ss (q.end - 1) (length q.names) → Tells (λ p. p ≡ q.end - 1) old new → TellsFaults a ss old new
+    answer_fault old new some x miss t = faults_by a ss (λ p. p ≡ q.end - 1) old new t fails
+      where
+        fails : (p : ℕ) → p ≡ q.end - 1 → ¬ IsTold old p → ¬ FitsAt a ss p
+        fails p e never f =
+            let here : Holds a p AnswerNow = subst (λ k. Holds a k AnswerNow) (sym e) x in
+            let last : IsLastOf q p = ((omega (arith, e, some), omega (arith, e, some)), omega (arith, e, some)) in
+            miss (subst (λ k. ShowsAt ss k (length q.names)) e (f.shown n q here h last))
+
+    pub answer_found : (told : Option ℕ) → IsAnswerTold a ss told q → (r : Span) → HasQuery a n r → IsAnswerTold a ss told r
+    answer_found told x r g = subst (λ (y : Span). IsAnswerTold a ss told y) (one_query a n q r h g) x
+
     pub alone_found : (told : Option ℕ) → FitsAlone a ss q ⊎ IsTold told q.at → (r : Span) → HasQuery a n r → FitsAlone a ss r ⊎ IsTold told r.at
     alone_found told x r g = subst (λ (y : Span). FitsAlone a ss y ⊎ IsTold told y.at) (one_query a n q r h g) x
 
@@ -77,8 +93,8 @@ module _ (a : Area) (ss : List State) where
 
 module _ (a : Area) (ss : List State) (own : List (Option ℕ)) (told entered crossed new : Option ℕ) where
   pub spans_told : AreOwners a (length a.code) told own → ((p : ℕ) → IsTold told p → IsTold new p) → ((n : ℕ) → n < length a.entries → IsEntryTold a ss own entered n) → ((p : ℕ) → IsTold entered p → IsTold new p)
-      → ((at : ℕ) → at < length a.code → AreCrossings a own crossed at) → ((p : ℕ) → IsTold crossed p → IsTold new p) → AreAloneTold a ss new → ((n : ℕ) (e : Entry) → HasEntry a n e → n < length a.entries) → AreSpansTold a ss new
-  spans_told o first es second cs third alone low = record { entries = λ n e h. (es_new n e h).0; queries = queries }
+      → ((at : ℕ) → at < length a.code → AreCrossings a own crossed at) → ((p : ℕ) → IsTold crossed p → IsTold new p) → AreAloneTold a ss new → AreAnswersTold a ss new → ((n : ℕ) (e : Entry) → HasEntry a n e → n < length a.entries) → AreSpansTold a ss new
+  spans_told o first es second cs third alone answers low = record { entries = λ n e h. (es_new n e h).0; queries = queries; answers = answers }
     where
       es_new : (n : ℕ) → IsEntryTold a ss own new n
       es_new n e h = entry_kept a ss own entered new n second (es n (low n e h)) e h
@@ -95,7 +111,7 @@ module _ (a : Area) (ss : List State) (own : List (Option ℕ)) (told entered cr
           go (inr never) (inl f) = inl (query_fits a own new (owners_kept a (length a.code) told new own first o) ss cs_new (λ k e x. (es_new k e x).1) n q h never f)
 
 pub spans_kept : (a : Area) (ss : List State) (old new : Option ℕ) → ((p : ℕ) → IsTold old p → IsTold new p) → AreSpansTold a ss old → AreSpansTold a ss new
-spans_kept a ss old new kept s = record { entries = λ n e h. fits_kept (FitsEntry a ss e) old new e.at kept (s.entries n e h); queries = λ n q h. fits_kept (FitsQuery a ss n q) old new q.at kept (s.queries n q h) }
+spans_kept a ss old new kept s = record { entries = λ n e h. fits_kept (FitsEntry a ss e) old new e.at kept (s.entries n e h); queries = λ n q h. fits_kept (FitsQuery a ss n q) old new q.at kept (s.queries n q h); answers = λ n q h. answer_kept a ss old new q kept (s.answers n q h) }
 
 -- ---- all places
 
@@ -121,6 +137,7 @@ module _ (a : Area) (ss : List State) (told : Option ℕ) (lengths : (length ss 
       entries = λ n e h z. not_told (FitsEntry a ss e) e.at z (spans.entries n e h);
       queries = λ n q h z. not_told (FitsQuery a ss n q) q.at z (spans.queries n q h);
       answers = place.answers;
+      shown = λ n q x h l. not_told (ShowsAt ss at (length q.names)) at refl (spans.answers n q h at x l);
       tables = λ e. not_told (HasAllKeys a) (length a.code) (sym e) tables;
     }
 

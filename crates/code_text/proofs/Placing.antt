@@ -1,5 +1,5 @@
 -- The conditions of places.
-use Rattle.std.proofs.Common.{◌≡◌, ◌⊎◌, ◌↔◌, ℕ, zero, suc, ◌+◌, ◌-◌, ◌<◌, ◌≤◌, Bool, true, false, ◌&&◌, not, IsTrue, List, map, length, get_or, Some, None, option_map, refl, sym, ap, ◌∙◌, subst, inl, inr, arith, All}
+use Rattle.std.proofs.Common.{◌≡◌, ◌⊎◌, ◌↔◌, ℕ, zero, suc, ◌+◌, ◌-◌, ◌<◌, ◌≤◌, Bool, true, false, ◌&&◌, not, IsTrue, List, map, length, get_or, Option, Some, None, option_map, refl, sym, ap, ◌∙◌, subst, inl, inr, arith, All}
 use Rattle.std.proofs.lemmas.Bool.{and_parts, and_from, cases_Bool}
 use Rattle.std.proofs.lemmas.List.{length-map, get_or-map}
 use Rattle.std.proofs.lemmas.Option.{slice_get-map, slice_get_read, slice_get_within}
@@ -17,8 +17,9 @@ use Rattle.code_text.specs.declared.reach.Reach.{Reach}
 use Rattle.code_listing.specs.declared.states.PlaceState.{PlaceState}
 use Rattle.code_listing.specs.Listing.{table_of}
 use Rattle.code_listing.specs.States.{state_of, states_of}
-use Rattle.code_flow.specs.Failing.{FitsInstruction, FitsBefore, IsLast}
-use Rattle.code_text.specs.Alone.{AreShown, AreCells, AnswersWith, FitsAlone}
+use Rattle.code_flow.specs.Failing.{FitsInstruction, FitsBefore, IsLast, AreShown, ShowsAt}
+use Rattle.code_text.specs.Alone.{AreCells, FitsAlone, IsAnswerTold}
+use Rattle.code_text.specs.Told.{IsTold}
 use Rattle.code_text.specs.Places.{FitsPlace, LiesAhead, HasChoices, FitsOther, FitsBehind}
 use Rattle.code_text.specs.Reached.{IsReach, IsNamedPlainly, AreNamers, namers_at, other_of}
 use Rattle.code_text.proofs.Reaching.{names_cases, other_is_named, other_names, other_from, start_or_not}
@@ -275,27 +276,38 @@ module _ (a : Area) (ss : List State) (q : Span) (some : q.at < q.end) where
   answers_at : (at : ℕ) → suc at ≡ q.end → at ≡ q.end - 1
   answers_at at e = omega (arith, e)
 
-  pub alone_is : q.end ≤ length a.code → AnswersWith a ss (q.end - 1) (length q.names) → BeginsWith ss q.at 0 → All (λ c. IsAtom a c) q.names → FitsAlone a ss q
+  pub alone_is : q.end ≤ length a.code → Holds a (q.end - 1) AnswerNow → BeginsWith ss q.at 0 → All (λ c. IsAtom a c) q.names → FitsAlone a ss q
   alone_is within x begins names = record {
     some = some;
     within = within;
-    last = λ at e. subst (λ k. Holds a k AnswerNow) (sym (answers_at at e)) x.holds;
-    shown = λ at s e h. x.shown s (subst (λ k. HasState ss k s) (answers_at at e) h);
+    last = λ at e. subst (λ k. Holds a k AnswerNow) (sym (answers_at at e)) x;
     begins = begins;
     names = names;
   }
 
-  pub alone_answers : FitsAlone a ss q → AnswersWith a ss (q.end - 1) (length q.names)
-  alone_answers f =
-      let e : suc (q.end - 1) ≡ q.end = omega (arith, some) in
-      record { holds = f.last (q.end - 1) e; shown = λ s h. f.shown (q.end - 1) s e h }
+  pub alone_answers : FitsAlone a ss q → Holds a (q.end - 1) AnswerNow
+  alone_answers f = f.last (q.end - 1) (omega (arith, some))
 
-module _ (a : Area) (ss : List PlaceState) (at count : ℕ) (i : Code) (h : Holds a at i) where
-  pub answers_past : i ≡ AnswerNow → length ss ≤ at → IsTrue true ↔ AnswersWith a (states_of ss) at count
-  answers_past e l = (λ t. record { holds = subst (Holds a at) e h; shown = λ s g. absurd (let w = slice_get_within (states_of ss) at s g in let z : ⊥ = omega (arith, l, w, length-map ss state_of) in z) }, λ x. refl)
+  -- ---- what is told of its answer
 
-  pub answers_from : i ≡ AnswerNow → (p : PlaceState) → at < length ss → p ≡ get_or ss at p → (b : Bool) → (IsTrue b ↔ AreShown count (state_of p)) → IsTrue b ↔ AnswersWith a (states_of ss) at count
-  answers_from e p low is b f = (λ t. record { holds = subst (Holds a at) e h; shown = λ s g. subst (AreShown count) (same s g) (f.0 t) }, λ x. f.1 (x.shown (state_of p) there))
+  pub answer_missing : (told : Option ℕ) → ¬ Holds a (q.end - 1) AnswerNow → IsAnswerTold a ss told q
+  answer_missing told never at x l = absurd (never (subst (λ k. Holds a k AnswerNow) (answers_at at l.1) x))
+
+  pub answer_shown : (told : Option ℕ) → ShowsAt ss (q.end - 1) (length q.names) → IsAnswerTold a ss told q
+  answer_shown told f at x l = inl (subst (λ k. ShowsAt ss k (length q.names)) (sym (answers_at at l.1)) f)
+
+  pub answer_told : (told : Option ℕ) → IsTold told (q.end - 1) → IsAnswerTold a ss told q
+  answer_told told t at x l = inr (subst (IsTold told) (sym (answers_at at l.1)) t)
+
+pub answer_nowhere : (a : Area) (ss : List State) (q : Span) (told : Option ℕ) → q.end ≤ q.at → IsAnswerTold a ss told q
+answer_nowhere a ss q told h at x l = absurd (let z : ⊥ = omega (arith, h, l.0.0, l.0.1) in z)
+
+module _ (ss : List PlaceState) (at count : ℕ) where
+  pub shows_past : length ss ≤ at → IsTrue true ↔ ShowsAt (states_of ss) at count
+  shows_past l = (λ t s g. absurd (let w = slice_get_within (states_of ss) at s g in let z : ⊥ = omega (arith, l, w, length-map ss state_of) in z), λ x. refl)
+
+  pub shows_from : (p : PlaceState) → at < length ss → p ≡ get_or ss at p → (b : Bool) → (IsTrue b ↔ AreShown count (state_of p)) → IsTrue b ↔ ShowsAt (states_of ss) at count
+  shows_from p low is b f = (λ t s g. subst (AreShown count) (same s g) (f.0 t), λ x. f.1 (x (state_of p) there))
     where
       there : HasState (states_of ss) at (state_of p)
       there = slice_get-map state_of ss at ∙ ap (option_map state_of) (slice_get_read ss (length ss) at p refl low is)
@@ -303,8 +315,12 @@ module _ (a : Area) (ss : List PlaceState) (at count : ℕ) (i : Code) (h : Hold
       same : (s : State) → HasState (states_of ss) at s → state_of p ≡ s
       same s g = let z : Some (state_of p) ≡ Some s = sym there ∙ g in cc (z)
 
-pub no_answer : (a : Area) (ss : List State) (at count : ℕ) (i : Code) → Holds a at i → ¬ (i ≡ AnswerNow) → ¬ AnswersWith a ss at count
-no_answer a ss at count i h never x = never (let e : Some i ≡ Some AnswerNow = sym h ∙ x.holds in cc (e))
+-- the instruction of a place is an answer
+pub answers_is : (a : Area) (at : ℕ) (i : Code) (b : Bool) → Holds a at i → (IsTrue b ↔ (i ≡ AnswerNow)) → IsTrue b ↔ Holds a at AnswerNow
+answers_is a at i b h f = (λ t. subst (Holds a at) (f.0 t) h, λ x. f.1 (let e : Some i ≡ Some AnswerNow = sym h ∙ x in cc (e)))
+
+pub answers_past : (a : Area) (at : ℕ) → length a.code ≤ at → ¬ Holds a at AnswerNow
+answers_past a at l h = omega (arith, l, slice_get_within a.code at AnswerNow h)
 
 -- a test of two numbers
 pub test_is : (b : Bool) (P Q : Type 0) → (IsTrue b ↔ P) → (P ↔ Q) → IsTrue b ↔ Q

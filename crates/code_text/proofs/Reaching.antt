@@ -224,10 +224,10 @@ module _ (a : Area) where
           let g = (has_map (λ q. q.end) filled (suc p)).0 (sym (e (suc p)) ∙ t) in
           let r = filter_there (λ q. nat_lt q.at q.end) a.queries g.0 g.1 g.2 in
           let low : g.1.at < g.1.end = ltb-true g.1.at g.1.end r.2 in
-          (r.0, g.1, r.1, (omega (arith, low, g.3), omega (arith, g.3)), sym g.3)
+          (r.0, g.1, r.1, ((omega (arith, low, g.3), omega (arith, g.3)), sym g.3))
 
       back : IsLast a p → has keys (suc p) ≡ true
-      back (n, q, h, i, z) =
+      back (n, q, h, (i, z)) =
           let r = filter_back (λ q. nat_lt q.at q.end) a.queries n q h (lt-ltb q.at q.end (omega (arith, i.0, i.1))) in
           e (suc p) ∙ (has_map (λ q. q.end) filled (suc p)).1 (r.0, q, r.1, sym z)
 

@@ -2,35 +2,34 @@
 use Rattle.std.specs.Prelude.{◌≡◌, ◌⊎◌, ℕ, suc, ◌<◌, ◌≤◌, ◌^◌, IsTrue, List, length, slice_get, slice_index_or, Option, None, MatchOption, All}
 use Rattle.wam_code.specs.declared.instruction.Code.TheVariants.{AnswerNow}
 use Rattle.wam_code.specs.Area.{Slot, State, Span, Area, Holds, HasState, HasQuery}
-use Rattle.wam_code.specs.Effect.{slot_at, is_cell}
+use Rattle.wam_code.specs.Effect.{is_cell}
 use Rattle.wam_code.specs.VerifiedCode.{IsFirst, BeginsWith, IsAtom}
+use Rattle.code_flow.specs.Failing.{IsLastOf, ShowsAt}
 use Rattle.code_text.specs.Told.{IsTold}
-
--- what the slots of a state must be where an answer shows so many
-abbrev pub AreShown : ℕ → State → Type 0
-AreShown count s = (n : ℕ) → 1 ≤ n → n ≤ count → IsTrue (is_cell (slot_at s.frame n))
 
 -- so many slots are cells, from the first on
 abbrev pub AreCells : ℕ → List Slot → Type 0
 AreCells count ss = (n : ℕ) → n < count → IsTrue (is_cell (slice_get ss n))
 
--- The place answers, and may show so many slots.
-pub record AnswersWith (a : Area) (ss : List State) (at count : ℕ) : Type 0 where
-  pub holds : Holds a at AnswerNow
-  pub shown : (s : State) → HasState ss at s → AreShown count s
-
--- The query begins with no register, ends with its answer, and its names are there.
+-- The query begins with no register, ends with an answer, and its names are there.
 pub record FitsAlone (a : Area) (ss : List State) (q : Span) : Type 0 where
   pub some : q.at < q.end
   pub within : q.end ≤ length a.code
   pub last : (at : ℕ) → suc at ≡ q.end → Holds a at AnswerNow
-  pub shown : (at : ℕ) (s : State) → suc at ≡ q.end → HasState ss at s → AreShown (length q.names) s
   pub begins : BeginsWith ss q.at 0
   pub names : All (λ c. IsAtom a c) q.names
 
 -- of each query that isn't told
 abbrev pub AreAloneTold : Area → List State → Option ℕ → Type 0
 AreAloneTold a ss told = (n : ℕ) (q : Span) → HasQuery a n q → FitsAlone a ss q ⊎ IsTold told q.at
+
+-- the answer of the query may show its names, or it is told
+abbrev pub IsAnswerTold : Area → List State → Option ℕ → Span → Type 0
+IsAnswerTold a ss told q = (at : ℕ) → Holds a at AnswerNow → IsLastOf q at → ShowsAt ss at (length q.names) ⊎ IsTold told at
+
+-- of each query
+abbrev pub AreAnswersTold : Area → List State → Option ℕ → Type 0
+AreAnswersTold a ss told = (n : ℕ) (q : Span) → HasQuery a n q → IsAnswerTold a ss told q
 
 -- the number of argument registers that a predicate has whose code may begin with the state
 abbrev pub IsFirstCount : State → Option ℕ → Type 0

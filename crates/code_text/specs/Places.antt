@@ -7,6 +7,7 @@ use Rattle.wam_code.specs.Area.{State, Span, Area, Holds, HasEntry, HasQuery}
 use Rattle.wam_code.specs.VerifiedCode.{Names, Falls, is_other, NamesOther, is_before, is_behind, HoldsOne, IsNoStart, IsKey}
 use Rattle.code_flow.specs.Failing.{FitsInstruction, FitsBefore, FitsEntry, FitsQuery, IsLast}
 use Rattle.code_text.specs.Told.{IsTold}
+use Rattle.code_text.specs.Alone.{AreAnswersTold}
 use Rattle.code_text.specs.Owners.{owner_at, IsOwnerTold}
 
 -- all that belongs to a place of the code
@@ -29,10 +30,11 @@ pub record HasChoices (a : Area) (at : ℕ) : Type 0 where
 abbrev pub IsEntryTold : Area → List State → List (Option ℕ) → Option ℕ → ℕ → Type 0
 IsEntryTold a ss own told n = (e : Entry) → HasEntry a n e → (FitsEntry a ss e ⊎ IsTold told e.at) × IsOwnerTold a (owner_at own e.at) told
 
--- Each predicate and each query meets its conditions, or is told.
+-- Each predicate, each query and each query's answer meets its conditions, or is told.
 pub record AreSpansTold (a : Area) (ss : List State) (told : Option ℕ) : Type 0 where
   pub entries : (n : ℕ) (e : Entry) → HasEntry a n e → FitsEntry a ss e ⊎ IsTold told e.at
   pub queries : (n : ℕ) (q : Span) → HasQuery a n q → FitsQuery a ss n q ⊎ IsTold told q.at
+  pub answers : AreAnswersTold a ss told
 
 -- the keys of all tables are there
 abbrev pub HasAllKeys : Area → Type 0

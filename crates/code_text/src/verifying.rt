@@ -1,11 +1,12 @@
 //! Whether code is verified by the states of its places.
 
 ghost use Rattle.std.specs.Prelude.{◌≡◌, ◌⊎◌, ◌↔◌, ◌<◌, ◌≤◌, ◌-◌, ℕ, List, length, map, min, slice_get, IsTrue, IfOk, IfErr, OnOk, MatchOption};
-ghost use Rattle.wam_code.specs.Area.{State, Span, HasQuery, area_of, span_of};
+ghost use Rattle.wam_code.specs.declared.instruction.Code.TheVariants.{AnswerNow};
+ghost use Rattle.wam_code.specs.Area.{State, Span, Holds, HasQuery, area_of, span_of};
 ghost use Rattle.wam_code.specs.Effect.{is_cell};
 ghost use Rattle.wam_code.specs.VerifiedCode.{IsVerifiedBy};
-ghost use Rattle.code_text.specs.Alone.{AnswersWith, AreAloneTold, AreCells, AreFirstCounts, AreShown, FitsAlone};
-ghost use Rattle.code_flow.specs.Failing.{FitsAt, FitsEntry, IsFirstFailing};
+ghost use Rattle.code_text.specs.Alone.{AreAloneTold, AreAnswersTold, AreCells, AreFirstCounts, FitsAlone, IsAnswerTold};
+ghost use Rattle.code_flow.specs.Failing.{AreShown, FitsAt, FitsEntry, IsFirstFailing, ShowsAt};
 ghost use Rattle.code_text.specs.Owners.{AreOwners};
 ghost use Rattle.code_text.specs.Places.{AreSpansTold, HasAllKeys, IsEntryTold};
 ghost use Rattle.code_listing.specs.States.{slot_of, state_of, states_of};
@@ -157,29 +158,24 @@ fn are_shown(state: &PlaceState, count: usize) -> bool
     }
 }
 
-/// Whether a place answers, and may show so many slots.
-fn answers(parts: &CodeParts, states: &[PlaceState], at: usize, count: usize) -> bool
-    requires { at < length (area_of parts.now).code }
-    ensures { IsTrue result
-        ↔ AnswersWith (area_of parts.now) (states_of states.now) at count }
+/// Whether a place may show so many slots.
+fn shows_at(states: &[PlaceState], at: usize, count: usize) -> bool
+    ensures { IsTrue result ↔ ShowsAt (states_of states.now) at count }
 {
-    if !is_answer(parts.code[at]) {
-        return false;
-    }
     if at >= states.len() {
         return true;
     }
     are_shown(&states[at], count)
 }
 
-/// Whether the last place of a query answers, and may show the query's names.
-fn ends_with_answer(parts: &CodeParts, states: &[PlaceState], query: &QueryEntry) -> bool
-    requires some { query.now.at < query.now.end }
-    requires within { query.now.end ≤ length (area_of parts.now).code }
-    ensures { let q = span_of query.now in IsTrue result
-        ↔ AnswersWith (area_of parts.now) (states_of states.now) (q.end - 1) (length q.names) }
+/// Whether a place answers.
+fn answers(parts: &CodeParts, at: usize) -> bool
+    ensures { IsTrue result ↔ Holds (area_of parts.now) at AnswerNow }
 {
-    answers(parts, states, query.end - 1, query.names.len())
+    if at >= parts.code.len() {
+        return false;
+    }
+    is_answer(parts.code[at])
 }
 
 /// Whether the conditions on a query that look at no other code hold.
@@ -199,7 +195,7 @@ fn fits_alone(
     if query.end > parts.code.len() {
         return false;
     }
-    if !ends_with_answer(parts, states, query) {
+    if !answers(parts, query.end - 1) {
         return false;
     }
     if !begins(states, counts, query.at, 0) {
@@ -249,6 +245,50 @@ fn tell_queries(
     }
 }
 
+/// Tells the answer of a query, where it may not show the query's names.
+fn tell_shown(parts: &CodeParts, states: &[PlaceState], query: &QueryEntry, first: &mut First)
+    ensures found { IsAnswerTold (area_of parts.now) (states_of states.now) first.new.place
+        (span_of query.now) }
+    ensures tells { (number : ℕ) → HasQuery (area_of parts.now) number (span_of query.now)
+        → TellsFaults (area_of parts.now) (states_of states.now)
+        first.old.place first.new.place }
+{
+    if query.at >= query.end {
+        return;
+    }
+    let last = query.end - 1;
+    if !answers(parts, last) {
+        return;
+    }
+    if !shows_at(states, last, query.names.len()) {
+        first.tell(last);
+    }
+}
+
+/// Tells the answer of the query with this number, where it may not show the query's names.
+fn tell_answer(parts: &CodeParts, states: &[PlaceState], number: usize, first: &mut First)
+    ensures found { (q : Span) → HasQuery (area_of parts.now) number q
+        → IsAnswerTold (area_of parts.now) (states_of states.now) first.new.place q }
+    ensures tells { TellsFaults (area_of parts.now) (states_of states.now)
+        first.old.place first.new.place }
+{
+    match query_at(parts, number) {
+        None => {}
+        Some(query) => tell_shown(parts, states, query, first),
+    }
+}
+
+/// Tells the answers that may not show their queries' names.
+fn tell_answers(parts: &CodeParts, states: &[PlaceState], first: &mut First)
+    ensures found { AreAnswersTold (area_of parts.now) (states_of states.now) first.new.place }
+    ensures tells { TellsFaults (area_of parts.now) (states_of states.now)
+        first.old.place first.new.place }
+{
+    for number in 0..parts.queries.len() {
+        tell_answer(parts, states, number, first);
+    }
+}
+
 /// Whether the keys of all tables are there.
 fn has_all_keys(parts: &CodeParts) -> bool
     ensures { IsTrue result ↔ HasAllKeys (area_of parts.now) }
@@ -290,6 +330,7 @@ fn tell_spans(
     let owners = owners_of(alloc, parts, &begins, first)?;
     tell_entries(parts, states, &counts, &owners, first);
     tell_all_crossings(alloc, parts, &owners, first)?;
+    tell_answers(parts, states, first);
     tell_queries(parts, states, &counts, first);
     Ok(())
 }

@@ -2,7 +2,8 @@ use Rattle.std.proofs.Common.{◌≡◌, ◌↔◌, List, IsTrue, map, option_ma
 use Rattle.std.proofs.lemmas.Bool.{eqb-true, eq-eqb}
 use Rattle.code_listing.specs.declared.states.Slot.{Slot}
 use Rattle.code_listing.specs.States.{slot_of, state_of}
-use Rattle.code_text.specs.Alone.{AreCells, AreShown}
+use Rattle.code_flow.specs.Failing.{AreShown}
+use Rattle.code_text.specs.Alone.{AreCells}
 use Rattle.code_text.proofs.Placing.{shown_none, shown_some, test_is}
 use Rattle.code_text.proofs.verifying.are_shown.Goals as goal
 
