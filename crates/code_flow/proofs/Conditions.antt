@@ -1,11 +1,13 @@
 -- Verified code is code of which each place meets the conditions that belong to it.
-use Rattle.std.proofs.Common.{◌≡◌, ℕ, List, [], length, get_or, slice_get, Some, min, refl, subst, inl, inr, arith, All}
+use Rattle.std.proofs.Common.{◌≡◌, ℕ, suc, ◌<◌, IsTrue, List, [], length, get_or, slice_get, Some, min, refl, sym, ◌∙◌, subst, inl, inr, arith, All}
 use Rattle.std.proofs.lemmas.Option.{slice_get_within, get_or_from_slice_get, slice_get-get_or}
 use Rattle.wam_code.specs.declared.instruction.Code.{Code}
 use Rattle.wam_code.specs.declared.instruction.Code.TheVariants.{AnswerNow, TryMeElse, RetryMeElse, SwitchOnConstant, SwitchOnInteger, SwitchOnStructure}
-use Rattle.wam_code.specs.Area.{State, Span, Area, Holds}
-use Rattle.wam_code.specs.VerifiedCode.{NamesOther, IsAtom, IsKey, IsThere, IsQuery, IsVerifiedBy}
+use Rattle.wam_code.specs.Area.{State, Span, Area, Holds, HasState}
+use Rattle.wam_code.specs.VerifiedCode.{named, goes_on, Covers, HandedTo, Leads, NamesOther, IsAtom, IsKey, IsThere, IsQuery, IsVerifiedBy}
 use Rattle.code_listing.specs.Listing.{table_of}
+use Rattle.fd_language.specs.Family.{has}
+use Rattle.code_flow.specs.Leading.{CoversAt, LeadsOn}
 use Rattle.code_flow.specs.Failing.{FitsAt, IsSpan, IsLastOf, IsLast, ShowsAt}
 
 module _ {A : Type 0} (P : A → Type 0) (xs : List A) where
@@ -55,11 +57,24 @@ query_of_span a ss q w f = record {
   not_fallen = w.not_fallen;
 }
 
+-- what covers the states of the places that it leads to, where each place has a state and where it may have none
+leads_weaker : (a : Area) (ss : List State) (at : ℕ) (i : Code) (s : State) → Leads a ss at i s → LeadsOn a ss at i s
+leads_weaker a ss at i s l = (l.0, l.1, (λ to n. covers to (l.2 to n)), λ g. covers (suc at) (l.3 g))
+  where
+    covers : (to : ℕ) → HandedTo ss l.0 to → CoversAt ss l.0 to
+    covers to h x k = let e : Some h.0 ≡ Some x = sym h.1 ∙ k in let is : h.0 ≡ x = cc (e) in subst (Covers l.0) is h.2
+
+leads_stronger : (a : Area) (ss : List State) (at : ℕ) (i : Code) (s : State) → ((to : ℕ) → IsTrue (has (named a i) to) → to < length ss) → (IsTrue (goes_on i) → suc at < length ss) → LeadsOn a ss at i s → Leads a ss at i s
+leads_stronger a ss at i s low next l = (l.0, l.1, (λ to n. handed to (low to n) (l.2 to n)), λ g. handed (suc at) (next g) (l.3 g))
+  where
+    handed : (to : ℕ) → to < length ss → CoversAt ss l.0 to → HandedTo ss l.0 to
+    handed to h f = let k = slice_get-get_or ss to s h in (get_or ss to s, k, f (get_or ss to s) k)
+
 pub verified_fits : (a : Area) (ss : List State) → IsVerifiedBy a ss → (at : ℕ) → FitsAt a ss at
 verified_fits a ss v at = record {
   states = λ e. v.states;
   instruction = λ i h. record {
-    leads = λ s g. v.leads at i s h g;
+    leads = λ s g. leads_weaker a ss at i s (v.leads at i s h g);
     ahead = v.ahead at;
     next = v.next at;
     there = v.there at i h;
@@ -89,7 +104,10 @@ verified_fits a ss v at = record {
 pub fits_verified : (a : Area) (ss : List State) → ((at : ℕ) → FitsAt a ss at) → IsVerifiedBy a ss
 fits_verified a ss f = record {
   states = (f (min (length ss) (length a.code))).states refl;
-  leads = λ at i s h g. ((f at).instruction i h).leads s g;
+  leads = λ at i s h g.
+      let own = (f at).instruction i h in
+      let size : length ss ≡ length a.code = (f (min (length ss) (length a.code))).states refl in
+      leads_stronger a ss at i s (λ to n. (let k = own.ahead to (i, h, n) in let l : to < length ss = omega (arith, k.1, size) in l)) (λ n. (let k = own.next (suc at) (i, h, n, refl) in let l : suc at < length ss = omega (arith, k, size) in l)) (own.leads s g);
   ahead = λ at to n. ((f at).instruction n.0 n.1).ahead to n;
   next = λ at to n. ((f at).instruction n.0 n.1).next to n;
   entries = λ n e h. ((f e.at).entries n e h refl).begins;

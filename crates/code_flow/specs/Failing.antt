@@ -5,14 +5,15 @@ use Rattle.wam_code.specs.declared.instruction.Code.TheVariants.{Execute, Procee
 use Rattle.wam_code.specs.declared.parts.Entry.{Entry}
 use Rattle.wam_code.specs.Area.{State, Span, Area, Holds, HasState, HasEntry, HasQuery}
 use Rattle.wam_code.specs.Effect.{slot_at, is_cell}
-use Rattle.wam_code.specs.VerifiedCode.{Names, Falls, Leads, BeginsWith, IsIn, is_other, NamesOther, is_before, is_behind, HoldsOne, IsNoStart, IsAtom, IsKey, IsThere}
+use Rattle.wam_code.specs.VerifiedCode.{Names, Falls, BeginsWith, IsIn, is_other, NamesOther, is_before, is_behind, HoldsOne, IsNoStart, IsAtom, IsKey, IsThere}
 use Rattle.code_listing.specs.Listing.{table_of}
+use Rattle.code_flow.specs.Leading.{LeadsOn}
 
 -- ---- a place's own instruction
 
--- The instruction finds what it needs, leads ahead into the code, and names only what is there.
+-- The instruction finds what it needs, leads ahead into the code, and names only what is there. That a place has a state belongs to all places together.
 pub record FitsInstruction (a : Area) (ss : List State) (at : ℕ) (i : Code) : Type 0 where
-  pub leads : (s : State) → HasState ss at s → Leads a ss at i s
+  pub leads : (s : State) → HasState ss at s → LeadsOn a ss at i s
   pub ahead : (to : ℕ) → Names a at to → (at < to) × (to < length a.code)
   pub next : (to : ℕ) → Falls a at to → to < length a.code
   pub there : IsThere a i

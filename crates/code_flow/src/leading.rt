@@ -1,13 +1,14 @@
 //! Where instructions lead.
 
-ghost use Rattle.std.specs.Prelude.{◌≡◌, ◌↔◌, ◌<◌, ◌++◌, ℕ, suc, [], ◌∷◌, Some, length, replicate, slice_index_or, IsTrue, IfOk, OnOk, MatchOption};
+ghost use Rattle.std.specs.Prelude.{◌≡◌, ◌↔◌, ◌<◌, ◌≤◌, ◌+◌, ◌++◌, ℕ, suc, [], ◌∷◌, Some, length, replicate, slice_index_or, IsTrue, IfOk, OnOk, MatchOption};
 ghost use Rattle.fd_language.specs.Family.{has};
 ghost use Rattle.wam_code.specs.declared.instruction.Code.{Code as AnyCode};
+ghost use Rattle.wam_code.specs.declared.instruction.Code.TheVariants.{Allocate};
 ghost use Rattle.wam_code.specs.Area.{State, Unset, Holds, HasState, area_of};
 ghost use Rattle.wam_code.specs.VerifiedCode as verified;
-ghost use Rattle.wam_code.specs.VerifiedCode.{HandedTo, Leads, arms};
-ghost use Rattle.code_flow.specs.Handing.{changed};
-ghost use Rattle.code_flow.specs.Leading.{direct, AreRegisters, HandsOn, IsHandedOn};
+ghost use Rattle.wam_code.specs.VerifiedCode.{arms};
+ghost use Rattle.code_flow.specs.Handing.{changed, needs as its_needs};
+ghost use Rattle.code_flow.specs.Leading.{direct, AreRegisters, CoversAt, HandsOn, IsHandedOn, LeadsOn};
 ghost use Rattle.code_listing.specs.Listing as listing;
 ghost use Rattle.code_listing.specs.States.{state_of, states_of};
 
@@ -134,13 +135,13 @@ pub fn goes_on(code: Code) -> bool
     }
 }
 
-/// Whether the next place has no frame of so many slots.
+/// Whether the next place has a state, and no frame of so many slots.
 fn lacks_room(states: &[PlaceState], at: usize, count: usize) -> bool
     ensures { IsTrue result → (t : State) → t.frame ≡ Some (replicate count Unset)
-        → ¬ HandedTo (states_of states.now) t (suc at) }
+        → ¬ CoversAt (states_of states.now) t (suc at) }
 {
     if at >= states.len() || at + 1 >= states.len() {
-        return true;
+        return false;
     }
     match &states[at + 1].frame {
         None => true,
@@ -151,7 +152,7 @@ fn lacks_room(states: &[PlaceState], at: usize, count: usize) -> bool
 /// Whether an instruction makes a frame that can't be the next place's.
 fn makes_too_much(states: &[PlaceState], at: usize, code: Code) -> bool
     ensures next { IsTrue result → (s : State)
-        → ¬ HandedTo (states_of states.now) (changed code s) (suc at) }
+        → ¬ CoversAt (states_of states.now) (changed code s) (suc at) }
     ensures goes_on { IsTrue result → IsTrue (verified.goes_on code) }
 {
     match code {
@@ -160,19 +161,19 @@ fn makes_too_much(states: &[PlaceState], at: usize, code: Code) -> bool
     }
 }
 
-/// Whether a state is handed to the place whose own one it covers.
+/// Whether a state covers that of a place, where the place has one.
 fn hands(handed: &Handed, states: &[PlaceState], registers: &[Vec<usize>], to: usize) -> bool
     requires { AreRegisters states.now registers.now }
-    ensures { IsTrue result ↔ HandedTo (states_of states.now) handed.now to }
+    ensures { IsTrue result ↔ CoversAt (states_of states.now) handed.now to }
 {
     if to < states.len() {
         handed.covers(&states[to], &registers[to])
     } else {
-        false
+        true
     }
 }
 
-/// Whether a state is handed to each of these places.
+/// Whether a state covers those of these places.
 fn hands_all(
     handed: &Handed,
     states: &[PlaceState],
@@ -181,7 +182,7 @@ fn hands_all(
 ) -> bool
     requires { AreRegisters states.now registers.now }
     ensures { IsTrue result ↔ ((to : ℕ) → IsTrue (has named.now to)
-        → HandedTo (states_of states.now) handed.now to) }
+        → CoversAt (states_of states.now) handed.now to) }
 {
     for (index, to) in named.iter().enumerate() {
         if !hands(handed, states, registers, *to) {
@@ -191,7 +192,7 @@ fn hands_all(
     true
 }
 
-/// Whether a state is handed to each place that the instruction names.
+/// Whether a state covers those of the places that the instruction names.
 fn hands_named(
     alloc: Global,
     parts: &CodeParts,
@@ -203,14 +204,14 @@ fn hands_named(
     requires { AreRegisters states.now registers.now }
     ensures { IfOk result (λ b. IsTrue b
         ↔ ((to : ℕ) → IsTrue (has (verified.named (area_of parts.now) code) to)
-        → HandedTo (states_of states.now) handed.now to)) }
+        → CoversAt (states_of states.now) handed.now to)) }
 {
     let named = named_once(alloc, parts, code)?;
     let found = hands_all(handed, states, registers, &named);
     Ok(found)
 }
 
-/// Whether a state is handed to each place that the instruction leads to.
+/// Whether a state covers those of the places that the instruction leads to.
 fn hands_on(
     alloc: Global,
     parts: &CodeParts,
@@ -242,7 +243,7 @@ fn step(
     state: &PlaceState,
 ) -> Result<Option<Handed>, NoMemory>
     ensures { IfOk result (λ o. MatchOption o
-        (¬ Leads (area_of parts.now) (states_of states.now) at code (state_of state.now))
+        (¬ LeadsOn (area_of parts.now) (states_of states.now) at code (state_of state.now))
         (IsHandedOn (area_of parts.now).entries code (state_of state.now))) }
 {
     let mut handed = Handed::from_state(alloc, state)?;
@@ -256,8 +257,29 @@ fn step(
     Ok(Some(handed))
 }
 
+/// Whether an instruction makes a frame for a next place that has no state.
+fn makes_unseen(states: &[PlaceState], at: usize, code: Code) -> bool
+    requires { at < length states.now }
+    ensures past { IsTrue result → length states.now ≤ at + 1 }
+    ensures makes { IsTrue result → (count : ℕ) × (code ≡ Allocate count) }
+{
+    match code {
+        Code::Allocate(_) => at + 1 >= states.len(),
+        _ => false,
+    }
+}
+
+/// Whether an instruction finds what it needs in the state of its place.
+fn finds(alloc: Global, parts: &CodeParts, code: Code, state: &PlaceState) -> Result<bool, NoMemory>
+    ensures { IfOk result
+        (λ b. b ≡ its_needs (area_of parts.now).entries code (state_of state.now)) }
+{
+    let handed = Handed::from_state(alloc, state)?;
+    Ok(handed.needs(&parts.entries, code))
+}
+
 /// Whether an instruction finds what it needs in the state of its place, and hands on what covers
-/// the states of the places that it leads to.
+/// the states of the places that it leads to, of those that have one.
 fn leads_from(
     alloc: Global,
     parts: &CodeParts,
@@ -270,8 +292,12 @@ fn leads_from(
     requires registers { AreRegisters states.now registers.now }
     requires within { at < length states.now }
     ensures { IfOk result (λ b. IsTrue b
-        ↔ Leads (area_of parts.now) (states_of states.now) at code (state_of state.now)) }
+        ↔ LeadsOn (area_of parts.now) (states_of states.now) at code (state_of state.now)) }
 {
+    if makes_unseen(states, at, code) {
+        let is_found = finds(alloc, parts, code, state)?;
+        return Ok(is_found);
+    }
     match step(alloc, parts, states, at, code, state)? {
         None => Ok(false),
         Some(handed) => {
@@ -282,7 +308,8 @@ fn leads_from(
 }
 
 /// Whether the place's instruction finds what it needs in its state, where it has one, and hands on
-/// what covers the states of the places that it leads to, whose registers are these.
+/// what covers the states of the places that it leads to, of those that have one. Their registers
+/// are these.
 pub fn leads(
     alloc: Global,
     parts: &CodeParts,
@@ -294,7 +321,7 @@ pub fn leads(
     requires within { at < length (area_of parts.now).code }
     ensures { IfOk result (λ b. IsTrue b ↔ ((i : AnyCode) (s : State)
         → Holds (area_of parts.now) at i → HasState (states_of states.now) at s
-        → Leads (area_of parts.now) (states_of states.now) at i s)) }
+        → LeadsOn (area_of parts.now) (states_of states.now) at i s)) }
 {
     if at < states.len() {
         let found = leads_from(

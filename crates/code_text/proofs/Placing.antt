@@ -10,13 +10,14 @@ use Rattle.wam_code.specs.declared.instruction.Code.{Code}
 use Rattle.wam_code.specs.declared.instruction.Code.TheVariants.{TryMeElse, RetryMeElse, TrustMe, AnswerNow}
 use Rattle.wam_code.specs.Area.{Slot, State, Span, Area, Holds, HasState}
 use Rattle.wam_code.specs.Effect.{is_cell, slot_at}
-use Rattle.wam_code.specs.VerifiedCode.{named, goes_on, Names, Falls, Leads, is_other, NamesOther, is_before, is_behind, HoldsOne, IsNoStart, IsThere, IsKey, IsAtom, BeginsWith}
+use Rattle.wam_code.specs.VerifiedCode.{named, goes_on, Names, Falls, is_other, NamesOther, is_before, is_behind, HoldsOne, IsNoStart, IsThere, IsKey, IsAtom, BeginsWith}
 use Rattle.code_text.specs.declared.reach.Namers.{Namers}
 use Rattle.code_text.specs.declared.reach.Namers.TheVariants.{Nobody, One, More}
 use Rattle.code_text.specs.declared.reach.Reach.{Reach}
 use Rattle.code_listing.specs.declared.states.PlaceState.{PlaceState}
 use Rattle.code_listing.specs.Listing.{table_of}
 use Rattle.code_listing.specs.States.{state_of, states_of}
+use Rattle.code_flow.specs.Leading.{LeadsOn}
 use Rattle.code_flow.specs.Failing.{FitsInstruction, FitsBefore, IsLast, AreShown, ShowsAt}
 use Rattle.code_text.specs.Alone.{AreCells, FitsAlone, IsAnswerTold}
 use Rattle.code_text.specs.Told.{IsTold}
@@ -73,7 +74,7 @@ module _ (a : Area) (at : ℕ) (i : Code) (h : Holds a at i) where
 
   -- ---- the instruction's own conditions
 
-  pub instruction_fits : IsThere a i → All (λ row. IsKey a row.0) (table_of a.tables i) → HasChoices a at → LiesAhead a at → (ss : List State) → ((j : Code) (s : State) → Holds a at j → HasState ss at s → Leads a ss at j s) → (j : Code) → Holds a at j → FitsInstruction a ss at j
+  pub instruction_fits : IsThere a i → All (λ row. IsKey a row.0) (table_of a.tables i) → HasChoices a at → LiesAhead a at → (ss : List State) → ((j : Code) (s : State) → Holds a at j → HasState ss at s → LeadsOn a ss at j s) → (j : Code) → Holds a at j → FitsInstruction a ss at j
   instruction_fits there keys c l ss leads j g = record {
     leads = λ s x. leads j s g x;
     ahead = l.ahead;
@@ -97,7 +98,7 @@ module _ (a : Area) (at : ℕ) (i : Code) (h : Holds a at i) where
     pub fits_ahead : LiesAhead a at
     fits_ahead = record { ahead = (f i h).ahead; next = (f i h).next }
 
-    pub fits_leads : (j : Code) (s : State) → Holds a at j → HasState ss at s → Leads a ss at j s
+    pub fits_leads : (j : Code) (s : State) → Holds a at j → HasState ss at s → LeadsOn a ss at j s
     fits_leads j s g x = (f j g).leads s x
 
 -- ---- what stands before

@@ -1,4 +1,4 @@
-use Rattle.std.proofs.Common.{rules, ◌∙◌, ◌<◌, ap, length}
+use Rattle.std.proofs.Common.{rules, ◌∙◌, ◌<◌, ap, refl, length}
 use Rattle.fd_language.specs.Family.{has}
 use Rattle.code_flow.proofs.HandingOn.{handed_there, handed_past}
 use Rattle.code_flow.proofs.Once.{registers_at}
@@ -15,4 +15,4 @@ pub returns-then-to-states : goal.returns-then-to-states
 returns-then-to-states c = handed_there c.args.states.now c.args.to c.index-states-to.result c.args.handed.now c.covers.result (search rules) c.index-states-to.is c.covers.ensures
 
 pub returns-else-to-states : goal.returns-else-to-states
-returns-else-to-states c = ((λ e. absurd (cc (e))), λ g. absurd (handed_past c.args.states.now c.args.to c.args.handed.now (search rules) g))
+returns-else-to-states c = (λ e. handed_past c.args.states.now c.args.to c.args.handed.now (search rules), λ f. refl)

@@ -4,7 +4,7 @@ use Rattle.std.proofs.lemmas.Bool.{eq-eqb}
 use Rattle.std.proofs.lemmas.List.{length-map, length-replicate}
 use Rattle.wam_code.specs.Area as area
 use Rattle.wam_code.specs.Area.{State}
-use Rattle.wam_code.specs.VerifiedCode.{HandedTo}
+use Rattle.code_flow.specs.Leading.{CoversAt}
 use Rattle.code_listing.specs.declared.states.PlaceState.{PlaceState}
 use Rattle.code_listing.specs.States.{slot_of, state_of, states_of}
 use Rattle.code_flow.proofs.HandingOn.{room_frame}
@@ -17,7 +17,7 @@ returns-in-None c = λ e t f g.
     let p = c.index-states-at.result in
     let next : suc at ≡ at + 1 = omega arith in
     let low : at + 1 < length ss = omega arith in
-    let same = room_frame ss (at + 1) p t low c.index-states-at.is (subst (λ k. HandedTo (states_of ss) t k) next g) in
+    let same = room_frame ss (at + 1) p t low c.index-states-at.is (subst (λ k. CoversAt (states_of ss) t k) next g) in
     let none : Some (replicate c.args.count area.Unset) ≡ None = sym f ∙ same ∙ ap (λ (s : PlaceState). (state_of s).frame) c.index-states-at.is ∙ ap (option_map (λ v. map slot_of v.items)) c.in-None.is in
     absurd (cc (none))
 
@@ -29,7 +29,7 @@ returns-in-Some c = λ e t f g.
     let xs = c.in-Some.slots.items in
     let next : suc at ≡ at + 1 = omega arith in
     let low : at + 1 < length ss = omega arith in
-    let same = room_frame ss (at + 1) p t low c.index-states-at.is (subst (λ k. HandedTo (states_of ss) t k) next g) in
+    let same = room_frame ss (at + 1) p t low c.index-states-at.is (subst (λ k. CoversAt (states_of ss) t k) next g) in
     let slots : Some (replicate c.args.count area.Unset) ≡ Some (map slot_of xs) = sym f ∙ same ∙ ap (λ (s : PlaceState). (state_of s).frame) c.index-states-at.is ∙ ap (option_map (λ v. map slot_of v.items)) c.in-Some.is in
     let lists : replicate c.args.count area.Unset ≡ map slot_of xs = cc (slots) in
     let long : c.len.result ≡ length xs = search rules in
