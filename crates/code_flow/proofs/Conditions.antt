@@ -3,7 +3,7 @@ use Rattle.std.proofs.Common.{◌≡◌, ℕ, suc, ◌<◌, IsTrue, List, [], le
 use Rattle.std.proofs.lemmas.Option.{slice_get_within, get_or_from_slice_get, slice_get-get_or}
 use Rattle.wam_code.specs.declared.instruction.Code.{Code}
 use Rattle.wam_code.specs.declared.instruction.Code.TheVariants.{AnswerNow, TryMeElse, RetryMeElse, SwitchOnConstant, SwitchOnInteger, SwitchOnStructure}
-use Rattle.wam_code.specs.Area.{State, Span, Area, Holds, HasState}
+use Rattle.wam_code.specs.Area.{State, Span, Area, Holds}
 use Rattle.wam_code.specs.VerifiedCode.{named, goes_on, Covers, HandedTo, Leads, NamesOther, IsAtom, IsKey, IsThere, IsQuery, IsVerifiedBy}
 use Rattle.code_listing.specs.Listing.{table_of}
 use Rattle.fd_language.specs.Family.{has}

@@ -1,6 +1,6 @@
 //! The smallest of places that are told.
 
-ghost use Rattle.std.specs.Prelude.{◌≡◌, ℕ, None};
+ghost use Rattle.std.specs.Prelude.{◌≡◌, None};
 ghost use Rattle.code_text.specs.Told.{IsTold, Tells};
 
 /// The smallest place that was told so far.

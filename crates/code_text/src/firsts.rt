@@ -1,6 +1,6 @@
 //! States with which predicates and queries begin.
 
-ghost use Rattle.std.specs.Prelude.{◌≡◌, ◌<◌, ◌≤◌, ◌+◌, ◌^◌, ◌↔◌, ℕ, true, None, length, IsTrue, IfOk, MatchOption};
+ghost use Rattle.std.specs.Prelude.{◌≡◌, ◌<◌, ◌≤◌, ◌+◌, ◌^◌, ◌↔◌, ℕ, true, None, IsTrue, IfOk};
 ghost use Rattle.fd_language.specs.Family.{has};
 ghost use Rattle.wam_code.specs.VerifiedCode.{BeginsWith};
 ghost use Rattle.code_text.specs.Alone.{IsFirstCount, AreFirstCounts};

@@ -1,10 +1,10 @@
 //! The conditions of the code's places.
 
-ghost use Rattle.std.specs.Prelude.{◌≡◌, ◌⊎◌, ◌<◌, ◌+◌, ◌↔◌, ℕ, List, length, suc, true, false, IsTrue, IfOk, OnOk, Some, slice_get};
+ghost use Rattle.std.specs.Prelude.{◌≡◌, ◌⊎◌, ◌<◌, ◌+◌, ◌↔◌, ℕ, length, suc, true, false, IsTrue, IfOk, OnOk, Some};
 ghost use Rattle.fd_language.specs.Family.{has};
 ghost use Rattle.wam_code.specs.declared.instruction.Code.{Code as AnyCode};
 ghost use Rattle.wam_code.specs.declared.instruction.Code.TheVariants.{AnswerNow};
-ghost use Rattle.wam_code.specs.Area.{State, Holds, area_of};
+ghost use Rattle.wam_code.specs.Area.{Holds, area_of};
 ghost use Rattle.wam_code.specs.VerifiedCode as verified;
 ghost use Rattle.wam_code.specs.VerifiedCode.{HoldsOne};
 ghost use Rattle.code_flow.specs.Leading.{AreRegisters};

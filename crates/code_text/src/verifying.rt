@@ -1,8 +1,8 @@
 //! Whether code is verified by the states of its places.
 
-ghost use Rattle.std.specs.Prelude.{◌≡◌, ◌⊎◌, ◌↔◌, ◌<◌, ◌≤◌, ◌-◌, ℕ, List, length, map, min, slice_get, IsTrue, IfOk, IfErr, OnOk, MatchOption};
+ghost use Rattle.std.specs.Prelude.{◌≡◌, ◌⊎◌, ◌↔◌, ◌<◌, ◌-◌, ℕ, length, map, min, slice_get, IsTrue, IfOk, IfErr, OnOk, MatchOption};
 ghost use Rattle.wam_code.specs.declared.instruction.Code.TheVariants.{AnswerNow};
-ghost use Rattle.wam_code.specs.Area.{State, Span, Holds, HasQuery, area_of, span_of};
+ghost use Rattle.wam_code.specs.Area.{Span, Holds, HasQuery, area_of, span_of};
 ghost use Rattle.wam_code.specs.Effect.{is_cell};
 ghost use Rattle.wam_code.specs.VerifiedCode.{IsVerifiedBy};
 ghost use Rattle.code_text.specs.Alone.{AreAloneTold, AreAnswersTold, AreCells, AreFirstCounts, FitsAlone, IsAnswerTold};
