@@ -1,9 +1,9 @@
 //! When a search may begin.
 
-ghost use Rattle.std.specs.Prelude.{◌≡◌, IsTrue};
+ghost use Rattle.std.specs.Prelude.{◌≡◌, ◌&&◌, IsTrue};
 ghost use Rattle.std.specs.List.{list_all, list_any};
 ghost use Rattle.fd_model.specs.BestPosted.{IsCostOf};
-ghost use Rattle.bound_search.specs.Members.{AreOwn, is_own, is_variable, member_of, members_of};
+ghost use Rattle.bound_search.specs.Members.{AreOwn, is_own, is_variable, is_cost_of, member_of, members_of};
 
 use label_search::Member;
 
@@ -46,6 +46,7 @@ fn is_among(list: &[Member], k: usize) -> bool
 pub fn may_search(list: &[Member], cost: Member, vars: usize) -> bool
     ensures list { IsTrue result → AreOwn vars list.now }
     ensures cost { IsTrue result → IsCostOf (members_of list.now) (member_of cost) }
+    ensures exactly { result ≡ (list_all (is_own vars) list.now && is_cost_of list.now cost) }
 {
     are_own_members(list, vars)
         && match cost {
