@@ -9,7 +9,7 @@ ghost use Rattle.bound_search.specs.Searching.{IsNode};
 
 use fd_language::{FlatRange, NoMemory, RangeNode};
 use monotone_check::Checked;
-use propagate_queue::{Agenda, Instance, Posted, Store};
+use propagate_queue::{Agenda, Posted, Store};
 use range_code::{Activations, Arg, RangeCode, compile_range};
 use std::alloc::Global;
 use std::rc::Rc;
@@ -26,7 +26,6 @@ pub(crate) fn exact_code(alloc: Global) -> Result<Rc<RangeCode>, NoMemory>
 
 /// Posts that the variable has the value. Whether no domain is empty then.
 pub(crate) fn post_value<A: Agenda + Drop>(
-    alloc: Global,
     exact: &Rc<RangeCode>,
     store: &mut Store<A>,
     variable: usize,
@@ -44,12 +43,9 @@ pub(crate) fn post_value<A: Agenda + Drop>(
     ensures below { store.new.below ≡ store.old.below }
     ensures unspent { OnOk result (store.new.spent ≡ false) }
 {
-    let instance = Instance {
-        code: Rc::clone(exact)?,
-        target: variable,
-        args: vec![in alloc; Arg::Int(i64::from(value))]?,
-    };
-    let posted = store.post(vec![in alloc; instance]?, n)?;
+    let code = Rc::clone(exact)?;
+    let args = [Arg::Int(i64::from(value))];
+    let posted = store.post_one(code, variable, &args, n)?;
     store.known();
     match posted {
         Posted::Kept => Ok(true),

@@ -104,7 +104,6 @@ fn next_value<A: Agenda + Drop>(store: &Store<A>, aim: Aim, node: Node, best: &S
 
 /// Tries the next value of the newest open node, which was taken from the others, or closes it where there is none.
 fn advance<A: Agenda + Drop>(
-    alloc: Global,
     exact: &Rc<RangeCode>,
     store: &mut Store<A>,
     list: &[Member],
@@ -140,7 +139,7 @@ fn advance<A: Agenda + Drop>(
                 from: value + 1,
             })?;
             store.push_mark()?;
-            if post_value(alloc, exact, store, variable, value, n)? {
+            if post_value(exact, store, variable, value, n)? {
                 look(store, list, aim, nodes, best)
             } else {
                 store.pop_mark();
@@ -178,9 +177,7 @@ pub(crate) fn search<A: Agenda + Drop>(
     store.known();
     look(store, list, aim, &mut nodes, &mut best)?;
     'trying: while let Some(node) = nodes.pop() {
-        advance(
-            alloc, &exact, store, list, aim, node, &mut nodes, &mut best, n,
-        )?;
+        advance(&exact, store, list, aim, node, &mut nodes, &mut best, n)?;
     }
     match best.cost {
         None => Ok(None),
