@@ -4,3 +4,4 @@ mod Labels
 mod Listing
 mod Naming
 mod Seeking
+mod TakenMembers

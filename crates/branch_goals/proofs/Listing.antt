@@ -191,6 +191,10 @@ walk_start name h sets list own = record { own = own; front = []; are = tt; rest
     no_front (Err f) = refl
     no_front (Ok ms) = refl
 
+pub start_front : (name : Naming) (h : Cells) (sets : List (List ℕ)) (list : Cell) (own : IsOf h list) → (walk_start name h sets list own).front ≡ []
+unfolding walk_start
+start_front name h sets list own = refl
+
 are_more : (name : Naming) (h : Cells) (sets : List (List ℕ)) (cs : List Cell) (ms : List Member) (ss : List seen.Member) (c : Cell) (m : Member) (s : seen.Member) → AreMembersAt name h sets cs ms ss → IsOf h c → IsMemberAt name h sets c m s → AreMembersAt name h sets (cs ++ c ∷ []) (ms ++ m ∷ []) (ss ++ s ∷ [])
 are_more name h sets [] [] [] c m s a own i = (own, i, tt)
 are_more name h sets [] [] (x ∷ ss) c m s a own i = absurd a
@@ -199,7 +203,7 @@ are_more name h sets (d ∷ cs) [] ss c m s a own i = absurd a
 are_more name h sets (d ∷ cs) (y ∷ ms) [] c m s a own i = absurd a
 are_more name h sets (d ∷ cs) (y ∷ ms) (x ∷ ss) c m s a own i = (a.0, a.1, are_more name h sets cs ms ss c m s a.2 own i)
 
-walk_more : (name : Naming) (h : Cells) (sets : List (List ℕ)) (list : Cell) (cells : List Cell) (members : List Member) (at a b : Cell) (m : Member) → IsListNaming name → IsWalked name h sets list cells members at → IsNode name h sets at (Pair a b) → IsMemberOf name h sets a (Some m)
+pub walk_more : (name : Naming) (h : Cells) (sets : List (List ℕ)) (list : Cell) (cells : List Cell) (members : List Member) (at a b : Cell) (m : Member) → IsListNaming name → IsWalked name h sets list cells members at → IsNode name h sets at (Pair a b) → IsMemberOf name h sets a (Some m)
     → IsWalked name h sets list (cells ++ a ∷ []) (members ++ m ∷ []) b
 walk_more name h sets list cells members at a b m names w n i = record {
   own = n.1;
@@ -212,6 +216,11 @@ walk_more name h sets list cells members at a b m names w n i = record {
       ∙ ap (λ r. joined w.front (of_both prepend r (read_list (seen_term name h (family_of sets) b)))) i.1.0
       ∙ joined_more w.front i.0 (read_list (seen_term name h (family_of sets) b));
 }
+
+pub more_front : (name : Naming) (h : Cells) (sets : List (List ℕ)) (list : Cell) (cells : List Cell) (members : List Member) (at a b : Cell) (m : Member) (names : IsListNaming name) (w : IsWalked name h sets list cells members at) (n : IsNode name h sets at (Pair a b)) (i : IsMemberOf name h sets a (Some m))
+    → (walk_more name h sets list cells members at a b m names w n i).front ≡ w.front ++ i.0 ∷ []
+unfolding walk_more
+more_front name h sets list cells members at a b m names w n i = refl
 
 -- the same with what two pushes give
 pub walk_pushed : (name : Naming) (h : Cells) (sets : List (List ℕ)) (list : Cell) (cells cells' : List Cell) (members members' : List Member) (at a b : Cell) (m : Member) → cells' ≡ cells ++ a ∷ [] → members' ≡ members ++ m ∷ [] → IsListNaming name → IsWalked name h sets list cells members at → IsNode name h sets at (Pair a b) → IsMemberOf name h sets a (Some m)

@@ -7,12 +7,11 @@ ghost use Rattle.branch_state.specs.States.{IsSound, IsCell};
 ghost use Rattle.branch_goals.specs.Lists.{IsListNaming};
 ghost use Rattle.branch_goals.specs.Labels.{Labels, IsVariableOf};
 
-use crate::lists::read_members;
+use crate::taking::find_member;
 use branch_state::BranchState;
 use fd_language::NoMemory;
 use fd_model::kinds::{Order, QueryFault};
 use heap_cells::{Cell, Heap, Seen};
-use label_search::pick;
 use propagate_queue::Agenda;
 use std::alloc::Global;
 
@@ -43,7 +42,7 @@ pub(crate) fn variable_of(heap: &Heap, c: Cell) -> usize
 /// with the fewest values. A variable of the store with one value counts as that integer, and a variable that the store doesn't have
 /// has all values from 0 to the greatest. The error is want of memory.
 pub fn label<A: Agenda + Drop>(
-    alloc: Global,
+    _alloc: Global,
     branch: &BranchState<A>,
     order: Order,
     list: Cell,
@@ -56,11 +55,9 @@ pub fn label<A: Agenda + Drop>(
     let heap = branch.heap();
     let store = branch.store();
     store.known();
-    match read_members(alloc, heap, store, list)? {
+    match find_member(heap, store, branch.infinity(), order, list) {
         Err(fault) => Ok(Labelling::Fault(fault)),
-        Ok(list) => match pick(order, &list.members, store, branch.infinity()) {
-            Some(place) => Ok(Labelling::Takes(variable_of(heap, list.cells[place]))),
-            None => Ok(Labelling::Done),
-        },
+        Ok(Some(taken)) => Ok(Labelling::Takes(variable_of(heap, taken.cell))),
+        Ok(None) => Ok(Labelling::Done),
     }
 }

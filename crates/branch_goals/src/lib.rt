@@ -7,6 +7,7 @@ mod finding;
 mod labelling;
 mod lists;
 mod searches;
+mod taking;
 
 pub use crate::builtins::find;
 pub use crate::finding::Found;

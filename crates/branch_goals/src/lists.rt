@@ -16,7 +16,7 @@ use term_pool::{AtomId, CONS, NIL};
 
 /// A cell as a node of a list.
 #[derive(Clone, Copy)]
-enum ListNode {
+pub(crate) enum ListNode {
     /// A member, and the list behind it.
     Pair(Cell, Cell),
     /// The end.
@@ -33,7 +33,7 @@ pub(crate) struct Members {
 }
 
 /// What a cell is as a node of a list.
-fn node_at<V: View>(heap: &Heap, view: &V, at: Cell) -> ListNode
+pub(crate) fn node_at<V: View>(heap: &Heap, view: &V, at: Cell) -> ListNode
     requires own { IsOf heap.now.now at }
     requires linked { HasLinksBelow (length (V.sets view.now)) heap.now.now }
     ensures { (name : Naming) → IsListNaming name
