@@ -1,25 +1,25 @@
 -- Bounds of new variables: what is posted, and that each variable is bounded then.
-use Rattle.std.proofs.Common.{◌≡◌, ℕ, zero, suc, ◌+◌, ◌-◌, ◌<◌, ◌≤◌, Bool, true, false, cond, ◌==◌, pos, List, [], ◌∷◌, ◌++◌, length, map, IsTrue, refl, ap, sym, ◌∙◌, subst, inl, inr, arith, eq-eqb, eqb-true, append_assoc, append-nil}
+use Rattle.std.proofs.Common.{◌≡◌, ℕ, zero, suc, ◌+◌, ◌-◌, ◌<◌, ◌≤◌, Bool, true, false, cond, ◌==◌, pos, List, [], ◌∷◌, ◌++◌, length, map, refl, ap, sym, ◌∙◌, subst, inl, inr, arith, eq-eqb, eqb-true, append_assoc, append-nil}
 use Rattle.std.specs.Prelude.{All}
-use Rattle.std.proofs.lemmas.Bool.{cases_Bool, cases_lt, or_cases, true≢false, and_parts}
+use Rattle.std.proofs.lemmas.Bool.{cases_lt, or_cases, true≢false}
 use Rattle.std.proofs.lemmas.List.{map-append}
 use Rattle.fd_language.specs.declared.TheConstants.{INFINITY}
-use Rattle.fd_language.specs.declared.range_node.Need.TheVariants.{Whole, Natural}
-use Rattle.fd_language.specs.Family.{Family, has}
-use Rattle.fd_language.specs.Needs.{meets}
-use Rattle.fd_language.specs.Range.{Indexical}
+use Rattle.fd_language.specs.Family.{has}
+use Rattle.fd_language.specs.Range.{Range, Indexical}
+use Rattle.range_code.specs.declared.frame.Arg.{Arg}
 use Rattle.fd_model.specs.Answers.{Somewhere}
 use Rattle.fd_model.specs.Bounds.{bound}
 use Rattle.fd_model.specs.Closed.{constrained}
 use Rattle.fd_model.specs.Levels.{Level}
-use Rattle.fd_model.specs.Models.{IsModel}
 use Rattle.fd_model.proofs.Lemmas.{constrained_either}
 use Rattle.propagate_queue.specs.declared.instance.Instance.{Instance}
-use Rattle.propagate_queue.specs.Instances.{posting, posted_by, IsInstance}
-use Rattle.propagate_queue.specs.Postings.{Posting, ranged, IsPosting}
+use Rattle.propagate_queue.specs.Instances.{posting, posting_of, posted_by, IsInstance}
+use Rattle.propagate_queue.specs.Postings.{Posting, ranged}
 use Rattle.machine_relation.proofs.Lemmas.{front}
 use Rattle.machine_frames.specs.Bounding.{IsBounded, AreBounds, IsBoundedMore}
 use Rattle.machine_frames.proofs.Lemmas.{model_narrower, model_wider, none_bounded}
+use Rattle.unify_core.specs.declared.Touch.{Touch}
+use Rattle.branch_state.specs.Naming.{goal_ranges}
 use Rattle.branch_state.specs.Bounding.{bound_posting, bound_postings, bounds_from, new_postings, new_bounds, PostsBounds}
 use Rattle.branch_state.specs.States.{HasBounds, HasNoModel, IsGreatest, IsSettled}
 use Rattle.branch_state.proofs.Touches.{EachPosting, all_instances, each_both, each_listed, map_twice, natural_number, natural_whole}
@@ -42,6 +42,17 @@ new_are N first n = by_test (N == INFINITY) where
   by_test : (b : Bool) → map ranged (cond b [] (bound_postings N first n)) ≡ cond b [] (bounds_from N first n)
   by_test true = refl
   by_test false = bounds_are N first n
+
+-- none are new where each number is allowed
+pub none_new : (N first n : ℕ) → N ≡ INFINITY → new_bounds N first n ≡ []
+none_new N first n e = ap (λ b. cond b [] (bounds_from N first n)) (eq-eqb N INFINITY e)
+
+-- one range, where there are no touches and no bounds
+pub single_posted : (N first n : ℕ) → N ≡ INFINITY → (ts : List Touch) → ts ≡ [] → (qs : List Indexical) (r : Range) (v : ℕ) (as' : List Arg) → qs ++ ranged (posting_of r v as') ∷ [] ≡ (qs ++ goal_ranges r v as' ts) ++ new_bounds N first n
+single_posted N first n e ts f qs r v as' =
+    sym (ap (λ (l : List Indexical). (qs ++ goal_ranges r v as' ts) ++ l) (none_new N first n e)
+    ∙ append-nil (qs ++ goal_ranges r v as' ts)
+    ∙ ap (λ (us : List Touch). qs ++ goal_ranges r v as' us) f)
 
 -- the ranges of a list with bounds behind it
 pub bounded_posted : (is list : List Instance) (N first n : ℕ) → map posting is ≡ map posting list ++ new_postings N first n → (qs : List Indexical) → qs ++ posted_by is ≡ (qs ++ posted_by list) ++ new_bounds N first n

@@ -15,6 +15,7 @@ use Rattle.fd_language.specs.Unifier.{Unifies}
 use Rattle.fd_language.specs.RangeVerdict.{is_accepted}
 use Rattle.fd_language.proofs.Lemmas.{has_either}
 use Rattle.range_code.specs.declared.frame.Arg.{Arg}
+use Rattle.range_code.specs.declared.frame.Arg.TheVariants as arg
 use Rattle.range_code.specs.Frames.{IsFrame, posted}
 use Rattle.range_code.proofs.Lemmas.{posted_below}
 use Rattle.fd_model.specs.Closed.{constrained}
@@ -23,11 +24,12 @@ use Rattle.heap_cells.proofs.Lemmas.{head_of, tail_of}
 use Rattle.unify_core.specs.declared.Touch.{Touch}
 use Rattle.unify_core.specs.declared.Touch.TheVariants.{Value, Same}
 use Rattle.propagate_queue.specs.declared.instance.Instance.{Instance}
-use Rattle.propagate_queue.specs.Instances.{posting, posted_by, IsInstance}
+use Rattle.propagate_queue.specs.Instances.{posting, posting_of, posted_by, IsInstance}
 use Rattle.propagate_queue.specs.Postings.{Posting, ranged, IsPosting}
 use Rattle.machine_relation.specs.Store.{posts, touched}
 use Rattle.machine_relation.proofs.Lemmas.{set_term, set_term_int, as_equations}
 use Rattle.machine_frames.specs.Frames.{store_touches}
+use Rattle.branch_state.specs.Codes.{exact_range}
 use Rattle.branch_state.specs.Naming.{goal_ranges}
 use Rattle.branch_state.specs.Posting.{is_natural, touch_postings, postings}
 use Rattle.branch_state.specs.States.{HasNoModel}
@@ -76,6 +78,17 @@ each_fits count (Same k j ∷ ts) low natural =
 
 pub touches_fit : (count : ℕ) (is : List Instance) (ts : List Touch) → map posting is ≡ postings ts → AreTouchesBelow count ts → list_all is_natural ts ≡ true → All (IsInstance count) is
 touches_fit count is ts e low natural = all_instances count is (postings ts) e (each_fits count ts low natural)
+
+-- a list of one
+pub one_touch : (ts : List Touch) (t : Touch) → 1 ≤ length ts → length ts < 2 → get_or ts 0 t ≡ t → ts ≡ t ∷ []
+one_touch [] t a b e = absurd (omega (arith, a))
+one_touch (u ∷ []) t a b e = ap (λ (v : Touch). v ∷ []) e
+one_touch (u ∷ w ∷ ws) t a b e = absurd (omega (arith, b))
+
+-- one integer of a variable, by its range alone
+pub value_posted : (r : Range) → r ≡ exact_range → (ts : List Touch) (k : ℕ) (z : ℤ) → ts ≡ Value k z ∷ [] → ranged (posting_of r k (arg.Int z ∷ [])) ∷ [] ≡ posts (store_touches ts)
+value_posted r e ts k z f =
+    ap (λ (q : Range). ranged (posting_of q k (arg.Int z ∷ [])) ∷ []) e ∙ ranges_are (Value k z ∷ []) ∙ sym (ap (λ (l : List Touch). posts (store_touches l)) f)
 
 -- and name the touches' variables
 pub touch_names : (count : ℕ) (ts : List Touch) → AreTouchesBelow count ts → (k : ℕ) → has (constrained (posts (store_touches ts))) k ≡ true → k < count

@@ -2,7 +2,8 @@
 
 ghost use Rattle.std.specs.Prelude.{◌≡◌, ◌<◌, ◌≤◌, ◌-◌, ◌++◌, ◌∷◌, [], false, map, length, All, IfOk, OnOk};
 ghost use Rattle.std.specs.List.{list_all};
-ghost use Rattle.propagate_queue.specs.Instances.{posting, posted_by, IsInstance};
+ghost use Rattle.propagate_queue.specs.Instances.{posting, posting_of, posted_by, IsInstance};
+ghost use Rattle.propagate_queue.specs.Postings.{ranged, IsPosting};
 ghost use Rattle.unify_core.specs.Outcome.{IfTrue, IfFalse};
 ghost use Rattle.fd_language.specs.declared.TheConstants.{INFINITY};
 ghost use Rattle.branch_state.specs.Bounding.{new_bounds};
@@ -18,7 +19,7 @@ ghost use Rattle.machine_frames.specs.Frames.{store_touches};
 use crate::bounds::{NewVars, add_new_bounds};
 use crate::constraints::Listed;
 use crate::naming::Prepared;
-use fd_language::NoMemory;
+use fd_language::{INFINITY as TOP, NoMemory};
 use propagate_queue::{Agenda, Instance, Posted, Store};
 use range_code::{Activations, Arg, RangeCode};
 use std::alloc::Global;
@@ -123,6 +124,32 @@ pub(crate) fn post_list<A: Agenda + Drop>(
     }
 }
 
+/// Posts one range with the arguments of its slots. Whether all that is posted has a model.
+fn post_single<A: Agenda + Drop>(
+    store: &mut Store<A>,
+    n: &mut Activations,
+    code: &Rc<RangeCode>,
+    target: usize,
+    args: &[Arg],
+) -> Result<bool, NoMemory>
+    requires { IsPosting (length store.old.current.sets)
+        (posting_of code.now.value target args.now) }
+    ensures posted { OnOk result (store.new.current.posted ≡ store.old.current.posted
+        ++ ranged (posting_of code.now.value target args.now) ∷ []) }
+    ensures kept { IfTrue result ((store.new.current.failed ≡ false)
+        × IsSettled INFINITY store.new.current) }
+    ensures none { IfFalse result (HasNoModel INFINITY store.new.current.posted) }
+    ensures vars { OnOk result (length store.new.current.sets ≡ length store.old.current.sets) }
+    ensures below { store.new.below ≡ store.old.below }
+    ensures unspent { OnOk result (store.new.spent ≡ false) }
+{
+    let owned = Rc::clone(code)?;
+    match store.post_one(owned, target, args, n)? {
+        Posted::Kept => Ok(true),
+        Posted::Failed => Ok(false),
+    }
+}
+
 /// Posts the list, and behind it the bounds of new variables. Whether all that is posted has a model.
 pub(crate) fn post_bounded<A: Agenda + Drop>(
     alloc: Global,
@@ -177,6 +204,9 @@ pub(crate) fn post_all<A: Agenda + Drop>(
     if !are_natural(touches) {
         return Ok(false);
     }
+    if let &[Touch::Value(k, z)] = touches {
+        return post_single(store, n, exact, k, &[Arg::Int(z)]);
+    }
     let mut list = Vec::with_capacity(alloc, touches.len())?;
     add_touches(alloc, exact, same, touches, &mut list)?;
     post_list(store, list, n)
@@ -218,6 +248,9 @@ pub(crate) fn post_prepared<A: Agenda + Drop>(
         args,
         fixed,
     } = prepared;
+    if fixed.is_empty() && made.infinity == TOP {
+        return post_single(store, n, code, target, &args);
+    }
     if !are_natural(&fixed) {
         return Ok(false);
     }

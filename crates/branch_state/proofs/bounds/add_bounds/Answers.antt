@@ -1,4 +1,4 @@
-use Rattle.std.proofs.Common.{◌≡◌, ℕ, ℤ, ◌-◌, ◌+◌, suc, pos, [], ◌∷◌, ◌++◌, ◌∙◌, ap, map, length, arith, rules, w64, to_z, of_z}
+use Rattle.std.proofs.Common.{◌≡◌, ℕ, ℤ, ◌-◌, ◌+◌, suc, pos, [], ◌∷◌, ◌++◌, ◌∙◌, ap, map, arith, rules, w64, to_z, of_z}
 use Rattle.fd_language.specs.Range.{Range}
 use Rattle.range_code.specs.declared.frame.Arg.TheVariants as arg
 use Rattle.propagate_queue.specs.Instances.{posting}

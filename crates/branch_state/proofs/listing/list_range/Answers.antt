@@ -3,7 +3,7 @@ use Rattle.std.proofs.lemmas.Bool.{or_left}
 use Rattle.fd_language.specs.Family.{has}
 use Rattle.fd_language.specs.Range.{Indexical}
 use Rattle.range_code.specs.Slots.{slots_of}
-use Rattle.branch_state.specs.Constraints.{AreLinked, AreUnbound, variables_in}
+use Rattle.branch_state.specs.Constraints.{AreUnbound, variables_in}
 use Rattle.branch_state.specs.Listing.{LinksMore}
 use Rattle.branch_state.proofs.ConstrainingLinks.{links_own}
 use Rattle.branch_state.proofs.PostingLists.{range_unbound, range_links, range_linked, one_listed, variables_one}
