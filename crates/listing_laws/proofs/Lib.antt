@@ -1,0 +1,3 @@
+mod SameRanges
+mod SameCode
+pub mod Lemmas

@@ -1,0 +1,16 @@
+mod Lists
+mod Firsts
+mod Atoms
+mod SlotNumbers
+mod RangeSlots
+mod Meeting
+mod Keys
+mod Wrongs
+mod Sections
+mod Telling
+mod Naming
+mod Holding
+mod Posting
+mod Coding
+mod Refusing
+mod Answering

@@ -1,0 +1,23 @@
+use Rattle.std.proofs.Common.{rules, ◌≡◌, ◌≤◌, ◌<◌, ◌∙◌, Bool, true, false, List, ℕ, ap, subst, sym, take, arith}
+use Rattle.std.specs.List.{list_any}
+use Rattle.std.specs.Str.{bytes_eq}
+use Rattle.std.proofs.lemmas.List.{take_all}
+use Rattle.std.proofs.lemmas.Slice.Eq.{bytes_eq-Decides}
+use Rattle.listing_reader.specs.declared.read_nodes.NodeForm.{NodeForm}
+use Rattle.listing_reader.specs.Nodes.{node_name}
+use Rattle.listing_reader.proofs.NodeWords.{all_node_forms, node_found}
+use Rattle.listing_reader.proofs.GoalWords.{none_found, none_more}
+use Rattle.listing_reader.proofs.read_nodes.read_node_form.Goals as goal
+
+pub loop-form-preserved : goal.loop-form-preserved
+loop-form-preserved c =
+    let differs : bytes_eq c.node_name.result.now c.args.word.now ≡ false = search rules in
+    let low : c.loop-form.form-index < 21 = omega arith in
+    none_more node_name all_node_forms c.args.word.now c.loop-form.form-index _ low c.loop-form.invariant (ap (λ (t : List ℕ). bytes_eq t c.args.word.now) (sym c.node_name.ensures) ∙ differs)
+
+pub returns : goal.returns
+returns c =
+    let all : 21 ≤ c.loop-form.form-index = omega arith in
+    let P = λ (l : List NodeForm). list_any (λ x. bytes_eq (node_name x) c.args.word.now) l ≡ false in
+    let whole = subst P (take_all c.loop-form.form-index all_node_forms all) c.loop-form.invariant in
+    λ x h e. none_found node_name all_node_forms c.args.word.now whole x (node_found x) (e)

@@ -1,0 +1,16 @@
+pub mod Atoms
+pub mod Fits
+pub mod Forms
+pub mod Frames
+pub mod Goals
+pub mod Lines
+pub mod Lists
+pub mod Nodes
+pub mod Numbering
+pub mod Operands
+pub mod Places
+pub mod Reading
+pub mod Sections
+pub mod Sheets
+pub mod Telling
+pub mod Told

@@ -1,0 +1,43 @@
+//! Why a text is no listing.
+
+ghost use Rattle.std.specs.Prelude.{◌≡◌};
+ghost use Rattle.listing_reader.specs.declared.fault.SheetFault.TheVariants.{NoMemory};
+
+use fd_language::NoMemory;
+use std::alloc::{AllocError, AllocFailed};
+use thiserror::Error;
+
+/// Why a text is no listing. Lines are numbered from 1.
+#[derive(Clone, Copy, Debug, PartialEq, Eq, Drop, Error)]
+pub enum SheetFault {
+    /// The first line that isn't of its form, is missing, or is one too many.
+    #[error("bad line {line}")]
+    BadLine { line: usize },
+    /// Memory was wanting.
+    #[error("out of memory")]
+    NoMemory,
+}
+
+impl From<NoMemory> for SheetFault {
+    ghost from_gives = { λ _ fault. fault ≡ NoMemory };
+
+    fn from(_error: NoMemory) -> SheetFault {
+        SheetFault::NoMemory
+    }
+}
+
+impl From<AllocError> for SheetFault {
+    ghost from_gives = { λ _ fault. fault ≡ NoMemory };
+
+    fn from(_error: AllocError) -> SheetFault {
+        SheetFault::NoMemory
+    }
+}
+
+impl<T: Drop> From<AllocFailed<T>> for SheetFault {
+    ghost from_gives = { λ _ fault. fault ≡ NoMemory };
+
+    fn from(_error: AllocFailed<T>) -> SheetFault {
+        SheetFault::NoMemory
+    }
+}
