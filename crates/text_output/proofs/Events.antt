@@ -1,8 +1,9 @@
 -- The events of a machine, one after another.
 use Rattle.std.proofs.lemmas.List.{length-map, get_or-map}
+use Rattle.std.proofs.lemmas.Option.{slice_get_within, get_or_from_slice_get}
 use Rattle.std.proofs.Math.Seq.{drop-cons}
 use Rattle.std.proofs.Math.ListN.{drop_of_length-le}
-use Rattle.std.proofs.Common.{◌≡◌, ℕ, suc, ◌+◌, ◌<◌, Bool, true, false, List, [], ◌∷◌, ◌++◌, length, drop, Option, Some, None, Result, Err, refl, ap, sym, ◌∙◌, subst, arith, append_assoc, append-nil, codes, decimal}
+use Rattle.std.proofs.Common.{◌≡◌, ℕ, suc, ◌+◌, ◌<◌, Bool, true, false, List, [], ◌∷◌, ◌++◌, length, drop, slice_get, Option, Some, None, Result, Err, refl, ap, sym, ◌∙◌, subst, arith, append_assoc, append-nil, codes, decimal}
 use Rattle.fd_language.specs.declared.TheConstants.{INFINITY}
 use Rattle.fd_language.specs.Term.{Name}
 use Rattle.fd_model.specs.Goal.{Event, Program, Query, start_of}
@@ -206,21 +207,26 @@ queries_from p i l =
     ∙ ap (λ (q : Query). q ∷ drop (suc i) qs) (get_or-map (query_in p) p.queries i no_query (query_in p no_query) l)
     ∙ ap (λ (n : ℕ). query_in p (query_at p i) ∷ drop n qs) one
 
-pub program_next : (N steps : ℕ) (answers : Option ℕ) (p : FlatProgram) (i : ℕ) (old now : SinkState) (stopped : Bool) (out : List ℕ) (stop : Bool) → i < length p.queries → Behind N steps answers (program_in p) (i + 1) (drop i (program_in p).queries) old now stopped out stop
-    → Next N steps answers (program_in p) (i + 1) (query_in p (query_at p i)) (drop (i + 1) (program_in p).queries) old now stopped out stop
-program_next N steps answers p i old now stopped out stop l k =
-    next_query N steps answers (program_in p) (i + 1) (query_in p (query_at p i)) (drop (i + 1) (program_in p).queries) old now stopped out stop
-    (subst (λ (qs : List Query). Behind N steps answers (program_in p) (i + 1) qs old now stopped out stop) (queries_from p i l) k)
+-- the queries of a program, from one of them on
+pub queries_at : (qs : List Query) (i : ℕ) (q : Query) → slice_get qs i ≡ Some q → drop i qs ≡ q ∷ drop (i + 1) qs
+queries_at qs i q e =
+    let one : suc i ≡ i + 1 = omega arith in
+    drop-cons qs i q (slice_get_within qs i q e) ∙ ap (λ (x : Query). x ∷ drop (suc i) qs) (get_or_from_slice_get qs i q q e) ∙ ap (λ (n : ℕ). q ∷ drop n qs) one
+
+pub program_next : (N steps : ℕ) (answers : Option ℕ) (prog : Program) (i : ℕ) (q : Query) (old now : SinkState) (stopped : Bool) (out : List ℕ) (stop : Bool) → slice_get prog.queries i ≡ Some q
+    → Behind N steps answers prog (i + 1) (drop i prog.queries) old now stopped out stop → Next N steps answers prog (i + 1) q (drop (i + 1) prog.queries) old now stopped out stop
+program_next N steps answers prog i q old now stopped out stop e k =
+    next_query N steps answers prog (i + 1) q (drop (i + 1) prog.queries) old now stopped out stop
+    (subst (λ (qs : List Query). Behind N steps answers prog (i + 1) qs old now stopped out stop) (queries_at prog.queries i q e) k)
 
 drop_all : (n : ℕ) (qs : List Query) → n ≡ length qs → drop n qs ≡ []
 drop_all n qs e = drop_of_length-le qs (omega (arith, e))
 
 -- all queries are written
-pub program_written : (N steps : ℕ) (answers : Option ℕ) (p : FlatProgram) (i : ℕ) (old now : SinkState) (stopped : Bool) (out : List ℕ) (stop : Bool) → i ≡ length p.queries → Behind N steps answers (program_in p) (i + 1) (drop i (program_in p).queries) old now stopped out stop
+pub program_written : (N steps : ℕ) (answers : Option ℕ) (prog : Program) (i : ℕ) (old now : SinkState) (stopped : Bool) (out : List ℕ) (stop : Bool) → i ≡ length prog.queries → Behind N steps answers prog (i + 1) (drop i prog.queries) old now stopped out stop
     → WroteAll old now out × (stopped ≡ stop)
-program_written N steps answers p i old now stopped out stop e k =
-    behind_all N steps answers (program_in p) (i + 1) old now stopped out stop
-    (subst (λ (qs : List Query). Behind N steps answers (program_in p) (i + 1) qs old now stopped out stop) (drop_all i (program_in p).queries (e ∙ sym (length-map p.queries (query_in p)))) k)
+program_written N steps answers prog i old now stopped out stop e k =
+    behind_all N steps answers prog (i + 1) old now stopped out stop (subst (λ (qs : List Query). Behind N steps answers prog (i + 1) qs old now stopped out stop) (drop_all i prog.queries e) k)
 
 -- the first line of a query was cut short
 pub line_cut : {A : Type 0} (N steps : ℕ) (answers : Option ℕ) (prog : Program) (n : ℕ) (q : Query) (qs : List Query) (old now new : SinkState) (stopped : Bool) (out : List ℕ) (stop : Bool) (bytes : List ℕ) (f : Fault) (result : Result A Fault) → Next N steps answers prog n q qs old now stopped out stop

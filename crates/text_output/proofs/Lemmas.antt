@@ -1,6 +1,6 @@
 -- The lemmas that other crates may cite, by their subjects. All else in proofs/ is this crate's own.
--- The code of a text's program may run its queries.
-pub use Rattle.text_output.proofs.ProgramCode.{may_run, has_query}
+-- The code of a text's program may run its queries, and stands for it.
+pub use Rattle.text_output.proofs.ProgramCode.{may_run, has_query, runs_program}
 -- The events of a machine, one after another.
 pub use Rattle.text_output.proofs.Events.{final_names, goes_on, no_ending, queries_from}
 -- How the writing of an output ends, from what its last call says.

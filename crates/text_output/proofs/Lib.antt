@@ -1,5 +1,6 @@
 mod PieceWrites
 mod ProgramCode
 mod Events
+mod LastEvents
 mod Endings
 pub mod Lemmas

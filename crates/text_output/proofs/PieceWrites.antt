@@ -1,5 +1,5 @@
 -- Pieces written one after another, until a fault.
-use Rattle.std.proofs.Common.{◌≡◌, ℕ, List, ◌++◌, Result, Ok, Err, sym, ap, ◌∙◌, subst, append_assoc}
+use Rattle.std.proofs.Common.{◌≡◌, ℕ, List, [], ◌++◌, Result, Ok, Err, sym, ap, ◌∙◌, subst, append_assoc}
 use Rattle.byte_ports.proofs.Lemmas.{all_then, front_then, part_then, longer_front, longer_part, all_front}
 use Rattle.text_output.specs.declared.fault.Fault.{Fault}
 use Rattle.text_output.specs.declared.fault.Fault.TheVariants as fault
@@ -45,3 +45,14 @@ line_short {A} old now new r e text front left line later err is next h g =
 -- and what is left of them
 pub line_last : {A : Type 0} (old now new : SinkState) (r : Result A Fault) (text front left : List ℕ) → text ≡ front ++ left → WroteAll old now front → Wrote now new r left → Wrote old new r text
 line_last {A} old now new r text front left is h g = subst (Wrote old new r) (sym is) (wrote_then old now new r front left h g)
+
+-- ---- what was written, whatever it is
+
+pub some_cut : {A : Type 0} (old now new : SinkState) (r : Result A Fault) (e : Fault) (piece : List ℕ) → r ≡ Err e → (done : List ℕ) × WroteAll old now done → CutBy now new e piece → (out : List ℕ) × Wrote old new r out
+some_cut {A} old now new r e piece is some c = (some.0 ++ piece, wrote_cut old new r e (some.0 ++ piece) is (cut_then old now new some.0 piece e some.1 c))
+
+pub some_short : {A : Type 0} (old now : SinkState) (r : Result A Fault) → r ≡ Err fault.NoMemory → (done : List ℕ) × WroteAll old now done → (out : List ℕ) × Wrote old now r out
+some_short {A} old now r is some = (some.0 ++ [], wrote_short old now r some.0 [] is some.1)
+
+pub some_more : (old now new : SinkState) (piece : List ℕ) → (done : List ℕ) × WroteAll old now done → WroteAll now new piece → (done : List ℕ) × WroteAll old new done
+some_more old now new piece some w = (some.0 ++ piece, all_then old now new some.0 piece some.1 w)

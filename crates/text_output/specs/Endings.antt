@@ -1,18 +1,25 @@
 -- What was written when a call ends.
-use Rattle.std.specs.Prelude.{◌≡◌, ◌⊎◌, ℕ, List, [], ◌∷◌, Bool, true, false, Option, Some, None, Result, MatchResult}
+use Rattle.std.specs.Prelude.{◌≡◌, ◌⊎◌, ℕ, List, [], ◌∷◌, Bool, true, false, length, slice_get, Option, Some, None, Result, MatchResult}
+use Rattle.std.specs.List.{list_any}
 use Rattle.fd_language.specs.declared.TheConstants.{INFINITY}
 use Rattle.fd_model.specs.Goal.{Program, Query, Event, start_of}
 use Rattle.fd_model.specs.Output.{is_stop}
 use Rattle.fd_model.specs.Run.{Run}
+use Rattle.fd_model.specs.Sound.{IsScoped, IsRunnableProgram}
+use Rattle.machine_events.specs.declared.Limits.{Limits}
 use Rattle.machine_events.specs.declared.MachineEvent.{MachineEvent}
+use Rattle.machine_events.specs.declared.MachineEvent.TheVariants as event
 use Rattle.machine_events.specs.Events.{event_of}
 use Rattle.machine_relation.specs.Next.{is_final}
 use Rattle.clause_check.specs.Programs.{FlatProgram, program_in, query_at, query_in}
 use Rattle.wam_code.specs.Area.{Area}
-use Rattle.code_machine.specs.States.{MayRun}
+use Rattle.wam_code.specs.Tries.{StandsForProgram}
+use Rattle.code_machine.specs.States.{State, MayRun, IsEndOf, IsOfGoal}
+use Rattle.code_machine.specs.Instructions.{HasGoal}
 use Rattle.fd_model.specs.declared.Status.{Status}
 use Rattle.fd_model.specs.declared.Status.TheVariants.{WriteFault, NoMemory}
 use Rattle.byte_ports.specs.Ends.{SinkState, WroteAll, WroteFront, WrotePart}
+use Rattle.command_words.specs.declared.Options.{Options}
 use Rattle.text_output.specs.declared.fault.Fault.{Fault}
 use Rattle.text_output.specs.declared.fault.Fault.TheVariants as fault
 
@@ -52,3 +59,42 @@ IsRunBy N area number steps answers es r =
 abbrev pub IsEnding : MachineEvent → Option Bool → Type 0
 IsEnding e None = is_final (event_of [] e) ≡ false
 IsEnding e (Some b) = (is_final (event_of [] e) ≡ true) × (b ≡ is_stop (event_of [] e ∷ []))
+
+-- ---- code
+
+-- The code stands for the program, which can run: each clause and each query has as many variables as it says, and its ranges are accepted.
+pub record RunsProgram (area : Area) (prog : Program) : Type 0 where
+  pub stands : StandsForProgram area prog
+  pub scoped : IsScoped prog
+  pub runnable : IsRunnableProgram INFINITY prog
+
+-- the limits of the queries of an output
+abbrev pub limits_of : Options → Limits
+limits_of o = record { steps = o.steps; answers = o.answers; infinity = o.infinity }
+
+-- Of any code: a machine for the query with a number has ended, with these limits, and says so by the event.
+pub record EndsBy (area : Area) (number : ℕ) (limits : Limits) (e : MachineEvent) : Type 0 where
+  pub machine : State
+  pub own : (machine.area ≡ area) × (machine.query ≡ number) × (machine.limits ≡ limits)
+  pub stage : IsEndOf e machine.stage
+  -- its reductions are spent, or its answers given, or it came to a goal
+  pub budget : e ≡ event.Budget → machine.spent ≡ limits.steps
+  pub limit : e ≡ event.Limit → limits.answers ≡ Some machine.answers
+  pub goals : IsOfGoal e → HasGoal area
+
+-- whether a last event stops its query
+abbrev pub stops : MachineEvent → Bool
+stops e = is_stop (event_of [] e ∷ [])
+
+-- the event of such a machine, and whether it stops its query
+abbrev pub LastBy : Area → ℕ → Limits → Bool → Type 0
+LastBy area number limits stopped = (e : MachineEvent) × EndsBy area number limits e × (stopped ≡ stops e)
+
+-- the last events of the queries from the first on, and whether one of them stops its query
+pub record AreLast (area : Area) (limits : Limits) (es : List MachineEvent) (stop : Bool) : Type 0 where
+  pub each : (k : ℕ) (e : MachineEvent) → slice_get es k ≡ Some e → EndsBy area k limits e
+  pub is : stop ≡ list_any stops es
+
+-- of all queries
+abbrev pub HasLast : Area → Limits → Bool → Type 0
+HasLast area limits stop = (es : List MachineEvent) × (length es ≡ length area.queries) × AreLast area limits es stop

@@ -5,4 +5,4 @@ mod fault;
 mod writing;
 
 pub use crate::fault::Fault;
-pub use crate::writing::{answer, ending, put_last};
+pub use crate::writing::{answer, answer_code, ending, put_last};

@@ -2,16 +2,16 @@
 
 ghost use Rattle.std.specs.Prelude.{◌≡◌, ◌<◌, ◌≤◌, ℕ, Bool, List, length, map, All, IfOk};
 ghost use Rattle.fd_language.specs.declared.TheConstants.{INFINITY as TOP};
-ghost use Rattle.fd_model.specs.Goal.{Event};
+ghost use Rattle.fd_model.specs.Goal.{Event, Program as AnyProgram};
 ghost use Rattle.fd_model.specs.Run.{IsLimit};
 ghost use Rattle.fd_model.specs.Lines.{event_bytes, events_bytes};
 ghost use Rattle.machine_events.specs.Events.{HasTerms, event_of};
-ghost use Rattle.fd_model.specs.Output.{Queries, VerdictOutput, is_stop};
+ghost use Rattle.fd_model.specs.Output.{Queries, VerdictOutput, is_stop, stop_status};
 ghost use Rattle.term_pool.specs.Contents.{atom_name};
 ghost use Rattle.clause_check.specs.Programs.{program_in};
 ghost use Rattle.code_machine.specs.States.{StandsFor, names_of};
 ghost use Rattle.byte_ports.specs.Ends.{sink_at};
-ghost use Rattle.text_output.specs.Endings.{Ending, IsEnding, IsRunBy, Wrote};
+ghost use Rattle.text_output.specs.Endings.{limits_of, Ending, HasLast, IsEnding, IsRunBy, LastBy, RunsProgram, Wrote};
 ghost use Rattle.text_verdict.specs.Verdicts.{verdict_of, HasNames};
 
 use crate::fault::Fault;
@@ -111,6 +111,10 @@ fn put_events<A: Agenda + Drop, K: Sink>(
         (K.faults sink.new)) result (events_bytes es) }
     ensures stopped { (es : List Event) (r : ℕ) → StandsFor machine.old es r → IfOk result
         (λ stopped. stopped ≡ is_stop es) }
+    ensures front { (out : List ℕ) × Wrote (sink_at (K.written sink.old) (K.faults sink.old))
+        (sink_at (K.written sink.new) (K.faults sink.new)) result out }
+    ensures last { IfOk result
+        (LastBy machine.old.area machine.old.query machine.old.limits) }
 {
     'events: loop {
         let event = machine.next()?;
@@ -139,6 +143,9 @@ fn put_run<A: Agenda + Drop, K: Sink>(
     ensures stopped { (es : List Event) (r : ℕ)
         → IsRunBy options.infinity code.now.value query options.steps options.answers es r
         → IfOk result (λ stopped. stopped ≡ is_stop es) }
+    ensures front { (out : List ℕ) × Wrote (sink_at (K.written sink.old) (K.faults sink.old))
+        (sink_at (K.written sink.new) (K.faults sink.new)) result out }
+    ensures last { IfOk result (LastBy code.now.value query (limits_of options)) }
 {
     let limits = Limits {
         steps: options.steps,
@@ -174,6 +181,9 @@ fn put_query<K: Sink>(
     ensures stopped { (es : List Event) (r : ℕ)
         → IsRunBy options.infinity code.now.value query options.steps options.answers es r
         → IfOk result (λ stopped. stopped ≡ is_stop es) }
+    ensures front { (out : List ℕ) × Wrote (sink_at (K.written sink.old) (K.faults sink.old))
+        (sink_at (K.written sink.new) (K.faults sink.new)) result out }
+    ensures last { IfOk result (LastBy code.now.value query (limits_of options)) }
 {
     match options.agenda {
         AgendaName::Fifo => put_run(alloc, code, query, options, Fifo::new(alloc), sink),
@@ -181,28 +191,27 @@ fn put_query<K: Sink>(
     }
 }
 
-/// Writes the lines of a program's queries, and tells whether one of them was stopped.
-fn put_program<K: Sink>(
+/// Writes the lines of the queries of code, and tells whether one of them was stopped.
+fn put_queries<K: Sink>(
     alloc: Global,
-    program: Program,
+    code: CodeArea,
     options: Options,
     sink: &mut K,
 ) -> Result<bool, Fault>
     requires limit { IsLimit options.answers }
     requires infinity { (1 ≤ options.infinity) × (options.infinity ≤ TOP) }
-    ensures wrote { (out : List ℕ) (stop : Bool)
-        → Queries TOP options.infinity (program_in program) options.steps options.answers 1
-        (program_in program).queries out stop
+    ensures wrote { (prog : AnyProgram) (out : List ℕ) (stop : Bool) → RunsProgram code prog
+        → Queries TOP options.infinity prog options.steps options.answers 1 prog.queries out stop
         → Wrote (sink_at (K.written sink.old) (K.faults sink.old)) (sink_at (K.written sink.new)
         (K.faults sink.new)) result out }
-    ensures stopped { (out : List ℕ) (stop : Bool)
-        → Queries TOP options.infinity (program_in program) options.steps options.answers 1
-        (program_in program).queries out stop
+    ensures stopped { (prog : AnyProgram) (out : List ℕ) (stop : Bool) → RunsProgram code prog
+        → Queries TOP options.infinity prog options.steps options.answers 1 prog.queries out stop
         → IfOk result (λ stopped. stopped ≡ stop) }
+    ensures front { (out : List ℕ) × Wrote (sink_at (K.written sink.old) (K.faults sink.old))
+        (sink_at (K.written sink.new) (K.faults sink.new)) result out }
+    ensures last { IfOk result (HasLast code (limits_of options)) }
 {
-    program.known();
-    let count = program.queries();
-    let code = compile(alloc, program)?;
+    let count = code.queries();
     let shared = Rc::new(alloc, code)?;
     let mut stopped = false;
     for query in 0..count {
@@ -212,6 +221,50 @@ fn put_program<K: Sink>(
         }
     }
     Ok(stopped)
+}
+
+/// Writes the output of the queries of code with these options, and gives its status. Where the code stands for a program, that is the
+/// output of the program's queries.
+pub fn answer_code<K: Sink>(alloc: Global, code: CodeArea, options: Options, sink: &mut K) -> Status
+    requires limit { IsLimit options.answers }
+    requires infinity { (1 ≤ options.infinity) × (options.infinity ≤ TOP) }
+    ensures output { (prog : AnyProgram) (out : List ℕ) (stop : Bool) → RunsProgram code prog
+        → Queries TOP options.infinity prog options.steps options.answers 1 prog.queries out stop
+        → Ending (sink_at (K.written sink.old) (K.faults sink.old)) (sink_at (K.written sink.new)
+        (K.faults sink.new)) result (stop_status stop) out }
+    ensures front { (out : List ℕ) × (stop : Bool)
+        × Ending (sink_at (K.written sink.old) (K.faults sink.old)) (sink_at (K.written sink.new)
+        (K.faults sink.new)) result (stop_status stop) out }
+    ensures last { (stop : Bool) → result ≡ stop_status stop
+        → HasLast code (limits_of options) stop }
+{
+    match put_queries(alloc, code, options, sink) {
+        Ok(true) => Status::Stopped,
+        Ok(false) => Status::Done,
+        Err(fault) => fault.status(),
+    }
+}
+
+/// Writes the output of a program's queries, and gives its status.
+fn answer_program<K: Sink>(
+    alloc: Global,
+    program: Program,
+    options: Options,
+    sink: &mut K,
+) -> Status
+    requires limit { IsLimit options.answers }
+    requires infinity { (1 ≤ options.infinity) × (options.infinity ≤ TOP) }
+    ensures { (out : List ℕ) (stop : Bool)
+        → Queries TOP options.infinity (program_in program) options.steps options.answers 1
+        (program_in program).queries out stop
+        → Ending (sink_at (K.written sink.old) (K.faults sink.old)) (sink_at (K.written sink.new)
+        (K.faults sink.new)) result (stop_status stop) out }
+{
+    program.known();
+    match compile(alloc, program) {
+        Ok(code) => answer_code(alloc, code, options, sink),
+        Err(NoMemory) => Status::NoMemory,
+    }
 }
 
 /// Writes the output of a text with this verdict, and gives its status.
@@ -225,11 +278,7 @@ fn put_output<K: Sink>(alloc: Global, verdict: Verdict, options: Options, sink: 
         (K.faults sink.new)) result st out }
 {
     match verdict {
-        Verdict::Accepted(program) => match put_program(alloc, program, options, sink) {
-            Ok(true) => Status::Stopped,
-            Ok(false) => Status::Done,
-            Err(fault) => fault.status(),
-        },
+        Verdict::Accepted(program) => answer_program(alloc, program, options, sink),
         Verdict::Refused {
             place,
             reason,

@@ -5,10 +5,14 @@ use Rattle.fd_model.specs.Lines.{event_bytes, events_bytes}
 use Rattle.fd_model.specs.Output.{is_stop}
 use Rattle.machine_relation.specs.Next.{is_final}
 use Rattle.term_pool.specs.Contents.{atom_name}
+use Rattle.machine_events.specs.declared.Limits.{Limits}
 use Rattle.machine_events.specs.Events.{event_of}
+use Rattle.code_machine.specs.Instructions.{HasGoal}
 use Rattle.code_machine.specs.States.{names_of, StandsFor}
 use Rattle.byte_ports.specs.Ends.{SinkState, sink_at, WroteAll}
-use Rattle.text_output.specs.Endings.{IsEnding}
+use Rattle.text_output.specs.Endings.{EndsBy, IsEnding}
+use Rattle.byte_ports.proofs.Lemmas.{wrote_nothing}
+use Rattle.text_output.proofs.PieceWrites.{some_cut, some_short, some_more}
 use Rattle.text_output.proofs.Events.{same_names, remain_all, remain_short, remain_cut, remain_more, remain_none, no_ending}
 use Rattle.text_output.proofs.writing.put_events.Given.{Over}
 use Rattle.text_output.proofs.writing.put_events.Goals.{After-put_event}
@@ -33,7 +37,7 @@ all_written g c es r h final w =
     final (c.events.invariant.remain es r h) c.in_ok-event.ensures.last (line_is g c) w
 
 pub events-init : goal.events-init
-events-init g c = record { area = refl; query = refl; remain = λ es r h. remain_all c.args.machine.now (sink_at (g.K.Sink.written c.args.sink.now) (g.K.Sink.faults c.args.sink.now)) es r h }
+events-init g c = record { area = refl; query = refl; limits = refl; front = ([], wrote_nothing _); remain = λ es r h. remain_all c.args.machine.now (sink_at (g.K.Sink.written c.args.sink.now) (g.K.Sink.faults c.args.sink.now)) es r h }
 
 pub returns-in_err-event-clause-wrote : goal.returns-in_err-event-clause-wrote
 returns-in_err-event-clause-wrote g c = λ es r h.
@@ -58,6 +62,8 @@ events-preserved g c =
     record {
       area = c.in_ok-event.ensures.same.0 ∙ c.events.invariant.area;
       query = c.in_ok-event.ensures.same.1 ∙ c.events.invariant.query;
+      limits = c.in_ok-event.ensures.same.2 ∙ c.events.invariant.limits;
+      front = some_more old now new (event_bytes (event_of (map (atom_name c.args.pool.now) c.args.names.now) c.in_ok-event.event)) c.events.invariant.front c.in_ok-stopped.ensures.wrote;
       remain = λ es r h. remain_more c.events.machine c.next.new.self old now new es r (names_of c.events.machine) c.in_ok-event.event (event_bytes (event_of (map (atom_name c.args.pool.now) c.args.names.now) c.in_ok-event.event)) more
           (c.events.invariant.remain es r h) c.in_ok-event.ensures.next (line_is g (goal.at.events-preserved g c).After-put_event) c.in_ok-stopped.ensures.wrote;
     }
@@ -74,3 +80,43 @@ pub returns-in-Some-clause-stopped : goal.returns-in-Some-clause-stopped
 returns-in-Some-clause-stopped g c = λ es r h.
     let ending = subst (IsEnding c.in_ok-event.event) c.in-Some.is c.in_ok-stopped.ensures.ending in
     ending.1 ∙ sym (all_written g (goal.at.returns-in-Some-clause-stopped g c).After-put_event es r h ending.0 c.in_ok-stopped.ensures.wrote).1
+
+-- whatever the machine stands for
+
+pub returns-in_err-event-clause-front : goal.returns-in_err-event-clause-front
+returns-in_err-event-clause-front g c =
+    let old : SinkState = sink_at (g.K.Sink.written c.args.sink.now) (g.K.Sink.faults c.args.sink.now) in
+    let now : SinkState = sink_at (g.K.Sink.written c.events.sink) (g.K.Sink.faults c.events.sink) in
+    some_short old now c.from_residual.result (search rules) c.events.invariant.front
+
+pub returns-in_err-stopped-clause-front : goal.returns-in_err-stopped-clause-front
+returns-in_err-stopped-clause-front g c =
+    let old : SinkState = sink_at (g.K.Sink.written c.args.sink.now) (g.K.Sink.faults c.args.sink.now) in
+    let now : SinkState = sink_at (g.K.Sink.written c.events.sink) (g.K.Sink.faults c.events.sink) in
+    let new : SinkState = sink_at (g.K.Sink.written c.put_event.new.sink) (g.K.Sink.faults c.put_event.new.sink) in
+    some_cut old now new c.from_residual-in_err-stopped.result c.in_err-stopped.field-0.0 (event_bytes (event_of (map (atom_name c.args.pool.now) c.args.names.now) c.in_ok-event.event)) (search (c.from_residual-in_err-stopped.ensures, rules))
+    c.events.invariant.front c.in_err-stopped.ensures.wrote
+
+pub returns-in-Some-clause-front : goal.returns-in-Some-clause-front
+returns-in-Some-clause-front g c =
+    let old : SinkState = sink_at (g.K.Sink.written c.args.sink.now) (g.K.Sink.faults c.args.sink.now) in
+    let now : SinkState = sink_at (g.K.Sink.written c.events.sink) (g.K.Sink.faults c.events.sink) in
+    let new : SinkState = sink_at (g.K.Sink.written c.put_event.new.sink) (g.K.Sink.faults c.put_event.new.sink) in
+    some_more old now new (event_bytes (event_of (map (atom_name c.args.pool.now) c.args.names.now) c.in_ok-event.event)) c.events.invariant.front c.in_ok-stopped.ensures.wrote
+
+pub returns-in-Some-clause-last : goal.returns-in-Some-clause-last
+returns-in-Some-clause-last g c =
+    let ending = subst (IsEnding c.in_ok-event.event) c.in-Some.is c.in_ok-stopped.ensures.ending in
+    let next = c.in_ok-event.ensures in
+    let area = next.same.0 ∙ c.events.invariant.area in
+    let limits = next.same.2 ∙ c.events.invariant.limits in
+    let machine = c.args.machine.now in
+    let ends : EndsBy machine.area machine.query machine.limits c.in_ok-event.event =
+    record {
+      machine = c.next.new.self;
+      own = (area, next.same.1 ∙ c.events.invariant.query, limits);
+      stage = next.stage ending.0;
+      budget = λ e. next.budget e ∙ ap (λ (l : Limits). l.steps) limits;
+      limit = λ e. sym (ap (λ (l : Limits). l.answers) limits) ∙ next.limit e;
+      goals = λ h. subst HasGoal area (next.goals h);
+    } in (c.in_ok-event.event, ends, ending.1)

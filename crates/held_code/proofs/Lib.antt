@@ -1,0 +1,3 @@
+mod Renaming
+mod EachOne
+mod Sizes

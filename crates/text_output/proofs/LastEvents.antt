@@ -1,0 +1,58 @@
+-- The last events of queries, one after another.
+use Rattle.std.proofs.Common.{◌≡◌, ◌⊎◌, ℕ, ◌+◌, Bool, true, false, List, [], ◌∷◌, ◌++◌, length, slice_get, Some, refl, ap, sym, ◌∙◌, subst, inl, inr, length-append}
+use Rattle.std.specs.Prelude.{◌||◌, Result, IfOk}
+use Rattle.std.specs.List.{list_any}
+use Rattle.std.proofs.lemmas.List.Folds.{list_any-append}
+use Rattle.fd_model.specs.Output.{or_stop}
+use Rattle.term_pool.proofs.Lemmas.{pushed_at}
+use Rattle.machine_events.specs.declared.Limits.{Limits}
+use Rattle.machine_events.specs.declared.MachineEvent.{MachineEvent}
+use Rattle.wam_code.specs.Area.{Area}
+use Rattle.text_output.specs.declared.fault.Fault.{Fault}
+use Rattle.text_output.specs.Endings.{AreLast, EndsBy, HasLast, LastBy, stops}
+
+-- those of the first queries, so many of them
+pub record AreSome (area : Area) (limits : Limits) (count : ℕ) (stop : Bool) : Type 0 where
+  pub events : List MachineEvent
+  pub all : length events ≡ count
+  pub last : AreLast area limits events stop
+
+pub none_yet : (area : Area) (limits : Limits) → AreSome area limits 0 false
+none_yet area limits = record { events = []; all = refl; last = record { each = λ k e there. absurd (cc (there)); is = refl } }
+
+or_none : (b : Bool) → (b || false) ≡ b
+or_none true = refl
+or_none false = refl
+
+-- the next query has ended
+one_more : (area : Area) (limits : Limits) (count : ℕ) (before here now : Bool) (e : MachineEvent) → AreSome area limits count before → EndsBy area count limits e → here ≡ stops e → now ≡ (before || here) → AreSome area limits (count + 1) now
+one_more area limits count before here now e some ends is joined = record {
+  events = some.events ++ e ∷ [];
+  all = length-append some.events (e ∷ []) ∙ ap (λ (n : ℕ). n + 1) some.all;
+  last = record {
+    each = λ k x there. each k x (pushed_at some.events e x k there);
+    is = joined ∙ ap (λ (b : Bool). b || here) some.last.is ∙ ap (λ (b : Bool). list_any stops some.events || b) (is ∙ sym (or_none (stops e))) ∙ sym (list_any-append stops some.events (e ∷ []));
+  };
+}
+  where
+    each : (k : ℕ) (x : MachineEvent) → (slice_get some.events k ≡ Some x) ⊎ ((length some.events ≡ k) × (e ≡ x)) → EndsBy area k limits x
+    each k x (inl there) = some.last.each k x there
+    each k x (inr there) = subst (λ (y : MachineEvent). EndsBy area k limits y) there.1 (subst (λ (n : ℕ). EndsBy area n limits e) (sym some.all ∙ there.0) ends)
+
+or_same : (a b : Bool) → or_stop a b ≡ (a || b)
+or_same true b = refl
+or_same false b = refl
+
+-- the next query has ended, which runs over the same code
+pub next_last : (area shared : Area) → shared ≡ area → (limits : Limits) (count : ℕ) (before here now : Bool) → AreSome area limits count before → LastBy shared count limits here → now ≡ or_stop before here → AreSome area limits (count + 1) now
+next_last area shared same limits count before here now some last joined =
+    one_more area limits count before here now last.0 some (subst (λ (a : Area). EndsBy a count limits last.0) same last.1) last.2 (joined ∙ or_same before here)
+
+-- all queries have ended
+pub all_last : (area : Area) (limits : Limits) (count : ℕ) (stop : Bool) → count ≡ length area.queries → AreSome area limits count stop → HasLast area limits stop
+all_last area limits count stop e some = (some.events, some.all ∙ e, some.last)
+
+-- the same, told of what is equal
+pub last_same : (r : Result Bool Fault) (a b : Area) (m n : ℕ) (k l : Limits) → a ≡ b → m ≡ n → k ≡ l → IfOk r (LastBy a m k) → IfOk r (LastBy b n l)
+last_same r a b m n k l e f g h =
+    subst (λ (x : Area). IfOk r (LastBy x n l)) e (subst (λ (x : ℕ). IfOk r (LastBy a x l)) f (subst (λ (x : Limits). IfOk r (LastBy a m x)) g h))
