@@ -121,11 +121,11 @@ impl Reason {
             Reason::StringOut =>
                 "Texts in double quotes aren't part of the language; a name may stand in single quotes.",
             Reason::Syntax =>
-                "Behind a term this place wants an operator, a comma, a closing bracket or the full stop, and elsewhere a term.",
+                "Behind a whole term (a name, a variable, a number, closed brackets) this place wants an operator, a comma, a bar, a closing bracket or the full stop, and elsewhere a term. Often a comma or the full stop is missing just before it.",
             Reason::TooDeep => "At most 1000 brackets may be open at once.",
             Reason::ArityOver255 => "A compound term has at most 255 arguments.",
             Reason::BadHead =>
-                "The head of a clause is a name or a name with arguments; a sentence that begins with :- is a directive, and there are none.",
+                "A clause begins with a name, or with a name and its arguments. A sentence that begins with :- is a directive, and there are none: leave out what loads a library, and ask a query with ?-.",
             Reason::Redefines => "A clause can't redefine a form of the language.",
             Reason::BadGoal =>
                 "A goal is a name or a name with arguments, and no variable, number or list; that of fd_minimize and fd_maximize is a labelling.",

@@ -68,7 +68,7 @@ fn a_wide_character_moves_the_caret_by_two(rt: HostRuntime) -> Result<(), Fail> 
         rt.alloc(),
         "'漢' :- $.",
         "refused at 9: syntax",
-        "t.pl:1:8: syntax\n'漢' :- $.\n        ^\nBehind a term this place wants an operator, a comma, a closing bracket or the full stop, and elsewhere a term.\n",
+        "t.pl:1:8: syntax\n'漢' :- $.\n        ^\nBehind a whole term (a name, a variable, a number, closed brackets) this place wants an operator, a comma, a bar, a closing bracket or the full stop, and elsewhere a term. Often a comma or the full stop is missing just before it.\n",
         Status::Refused,
     )
 }
@@ -76,7 +76,7 @@ fn a_wide_character_moves_the_caret_by_two(rt: HostRuntime) -> Result<(), Fail> 
 #[test]
 fn a_place_at_the_end_is_behind_the_last_line(rt: HostRuntime) -> Result<(), Fail> {
     let sentence =
-        "Behind a term this place wants an operator, a comma, a closing bracket or the full stop, and elsewhere a term.";
+        "Behind a whole term (a name, a variable, a number, closed brackets) this place wants an operator, a comma, a bar, a closing bracket or the full stop, and elsewhere a term. Often a comma or the full stop is missing just before it.";
     let output = format!(in rt.alloc(); "t.pl:2:1: syntax\n\n^\n{sentence}\n")?;
     gives(
         &rt,

@@ -1,0 +1,12 @@
+mod TermShapes
+mod Meeting
+mod Adding
+mod RunSteps
+mod Functors
+mod Collecting
+mod Calling
+mod Edging
+mod Reaching
+mod Reached
+mod Telling
+mod Sorting

@@ -1,0 +1,6 @@
+use Rattle.std.proofs.Common.{take}
+use Rattle.text_warnings.proofs.Collecting.{HasCollected}
+use Rattle.text_warnings.proofs.predicates.collect.Given as goal
+
+abbrev pub invariant-loop-clause : goal.invariant-loop-clause
+invariant-loop-clause l = HasCollected (take l.clause-index l.clauses) l.functors.keys l.first.items l.before l.initial.warnings.items l.warnings.items

@@ -1,0 +1,34 @@
+//! What a text is warned of: variables that occur once, clauses of one predicate that don't stand together, predicates that no query
+//! reaches.
+#![tactic(auto)]
+
+mod calls;
+mod clauses;
+mod predicates;
+mod reach;
+mod singles;
+mod terms;
+mod unreached;
+mod warnings;
+
+pub use crate::terms::Functor;
+pub use crate::warnings::warnings_of;
+use term_pool::AtomId;
+
+/// What a warning says.
+#[derive(Clone, Copy)]
+pub enum Concern {
+    /// The variable of this name occurs once in its clause.
+    Single(AtomId),
+    /// The clauses of this predicate don't stand together.
+    Apart(Functor),
+    /// No query reaches this predicate.
+    Unreached(Functor),
+}
+
+/// A warning, and its place in the text, in bytes.
+#[derive(Clone, Copy)]
+pub struct Warning {
+    pub place: usize,
+    pub concern: Concern,
+}

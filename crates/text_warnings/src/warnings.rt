@@ -1,0 +1,40 @@
+//! All warnings of a text.
+
+ghost use Rattle.std.specs.Prelude.{map, All, IfOk, OnOk};
+ghost use Rattle.term_reader.specs.Sentences.{sentences_of, AreOwn};
+ghost use Rattle.text_warnings.specs.Seen.{warning_in, AddsAll, IsWarningWithin};
+ghost use Rattle.text_warnings.specs.Warnings.{AreWarnings};
+
+use crate::Warning;
+use crate::singles::put_singles;
+use crate::unreached::put_predicates;
+use fd_language::NoMemory;
+use std::alloc::Global;
+use term_reader::Sentences;
+
+/// Warns of all, each kind in the order of the text.
+fn put_all(
+    alloc: Global,
+    sentences: &Sentences,
+    warnings: &mut Vec<Warning>,
+) -> Result<(), NoMemory>
+    requires { AreOwn sentences.now }
+    ensures { OnOk result (AddsAll sentences.now warnings.old.items warnings.new.items) }
+{
+    put_singles(alloc, sentences, warnings)?;
+    put_predicates(alloc, sentences, warnings)
+}
+
+/// The warnings of a text, in the order of their places. Of two at one place a variable that occurs once comes first, then clauses
+/// that don't stand together, then a predicate that isn't reached. The error is want of memory.
+pub fn warnings_of(alloc: Global, sentences: &Sentences) -> Result<Vec<Warning>, NoMemory>
+    requires { AreOwn sentences.now }
+    ensures warnings { IfOk result (λ ws. AreWarnings (sentences_of sentences.now)
+        (map (warning_in sentences.now.pool) ws.items)) }
+    ensures own { IfOk result (λ ws. All (IsWarningWithin sentences.now.pool) ws.items) }
+{
+    let mut warnings = Vec::new(alloc);
+    put_all(alloc, sentences, &mut warnings)?;
+    warnings.sort_by_key(|warning| warning.place)?;
+    Ok(warnings)
+}
