@@ -5,4 +5,6 @@ mod Pieces
 mod LineSteps
 mod Feeding
 mod Telling
+mod LineNumbers
+mod WarnedText
 mod Runs

@@ -83,6 +83,7 @@ CopyEnds text old new result = MatchResult result (Copied text old new) (CutShor
 
 abbrev pub status_number : Status → ℕ
 status_number status.Done = 0
+status_number status.Warned = 1
 status_number status.Usage = 2
 status_number status.Refused = 3
 status_number status.Unreadable = 4

@@ -1,12 +1,14 @@
 -- The headline: what a run writes, how it ends, and what stays as it was.
-use Rattle.std.specs.Prelude.{◌≡◌, ◌<◌, ◌≤◌, ◌⊎◌, ℕ, Bool, true, false, List, ◌++◌, Option, Some, IsSome, codes, string_bytes}
+use Rattle.std.specs.Prelude.{◌≡◌, ◌<◌, ◌≤◌, ◌⊎◌, ℕ, Bool, true, false, List, [], ◌++◌, Option, Some, IsSome, codes, string_bytes}
 use Rattle.byte_ports.specs.Ports.{Put, PutPart, Rose, Took, IsAtEnd}
 use Rattle.clpwhere.specs.declared.outcome.Status.{Status}
-use Rattle.clpwhere.specs.declared.outcome.Status.TheVariants.{Done, Usage, Refused, Unreadable, ReadFault, WriteFault, NoMemory}
+use Rattle.clpwhere.specs.declared.outcome.Status.TheVariants.{Done, Usage, Refused, Unreadable, ReadFault, WriteFault, NoMemory, Warned}
 use Rattle.clpwhere.specs.declared.command.Asked.{Asked}
 use Rattle.clpwhere.specs.declared.command.Asked.TheVariants as asked
 use Rattle.clpwhere.specs.MarkedLines.{marked, is_refused}
-use Rattle.byte_ports.specs.Ends.{Ends}
+use Rattle.clpwhere.specs.Parts.{TextParts}
+use Rattle.clpwhere.specs.WarnedLines.{IsWarned}
+use Rattle.byte_ports.specs.Ends.{Ends, SinkState, WroteAll, WroteFront}
 
 -- the statuses of an output
 abbrev pub IsDecided : Status → Type 0
@@ -14,12 +16,13 @@ IsDecided Done = Unit {0}
 IsDecided Usage = Unit {0}
 IsDecided Refused = Unit {0}
 IsDecided Unreadable = Unit {0}
+IsDecided Warned = Unit {0}
 IsDecided ReadFault = ⊥
 IsDecided WriteFault = ⊥
 IsDecided NoMemory = ⊥
 
 abbrev pub usage : List ℕ
-usage = codes "usage: clpwhere FILE\n"
+usage = codes "usage: clpwhere [--warn] FILE\n"
 
 abbrev pub unreadable : List ℕ → List ℕ
 unreadable name = name ++ codes " can't be read\n"
@@ -75,3 +78,14 @@ pub record Headline (a : Asked) (old new : Ends) (result : Status) : Type 0 wher
 abbrev pub NeedsNoInput : Asked → Type 0
 NeedsNoInput (asked.Text text) = ⊥
 NeedsNoInput _ = Unit {0}
+
+-- the output was written whole, or a front of it with a write fault that was counted
+abbrev pub WroteOutput : SinkState → SinkState → Status → Status → List ℕ → Type 0
+WroteOutput old new result status out = ((result ≡ status) × WroteAll old new out) ⊎ ((result ≡ WriteFault) × WroteFront old new out)
+
+-- How a run ends that looks a text through for warnings: the output of the text was written whole, or a front of it with a write fault that was counted. For want of memory nothing was written.
+abbrev pub WarnEnds : TextParts → SinkState → SinkState → Status → Type 0
+WarnEnds text old new result =
+    ((out : List ℕ) × (status : Status) × IsWarned text out status
+    × WroteOutput old new result status out)
+    ⊎ ((result ≡ NoMemory) × WroteAll old new [])

@@ -4,6 +4,8 @@ pub mod Places
 pub mod Reasons
 pub mod Refusals
 pub mod MarkedLines
+pub mod WarnedLines
+pub mod Faults
 pub mod Endings
 pub mod Words
 pub mod Headline

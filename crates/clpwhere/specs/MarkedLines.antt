@@ -8,12 +8,12 @@ use Rattle.clpwhere.specs.Places.{line_number, column_number, before_place, char
 use Rattle.clpwhere.specs.Reasons.{reason_sentence}
 use Rattle.clpwhere.specs.Refusals.{Refusal, refusal_of}
 
--- the refusal with its line and its column
-abbrev pub place_line : TextParts → Refusal → List ℕ
-place_line text r =
-    text.name ++ (codes ":" ++ (decimal (line_number text.bytes r.place)
-    ++ (codes ":" ++ (decimal (column_number text.bytes r.place)
-    ++ (codes ": " ++ (r.words ++ codes "\n"))))))
+-- words with the line and the column of a place
+abbrev pub place_line : TextParts → ℕ → List ℕ → List ℕ
+place_line text place words =
+    text.name ++ (codes ":" ++ (decimal (line_number text.bytes place)
+    ++ (codes ":" ++ (decimal (column_number text.bytes place)
+    ++ (codes ": " ++ (words ++ codes "\n"))))))
 
 -- the line of the text, and a caret under the place
 abbrev pub caret_lines : List ℕ → List ℕ → List ℕ
@@ -23,8 +23,12 @@ abbrev pub shown_lines : List ℕ → ℕ → List ℕ
 shown_lines bytes place =
     caret_lines (shown_before (characters (before_place bytes place))) (shown_from (characters (from_place bytes place)))
 
+-- words at a place, shown and explained, in four lines
+abbrev pub told_at : TextParts → ℕ → List ℕ → List ℕ → List ℕ
+told_at text place words sentence = place_line text place words ++ (shown_lines text.bytes place ++ (sentence ++ codes "\n"))
+
 abbrev pub explained : TextParts → Refusal → List ℕ
-explained text r = place_line text r ++ (shown_lines text.bytes r.place ++ (reason_sentence r.reason ++ codes "\n"))
+explained text r = told_at text r.place r.words (reason_sentence r.reason)
 
 -- a line that tells a refusal is explained, and any other stays as it is
 abbrev pub marked_line : TextParts → List ℕ → List ℕ

@@ -3,8 +3,8 @@
 ghost use Rattle.std.specs.Prelude.{◌≡◌, ◌++◌, IfOk, OnOk, string_bytes};
 ghost use Rattle.byte_ports.specs.Ends.{sink_at};
 ghost use Rattle.clpwhere.specs.Endings.{Wrote};
-ghost use Rattle.clpwhere.specs.MarkedLines.{caret_lines, explained, is_refusal, marked_line, place_line};
-ghost use Rattle.clpwhere.specs.Places.{characters, column_number, cut_mark, shown_before, shown_character, shown_characters, shown_from};
+ghost use Rattle.clpwhere.specs.MarkedLines.{caret_lines, explained, is_refusal, marked_line, place_line, told_at};
+ghost use Rattle.clpwhere.specs.Places.{characters, column_number, cut_mark, line_number, shown_before, shown_character, shown_characters, shown_from};
 ghost use Rattle.clpwhere.specs.Refusals.{seen};
 
 use crate::outcome::Fault;
@@ -48,7 +48,7 @@ fn put_shown(shown: &mut String, characters: &[char]) -> Result<(), NoMemory>
 }
 
 /// Bytes as characters; each sequence that isn't UTF-8 is the one character U+FFFD.
-fn characters(alloc: Global, bytes: &[u8]) -> Result<Vec<char>, NoMemory>
+pub(crate) fn characters(alloc: Global, bytes: &[u8]) -> Result<Vec<char>, NoMemory>
     ensures { IfOk result (λ cs. cs.items ≡ characters bytes.now) }
 {
     let text = String::from_utf8_lossy(alloc, bytes)?;
@@ -97,21 +97,43 @@ fn put_shown_lines(
     Ok(())
 }
 
-/// The line that tells a refusal with its line and its column in the text.
-fn place_line(
+/// Words with the line and the column of a place.
+pub(crate) fn place_line(
     alloc: Global,
     text: &NamedText,
-    refusal: &Refusal<'_>,
+    place: usize,
+    line: usize,
     column: usize,
+    words: &[u8],
 ) -> Result<Vec<u8>, NoMemory>
-    requires { column ≡ column_number text.now.bytes refusal.now.place }
-    ensures { IfOk result (λ out. out.items ≡ place_line text.now (seen refusal.now)) }
+    requires line { line ≡ line_number text.now.bytes place }
+    requires column { column ≡ column_number text.now.bytes place }
+    ensures { IfOk result (λ out. out.items ≡ place_line text.now place words.now) }
 {
     let name = text.name();
-    let line = text.line(refusal.place);
     let head = format!(in alloc; "{name}:{line}:{column}: ")?;
     let mut out = Vec::from_slice(alloc, head.as_bytes())?;
-    out.extend_from_slice(refusal.words)?;
+    out.extend_from_slice(words)?;
+    out.extend_from_slice(b"\n")?;
+    Ok(out)
+}
+
+/// Words at a place with its line, shown and explained by a sentence, in four lines.
+pub(crate) fn told_at(
+    alloc: Global,
+    text: &NamedText,
+    place: usize,
+    line: usize,
+    words: &[u8],
+    sentence: &str,
+) -> Result<Vec<u8>, NoMemory>
+    requires { line ≡ line_number text.now.bytes place }
+    ensures { IfOk result (λ out. out.items ≡ told_at text.now place words.now sentence.now) }
+{
+    let before = characters(alloc, text.before_place(place))?;
+    let mut out = place_line(alloc, text, place, line, 1 + before.len(), words)?;
+    put_shown_lines(alloc, &mut out, &before, text.from_place(place))?;
+    out.extend_from_slice(sentence.as_bytes())?;
     out.extend_from_slice(b"\n")?;
     Ok(out)
 }
@@ -120,12 +142,9 @@ fn place_line(
 fn explained(alloc: Global, text: &NamedText, refusal: &Refusal<'_>) -> Result<Vec<u8>, NoMemory>
     ensures { IfOk result (λ out. out.items ≡ explained text.now (seen refusal.now)) }
 {
-    let before = characters(alloc, text.before_place(refusal.place))?;
-    let mut out = place_line(alloc, text, refusal, 1 + before.len())?;
-    put_shown_lines(alloc, &mut out, &before, text.from_place(refusal.place))?;
-    out.extend_from_slice(refusal.reason.sentence().as_bytes())?;
-    out.extend_from_slice(b"\n")?;
-    Ok(out)
+    let line = text.line(refusal.place);
+    let sentence = refusal.reason.sentence();
+    told_at(alloc, text, refusal.place, line, refusal.words, sentence)
 }
 
 /// Writes a piece.

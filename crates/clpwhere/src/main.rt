@@ -15,11 +15,13 @@ mod outcome;
 mod reason;
 mod refusal;
 mod text;
+mod warn;
 
-pub use crate::command::{Asked, read_asked};
+pub use crate::command::{Asked, Wanted, read_wanted};
 use crate::copy::copy_input;
 pub use crate::outcome::Status;
 pub use crate::text::NamedText;
+pub use crate::warn::warn;
 use byte_ports::{ReaderSource, Sink, Source, WriterSink, write_all};
 use fd_language::NoMemory;
 use std::alloc::Global;
@@ -60,7 +62,7 @@ pub fn run<S: Source, K: Sink>(alloc: Global, asked: &Asked, source: &mut S, sin
     ensures untouched { NeedsNoInput asked.now → source.new ≡ source.old }
 {
     match asked {
-        Asked::Usage => put_last(sink, b"usage: clpwhere FILE\n", Status::Usage),
+        Asked::Usage => put_last(sink, b"usage: clpwhere [--warn] FILE\n", Status::Usage),
         Asked::Unreadable(name) => match unreadable(alloc, name.as_str()) {
             Ok(line) => put_last(sink, line.as_bytes(), Status::Unreadable),
             Err(NoMemory) => Status::NoMemory,
@@ -96,12 +98,17 @@ fn words<R: Env + AllocGlobal>(rt: &R) -> Result<Vec<String>, NoMemory> {
 
 /// Runs over standard input and output, and ends with the status's number.
 fn main(rt: HostRuntime) -> ExitCode {
-    let Ok(asked) = words(&rt).and_then(|words| read_asked(&rt, &words)) else {
+    let Ok(wanted) = words(&rt).and_then(|words| read_wanted(&rt, &words)) else {
         return ExitCode::from(Status::NoMemory.number());
     };
-    let mut source = ReaderSource::new(rt.stdin());
     let mut sink = WriterSink::new(rt.stdout());
-    let status = run(rt.alloc(), &asked, &mut source, &mut sink);
+    let status = match wanted {
+        Wanted::Explanations(asked) => {
+            let mut source = ReaderSource::new(rt.stdin());
+            run(rt.alloc(), &asked, &mut source, &mut sink)
+        }
+        Wanted::Warnings(text) => warn(rt.alloc(), &text, &mut sink),
+    };
     ExitCode::from(status.number())
 }
 

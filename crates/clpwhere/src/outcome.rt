@@ -12,11 +12,13 @@ use thiserror::Error;
 /// How a run ended.
 #[derive(Clone, Copy, Debug, PartialEq, Eq)]
 pub enum Status {
-    /// Every line passed through.
+    /// Every line passed through, or the text has no warning.
     Done,
+    /// The text has warnings, which were written.
+    Warned,
     /// The words aren't accepted; the usage line was written.
     Usage,
-    /// The input told a refusal, which was explained.
+    /// The input told a refusal, which was explained; or a text that was to be looked through isn't read as sentences.
     Refused,
     /// The text's file can't be read; the line that says so was written.
     Unreadable,
@@ -35,6 +37,7 @@ impl Status {
     {
         match self {
             Status::Done => 0,
+            Status::Warned => 1,
             Status::Usage => 2,
             Status::Refused => 3,
             Status::Unreadable => 4,

@@ -1,6 +1,6 @@
 //! What runs write, over ends in memory.
 
-use crate::{Asked, NamedText, Status, run};
+use crate::{Asked, NamedText, Status, run, warn};
 use byte_ports::{MemorySink, MemorySource};
 use std::alloc::Global;
 use std::process::Abort;
@@ -94,4 +94,80 @@ fn a_failed_read_is_told(rt: HostRuntime) -> Result<(), Fail> {
     assert_eq!(rt; ended, Status::ReadFault);
     assert_eq!(rt; bytes.as_slice(), b"end\n".as_slice());
     Ok(())
+}
+
+/// What is written of the warnings of a text that lies in the file `t.pl`.
+fn warns(
+    rt: &impl Abort,
+    alloc: Global,
+    text: &str,
+    output: &str,
+    status: Status,
+) -> Result<(), Fail> {
+    let name = String::from_str(alloc, "t.pl")?;
+    let text = NamedText::new(name, text.as_bytes().to_vec(alloc)?);
+    let mut sink = MemorySink::new(alloc, 4000, Vec::new(alloc))?;
+    let ended = warn(alloc, &text, &mut sink);
+    assert_eq!(rt; sink.bytes(), output.as_bytes());
+    assert_eq!(rt; ended, status);
+    Ok(())
+}
+
+#[test]
+fn warnings_stand_in_the_order_of_their_places(rt: HostRuntime) -> Result<(), Fail> {
+    let once =
+        "This variable stands in no other place of its clause: is it spelled right? A name that begins with _ may occur once.";
+    let apart =
+        "This clause belongs to those of its predicate above, and clauses of other predicates stand between them.";
+    let unreached =
+        "No query of the text calls this predicate, and no clause that a query reaches does.";
+    let alloc = rt.alloc();
+    let output = format!(in alloc;
+        "t.pl:1:1: warning: no query reaches f/1\nf(X) :- g.\n^\n{unreached}\nt.pl:1:3: warning: X occurs once\nf(X) :- g.\n  ^\n{once}\nt.pl:2:1: warning: no query reaches g/0\ng.\n^\n{unreached}\nt.pl:3:1: warning: the clauses of f/1 don't stand together\nf(a).\n^\n{apart}\n"
+    )?;
+    warns(
+        &rt,
+        alloc,
+        "f(X) :- g.\ng.\nf(a).\nf(b).\n",
+        output.as_str(),
+        Status::Warned,
+    )?;
+    let chain = format!(in alloc;
+        "t.pl:2:1: warning: no query reaches q/0\nq :- r.\n^\n{unreached}\nt.pl:3:1: warning: no query reaches r/0\nr.\n^\n{unreached}\n"
+    )?;
+    warns(
+        &rt,
+        alloc,
+        "p.\nq :- r.\nr.\n?- \\+ (fail ; true -> p).",
+        chain.as_str(),
+        Status::Warned,
+    )
+}
+
+#[test]
+fn what_is_no_mistake_is_no_warning(rt: HostRuntime) -> Result<(), Fail> {
+    let alloc = rt.alloc();
+    let names = "p(_, _A, B, B).\n?- p(X, Y, Z, Z).\np(1, 2, 3, 3).\n";
+    warns(&rt, alloc, names, "", Status::Done)?;
+    let reached = "p :- q, \\+ r.\nq.\nr :- p.\nl.\n?- p, fd_minimize(l, X).\n";
+    warns(&rt, alloc, reached, "", Status::Done)?;
+    warns(&rt, alloc, "", "", Status::Done)
+}
+
+#[test]
+fn an_unread_text_has_one_line(rt: HostRuntime) -> Result<(), Fail> {
+    warns(
+        &rt,
+        rt.alloc(),
+        "p(X).\nq(.\n",
+        "t.pl:2:3: refused: syntax\n",
+        Status::Refused,
+    )?;
+    warns(
+        &rt,
+        rt.alloc(),
+        "p(\"a\").\n",
+        "t.pl:1:3: refused: string\n",
+        Status::Refused,
+    )
 }

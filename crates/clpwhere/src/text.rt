@@ -1,7 +1,8 @@
 //! A text, and the places in it.
 
-ghost use Rattle.std.specs.Prelude.{◌≡◌, ◌==◌, take, string_bytes};
+ghost use Rattle.std.specs.Prelude.{◌≡◌, ◌≤◌, ◌==◌, take, length, count_by, string_bytes};
 ghost use Rattle.std.specs.List.{after_last, before_first};
+ghost use Rattle.clpwhere.specs.Lines.{is_newline};
 ghost use Rattle.clpwhere.specs.Places.{line_number, before_place, from_place};
 
 use memchr::{memchr, memrchr};
@@ -43,6 +44,14 @@ fn behind_byte(bytes: &[u8], byte: u8) -> &[u8]
     }
 }
 
+/// How many newlines there are.
+fn newlines(bytes: &[u8]) -> usize
+    ensures value { result ≡ count_by is_newline bytes.now }
+    ensures bound { result ≤ length bytes.now }
+{
+    bytes.iter().filter(|b| **b == b'\n').count()
+}
+
 impl NamedText {
     /// A text of these bytes, from a file of this name.
     pub fn new(name: String, bytes: Vec<u8>) -> NamedText
@@ -58,6 +67,13 @@ impl NamedText {
         self.name.as_str()
     }
 
+    /// Its bytes.
+    pub fn bytes(&self) -> &[u8]
+        ensures { result.now ≡ self.now.bytes }
+    {
+        &self.bytes
+    }
+
     /// The bytes before a place; a place past the end is the end.
     fn before(&self, place: usize) -> &[u8]
         ensures { result.now ≡ take place self.now.bytes }
@@ -69,7 +85,17 @@ impl NamedText {
     pub fn line(&self, place: usize) -> usize
         ensures { result ≡ line_number self.now.bytes place }
     {
-        1 + self.before(place).iter().filter(|b| **b == b'\n').count()
+        1 + newlines(self.before(place))
+    }
+
+    /// The number of the place's line, where `line` is that of a place before it.
+    pub fn line_behind(&self, from: usize, line: usize, place: usize) -> usize
+        requires order { from ≤ place }
+        requires line { line ≡ line_number self.now.bytes from }
+        ensures { result ≡ line_number self.now.bytes place }
+    {
+        let before = self.before(place);
+        line + newlines(&before[from.min(before.len())..])
     }
 
     /// What stands in the place's line before it.
