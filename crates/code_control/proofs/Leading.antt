@@ -17,7 +17,7 @@ use Rattle.code_states.specs.declared.went.Went.TheVariants.{On, Back}
 use Rattle.code_states.proofs.Lemmas.{query_kept, place_within}
 use Rattle.code_control.specs.declared.choosing.Tried.{Tried}
 use Rattle.code_control.specs.declared.choosing.Tried.TheVariants.{Both, Last, Other}
-use Rattle.code_control.specs.Choosing.{tried_by, IsTried, IsChoice, FirstMayMatch, MayMatchFrom, IsLater, LeavesOut, Chooses}
+use Rattle.code_control.specs.Choosing.{tried_by, first_of, IsTried, IsChoice, FirstMayMatch, MayMatchFrom, IsLater, LeavesOut, Chooses}
 use Rattle.code_control.proofs.Skipping.{Place, Places, places_of, choice_of, skipped_runs, skipped_back, left_runs, alone_runs, last_runs}
 use Rattle.code_control.proofs.Threads.{left_safe}
 use Rattle.code_control.proofs.Working.{moved_falls, left_falls}
@@ -48,6 +48,12 @@ module _ (area : Area) (s : branch.State) (from : ℕ) (c : Contents) (safe : Is
 
   pub last_safe : (to : ℕ) → IsTried area at (Last to) → IsSafe area s to 0 c
   last_safe to is = safe_at area s from to c safe (led area s from c safe at later (Last to) is).0
+
+  -- so is the clause that any choice tries first
+  pub tried_safe : (t : Tried) → IsTried area at t → IsSafe area s (first_of t at) 0 c
+  tried_safe (Both to other) is = first_safe to other is
+  tried_safe (Last to) is = last_safe to is
+  tried_safe Other is = here_safe
 
   pub other_nearer : (to other : ℕ) → IsTried area at (Both to other) → distance area other < distance area at
   other_nearer to other is = (led area s from c safe at later (Both to other) is).1.1

@@ -8,3 +8,4 @@ mod Rising
 mod Needless
 mod Skipping
 mod Leading
+mod Again

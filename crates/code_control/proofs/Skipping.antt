@@ -32,7 +32,7 @@ use Rattle.code_states.specs.Stages.{KeepsRunning, GoesBack, LeavesChoice}
 use Rattle.code_states.proofs.Lemmas.{next_inside, named_inside}
 use Rattle.code_control.specs.declared.choosing.Tried.{Tried}
 use Rattle.code_control.specs.declared.choosing.Tried.TheVariants.{Both, Last, Other}
-use Rattle.code_control.specs.Choosing.{tried_by, IsRuledOut, AreGone, TriesAt, LeavesOut}
+use Rattle.code_control.specs.Choosing.{tried_by, first_of, behind_of, IsTried, IsRuledOut, AreGone, TriesAt, LeavesOut}
 use Rattle.code_control.proofs.Needless.{ruled_out_gone}
 use Rattle.code_control.proofs.Threads.{named_thread, next_thread}
 use Rattle.code_control.proofs.Working.{named_near, next_near}
@@ -246,3 +246,9 @@ leaves_here area s from at c sofar safe out = λ marks shown name e b kids namin
       none = gone_both s.infinity k.gone k.kept k.none (ruled_out_gone area s at c safe out marks shown name naming e b k.kept k.tries);
       tries = refl;
     }
+
+-- and at any place, whatever is tried there
+pub leaves_tried : (area : Area) (s : branch.State) (from at : ℕ) (c : Contents) → LeavesOut area s from c (Some at) → (t : Tried) → IsTried area at t → IsSafe area s (first_of t at) 0 c → IsRuledOut area s (first_of t at) c → LeavesOut area s from c (behind_of t)
+leaves_tried area s from at c sofar (Both to other) is safe out = leaves_more area s from at c sofar is.0 is.1 to safe out other is.2
+leaves_tried area s from at c sofar (Last to) is safe out = leaves_all area s from at c sofar is.0 is.1 to safe out is.2
+leaves_tried area s from at c sofar Other is safe out = leaves_here area s from at c sofar safe out

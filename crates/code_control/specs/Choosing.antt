@@ -54,6 +54,18 @@ IsNewChoice (step.TryMeElse other) = Unit {0}
 IsNewChoice (step.Try to) = Unit {0}
 IsNewChoice _ = ⊥
 
+-- the place of the clause that is tried first
+abbrev pub first_of : Tried → ℕ → ℕ
+first_of (tried.Both to other) at = to
+first_of (tried.Last to) at = to
+first_of tried.Other at = at
+
+-- the place of those that are tried later
+abbrev pub behind_of : Tried → Option ℕ
+behind_of (tried.Both to other) = Some other
+behind_of (tried.Last to) = None
+behind_of tried.Other = None
+
 -- ---- what a head asks for
 
 -- the instruction at a place asks for an argument with this key
@@ -61,6 +73,13 @@ abbrev pub AsksHere : Area → ℕ → ℕ → Key → Type 0
 AsksHere area at a (key.Atom c) = Holds area at (step.GetConstant c a)
 AsksHere area at a (key.Int z) = Holds area at (step.GetInteger z a)
 AsksHere area at a (key.Struct f n) = Holds area at (step.GetStructure f n a)
+
+-- the argument and the key that an instruction asks for
+abbrev pub asked_by : Code → Option (ℕ × Key)
+asked_by (step.GetConstant c a) = Some (a, key.Atom c)
+asked_by (step.GetInteger z a) = Some (a, key.Int z)
+asked_by (step.GetStructure f n a) = Some (a, key.Struct f n)
+asked_by _ = None
 
 -- So does the clause that begins at a place, first of all or right behind its frame.
 abbrev pub Asks : Area → ℕ → ℕ → Key → Type 0
@@ -96,9 +115,7 @@ MayMatchThen area s c (On to) = MayMatch area s to c
 MayMatchThen area s c Back = Unit {0}
 
 abbrev pub FirstMayMatch : Area → branch.State → ℕ → Contents → Tried → Type 0
-FirstMayMatch area s at c (tried.Both to other) = MayMatch area s to c
-FirstMayMatch area s at c (tried.Last to) = MayMatch area s to c
-FirstMayMatch area s at c tried.Other = MayMatch area s at c
+FirstMayMatch area s at c t = MayMatch area s (first_of t at) c
 
 -- The clause that is tried first at a place may match; where no choice stands there, the place is the clause's own.
 abbrev pub MayMatchFrom : Area → branch.State → ℕ → Contents → Type 0

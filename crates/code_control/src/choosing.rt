@@ -4,9 +4,10 @@ ghost use Rattle.std.specs.Prelude.{◌≡◌, ◌↔◌, ◌<◌, length, true,
 ghost use Rattle.wam_code.specs.Area.{Holds};
 ghost use Rattle.code_states.specs.Safety.{IsSafe, IsSafeThen};
 ghost use Rattle.code_states.specs.Work.{work_at, work_then};
-ghost use Rattle.code_control.specs.Choosing.{IsTried, IsChoice, IsNewChoice, AsksFirst, Meets, IsRuledOut, MayMatch, MayMatchThen, MayMatchFrom, IsLater, LeavesOut, Chooses};
+ghost use Rattle.code_control.specs.Choosing.{asked_by, first_of, IsTried, IsChoice, IsNewChoice, AsksFirst, Meets, IsRuledOut, MayMatch, MayMatchThen, MayMatchFrom, IsLater, LeavesOut, Chooses};
 
 use crate::choices::leave_choice;
+use crate::places::code_at;
 use crate::rows::is_key_of;
 use branch_state::BranchState;
 use code_areas::Areas;
@@ -28,12 +29,12 @@ pub(crate) enum Tried {
 }
 
 /// What the choice at a place tries.
-#[inline]
-fn tried_at(code: &CodeArea, at: usize) -> Tried
+#[inline(always)]
+pub(crate) fn tried_at(code: &CodeArea, at: usize) -> Tried
     requires { at < length code.now.code }
     ensures { IsTried code.now at result }
 {
-    match code.code_at(at) {
+    match *code_at(code, at) {
         Code::TryMeElse(other) | Code::RetryMeElse(other) => Tried::Both(behind(code, at), other),
         Code::Try(to) | Code::Retry(to) => Tried::Both(to, behind(code, at)),
         Code::TrustMe => Tried::Last(behind(code, at)),
@@ -42,9 +43,22 @@ fn tried_at(code: &CodeArea, at: usize) -> Tried
     }
 }
 
+/// The argument that an instruction asks for a name, a number or a structure, and the key of that, or nothing where it is another one.
+#[inline(always)]
+fn asked_by(instruction: &Code) -> Option<(usize, Key)>
+    ensures { result ≡ asked_by instruction.now }
+{
+    match *instruction {
+        Code::GetConstant(c, a) => Some((a, Key::Atom(c))),
+        Code::GetInteger(z, a) => Some((a, Key::Int(z))),
+        Code::GetStructure(f, n, a) => Some((a, Key::Struct(f, n))),
+        _ => None,
+    }
+}
+
 /// The argument that a clause's head asks first for a name, a number or a structure, and the key of that, or nothing where the head
 /// begins otherwise.
-#[inline]
+#[inline(always)]
 fn first_asked<A: Agenda + Drop>(
     code: &CodeArea,
     at: usize,
@@ -54,22 +68,15 @@ fn first_asked<A: Agenda + Drop>(
     requires { IsSafe code.now branch.now at 0 areas.now }
     ensures { AsksFirst code.now at result }
 {
-    let first = code.code_at(at);
-    let asking = if let Code::Allocate(_) = first {
-        code.code_at(behind(code, at))
-    } else {
-        first
-    };
-    match asking {
-        Code::GetConstant(c, a) => Some((a, Key::Atom(c))),
-        Code::GetInteger(z, a) => Some((a, Key::Int(z))),
-        Code::GetStructure(f, n, a) => Some((a, Key::Struct(f, n))),
-        _ => None,
+    let first = code_at(code, at);
+    match *first {
+        Code::Allocate(_) => asked_by(code_at(code, behind(code, at))),
+        _ => asked_by(first),
     }
 }
 
 /// Whether what is seen at the top of a term may be made equal to a term with the key.
-#[inline]
+#[inline(always)]
 fn meets(seen: Seen<'_>, key: Key) -> bool
     ensures { IsTrue result ↔ Meets seen.entry key }
 {
@@ -80,7 +87,7 @@ fn meets(seen: Seen<'_>, key: Key) -> bool
 }
 
 /// Whether the clause at a place can't match, by what its head asks first. No memory.
-#[inline]
+#[inline(always)]
 fn is_ruled_out<A: Agenda + Drop>(
     code: &CodeArea,
     at: usize,
@@ -97,8 +104,19 @@ fn is_ruled_out<A: Agenda + Drop>(
     }
 }
 
+/// The place of the clause that a choice at a place tries first.
+#[inline(always)]
+fn first_of(tried: Tried, at: usize) -> usize
+    ensures { result ≡ first_of tried at }
+{
+    match tried {
+        Tried::Both(to, _) | Tried::Last(to) => to,
+        Tried::Other => at,
+    }
+}
+
 /// From a place on, that of the first choice whose clause may match, or none where no clause may. No memory.
-fn next_choice<A: Agenda + Drop>(
+pub(crate) fn next_choice<A: Agenda + Drop>(
     code: &CodeArea,
     from: usize,
     branch: &BranchState<A>,
@@ -111,27 +129,14 @@ fn next_choice<A: Agenda + Drop>(
 {
     let mut at = from;
     'looking: loop {
-        match tried_at(code, at) {
-            Tried::Both(to, other) => {
-                if !is_ruled_out(code, to, branch, areas) {
-                    return Some(at);
-                }
-                at = other;
-            }
-            Tried::Last(to) => {
-                return if is_ruled_out(code, to, branch, areas) {
-                    None
-                } else {
-                    Some(at)
-                };
-            }
-            Tried::Other => {
-                return if is_ruled_out(code, at, branch, areas) {
-                    None
-                } else {
-                    Some(at)
-                };
-            }
+        let tried = tried_at(code, at);
+        if !is_ruled_out(code, first_of(tried, at), branch, areas) {
+            return Some(at);
+        }
+        match tried {
+            Tried::Both(_, other) => at = other,
+            Tried::Last(_) => return None,
+            Tried::Other => return None,
         }
     }
 }

@@ -7,6 +7,7 @@ mod choosing;
 mod cuts;
 mod frames;
 mod places;
+mod retries;
 mod rows;
 mod switches;
 
@@ -15,6 +16,7 @@ pub use crate::choices::{either, fail_now, go_back, jump};
 pub use crate::choosing::choose;
 pub use crate::cuts::{cut_to, enter_test, level, test_only};
 pub use crate::frames::{allocate, deallocate};
+pub use crate::retries::try_again;
 pub use crate::switches::{
     switch_on_constant, switch_on_integer, switch_on_structure, switch_on_term,
 };

@@ -246,7 +246,7 @@ module _ (area : Area) (query : ℕ) (s s' : branch.State) (c c' : Contents) (ls
         task = h.task;
         later = h.later;
         all = h.all;
-        stands = stands_back (task_of area h.program h.query) (lefts_by c'.points ls') es h.later w (back.runs h.program h.query (record { budget = n; answers = k; events = es; reductions = h.later }) h.stands);
+        stands = stands_back (task_of area h.program h.query) (lefts_by c'.points ls') es h.later w (back.runs h.program h.query (record { budget = n; answers = k; events = es; reductions = h.later }) h.task.naming h.stands);
       };
       falls = falls_back w back.work;
       paced = refl;

@@ -12,12 +12,13 @@ use Rattle.code_states.specs.Choices.{point_of}
 use Rattle.code_states.specs.Queries.{KeepsQuery, KeepsQueryThen}
 use Rattle.code_states.specs.Safety.{IsSafeThen}
 use Rattle.code_states.specs.Stages.{Future, RunsAt, ReturnsTo, RunsThen, LeavesChoice}
+use Rattle.code_states.specs.Standing.{IsNaming}
 use Rattle.code_states.specs.Work.{work_at, work_then}
 use Rattle.code_goals.specs.declared.labels.ValuesLeft.{ValuesLeft}
 use Rattle.code_goals.specs.declared.next.Next.{Next}
 use Rattle.code_goals.specs.declared.next.Next.TheVariants as next
 use Rattle.code_goals.specs.Taking.{IsSafeNext, RunsNext}
-use Rattle.code_goals.specs.Tasks.{task_of}
+use Rattle.code_goals.specs.Tasks.{names_of, task_of}
 use Rattle.code_goals.specs.Values.{RunsWent}
 use Rattle.code_machine.specs.declared.run.Ending.TheVariants as ending
 use Rattle.code_machine.specs.declared.run.Label.{Label}
@@ -130,7 +131,7 @@ NoMore area c ls Back w = whole_back area c ls < w
 pub record ComesBack (area : Area) (s : branch.State) (c : Contents) (ls : List Label) (s' : branch.State) (c' : Contents) (ls' : List Label) (w : Went) : Type 0 where
   pub safe : IsSafeThen area s' c' w
   pub labels : AreLabels area c'.points s'.heaps.below ls'
-  pub runs : (prog : Program) (q : Query) (f : Future) → ReturnsTo area (task_of area prog q) s c (lefts_by c.points ls) f → RunsWent area (task_of area prog q) s' c' (lefts_by c'.points ls') w f
+  pub runs : (prog : Program) (q : Query) (f : Future) → IsNaming area (names_of area) → ReturnsTo area (task_of area prog q) s c (lefts_by c.points ls) f → RunsWent area (task_of area prog q) s' c' (lefts_by c'.points ls') w f
   pub inside : (number : ℕ) → IsInside area number c Returning → IsInside area number c' (stage_of w)
   pub work : NoMore area c' ls' w (whole_back area c ls)
 

@@ -1,6 +1,6 @@
 //! The values that labellings are still to try, by their choice points.
 
-ghost use Rattle.std.specs.Prelude.{◌≡◌, reverse, OnOk};
+ghost use Rattle.std.specs.Prelude.{◌≡◌, reverse, false, None, OnOk};
 ghost use Rattle.code_machine.specs.Labels.{labels_below};
 ghost use Rattle.code_machine.specs.Steps.{labelled, TakesValues};
 
@@ -21,6 +21,17 @@ pub(crate) fn keep_values(
         labels.push(Label { point, values })?;
     }
     Ok(())
+}
+
+/// Whether the choice point with so many older ones has values.
+#[inline]
+pub(crate) fn has_values(labels: &[Label], point: usize) -> bool
+    ensures { result ≡ false → TakesValues (reverse labels.now) point (reverse labels.now) None }
+{
+    match labels.last() {
+        Some(label) => label.point == point,
+        None => false,
+    }
 }
 
 /// Takes the values of the choice point with so many older ones, if it has some.

@@ -12,12 +12,12 @@ ghost use Rattle.code_machine.specs.Instructions.{IsCall, IsOther};
 ghost use Rattle.code_machine.specs.Steps.{stage_of, ComesBack, IsTaken};
 
 use crate::goals::{take_call, take_quietly};
-use crate::labels::{keep_values, take_values};
+use crate::labels::{has_values, keep_values, take_values};
 use crate::quiet::{take_choice, take_term};
 use crate::run::{Ending, Label, Run, Stage};
 use branch_state::BranchState;
 use code_areas::Areas;
-use code_control::go_back;
+use code_control::{go_back, try_again};
 use code_goals::{Next, try_value};
 use code_states::Went;
 use fd_language::NoMemory;
@@ -212,9 +212,9 @@ fn walk_from<A: Agenda + Drop>(
     }
 }
 
-/// Goes back to the newest choice point. Where it has values of a labelling, the least of them is tried. Gives where that leads; the
-/// error is want of memory.
-fn come_back<A: Agenda + Drop>(
+/// Goes back to the newest choice point, and tries the least of the values of a labelling that it has. Gives where that leads; the error
+/// is want of memory.
+fn come_to_values<A: Agenda + Drop>(
     code: &CodeArea,
     branch: &mut BranchState<A>,
     areas: &mut Areas,
@@ -238,6 +238,28 @@ fn come_back<A: Agenda + Drop>(
             Ok(tried.went)
         }
     }
+}
+
+/// Goes back to the newest choice point. Where it has values of a labelling, the least of them is tried, and else its choice is taken.
+/// Gives where that leads; the error is want of memory.
+fn come_back<A: Agenda + Drop>(
+    code: &CodeArea,
+    branch: &mut BranchState<A>,
+    areas: &mut Areas,
+    labels: &mut Vec<Label>,
+    scratch: &mut Scratch,
+) -> Result<Went, NoMemory>
+    requires safe { IsSafeBack code.now branch.old areas.old }
+    requires labels { AreLabels code.now areas.old.points branch.old.heaps.below
+        (reverse labels.old.items) }
+    requires some { 0 < length areas.old.points }
+    ensures { IfOk result (ComesBack code.now branch.old areas.old (reverse labels.old.items)
+        branch.new areas.new (reverse labels.new.items)) }
+{
+    if has_values(labels, areas.points() - 1) {
+        return come_to_values(code, branch, areas, labels, scratch);
+    }
+    Ok(Went::On(try_again(code, branch, areas)?))
 }
 
 /// Goes back to the newest choice point of a run.

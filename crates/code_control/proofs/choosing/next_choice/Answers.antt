@@ -1,38 +1,46 @@
-use Rattle.std.proofs.Common.{refl}
-use Rattle.code_control.proofs.Leading.{later_within, here_safe, first_safe, last_safe, other_nearer, later_more}
-use Rattle.code_control.proofs.Skipping.{leaves_more, leaves_all, leaves_here}
+use Rattle.std.proofs.Common.{refl, ap, sym, subst}
+use Rattle.code_states.specs.Safety.{IsSafe}
+use Rattle.code_control.specs.Choosing.{behind_of, IsTried, IsRuledOut, LeavesOut, MayMatch}
+use Rattle.code_control.proofs.Leading.{later_within, tried_safe, other_nearer, later_more}
+use Rattle.code_control.proofs.Skipping.{leaves_tried}
 use Rattle.code_control.proofs.choosing.next_choice.Goals as goal
 
-pub tried_at-requires : goal.tried_at-requires
-tried_at-requires g c = later_within c.args.code.now c.args.branch.now c.args.from c.args.areas.now c.requires c.looking.at c.looking.invariant.1
+pub tried_at-tried-requires : goal.tried_at-tried-requires
+tried_at-tried-requires g c = later_within c.args.code.now c.args.branch.now c.args.from c.args.areas.now c.requires c.looking.at c.looking.invariant.1
 
 pub is_ruled_out-requires : goal.is_ruled_out-requires
-is_ruled_out-requires g c = first_safe c.args.code.now c.args.branch.now c.args.from c.args.areas.now c.requires c.looking.at c.looking.invariant.1 c.in-Both.to c.in-Both.other c.in-Both.ensures
-
-pub looking-smaller : goal.looking-smaller
-looking-smaller g c = other_nearer c.args.code.now c.args.branch.now c.args.from c.args.areas.now c.requires c.looking.at c.looking.invariant.1 c.in-Both.to c.in-Both.other c.in-Both.ensures
+is_ruled_out-requires g c =
+    subst (λ n. IsSafe c.args.code.now c.args.branch.now n 0 c.args.areas.now) (sym c.first_of.ensures)
+    (tried_safe c.args.code.now c.args.branch.now c.args.from c.args.areas.now c.requires c.looking.at c.looking.invariant.1 c.tried_at-tried.result c.tried_at-tried.ensures)
 
 pub looking-preserved : goal.looking-preserved
 looking-preserved g c =
-    let is = c.in-Both.ensures in
-    let safe = first_safe c.args.code.now c.args.branch.now c.args.from c.args.areas.now c.requires c.looking.at c.looking.invariant.1 c.in-Both.to c.in-Both.other is in (
-      leaves_more c.args.code.now c.args.branch.now c.args.from c.looking.at c.args.areas.now c.looking.invariant.0 is.0 is.1 c.in-Both.to safe (c.if-not-is_ruled_out.ensures.out refl) c.in-Both.other is.2,
-      later_more c.args.code.now c.args.branch.now c.args.from c.args.areas.now c.requires c.looking.at c.looking.invariant.1 c.in-Both.to c.in-Both.other is,
+    let t = c.tried_at-tried.ensures in
+    let out = subst (λ n. IsRuledOut c.args.code.now c.args.branch.now n c.args.areas.now) c.first_of.ensures (c.if-not-is_ruled_out.ensures.out refl) in
+    let safe = tried_safe c.args.code.now c.args.branch.now c.args.from c.args.areas.now c.requires c.looking.at c.looking.invariant.1 c.tried_at-tried.result t in (
+      subst (LeavesOut c.args.code.now c.args.branch.now c.args.from c.args.areas.now) (ap behind_of c.in-Both.is)
+          (leaves_tried c.args.code.now c.args.branch.now c.args.from c.looking.at c.args.areas.now c.looking.invariant.0 c.tried_at-tried.result t safe out),
+      later_more c.args.code.now c.args.branch.now c.args.from c.args.areas.now c.requires c.looking.at c.looking.invariant.1 c.in-Both.field-0 c.in-Both.other (subst (IsTried c.args.code.now c.looking.at) c.in-Both.is t),
     )
 
-pub is_ruled_out-requires-in-Last : goal.is_ruled_out-requires-in-Last
-is_ruled_out-requires-in-Last g c = last_safe c.args.code.now c.args.branch.now c.args.from c.args.areas.now c.requires c.looking.at c.looking.invariant.1 c.in-Last.to c.in-Last.ensures
+pub looking-smaller : goal.looking-smaller
+looking-smaller g c = other_nearer c.args.code.now c.args.branch.now c.args.from c.args.areas.now c.requires c.looking.at c.looking.invariant.1 c.in-Both.field-0 c.in-Both.other (subst (IsTried c.args.code.now c.looking.at) c.in-Both.is c.tried_at-tried.ensures)
 
-pub returns-then-is_ruled_out-clause-out : goal.returns-then-is_ruled_out-clause-out
-returns-then-is_ruled_out-clause-out g c =
-    let is = c.in-Last.ensures in
-    let safe = last_safe c.args.code.now c.args.branch.now c.args.from c.args.areas.now c.requires c.looking.at c.looking.invariant.1 c.in-Last.to is in
-    leaves_all c.args.code.now c.args.branch.now c.args.from c.looking.at c.args.areas.now c.looking.invariant.0 is.0 is.1 c.in-Last.to safe (c.if-is_ruled_out.ensures.out refl) is.2
+pub returns-then-not-is_ruled_out-clause-may : goal.returns-then-not-is_ruled_out-clause-may
+returns-then-not-is_ruled_out-clause-may g c = (c.tried_at-tried.result, c.tried_at-tried.ensures, subst (λ n. MayMatch c.args.code.now c.args.branch.now n c.args.areas.now) c.first_of.ensures (c.if-not-is_ruled_out.ensures.may refl))
 
-pub is_ruled_out-requires-in-Other : goal.is_ruled_out-requires-in-Other
-is_ruled_out-requires-in-Other g c = here_safe c.args.code.now c.args.branch.now c.args.from c.args.areas.now c.requires c.looking.at c.looking.invariant.1
+pub returns-in-Last-clause-out : goal.returns-in-Last-clause-out
+returns-in-Last-clause-out g c =
+    let t = c.tried_at-tried.ensures in
+    let out = subst (λ n. IsRuledOut c.args.code.now c.args.branch.now n c.args.areas.now) c.first_of.ensures (c.if-not-is_ruled_out.ensures.out refl) in
+    let safe = tried_safe c.args.code.now c.args.branch.now c.args.from c.args.areas.now c.requires c.looking.at c.looking.invariant.1 c.tried_at-tried.result t in
+    subst (LeavesOut c.args.code.now c.args.branch.now c.args.from c.args.areas.now) (ap behind_of c.in-Last.is)
+    (leaves_tried c.args.code.now c.args.branch.now c.args.from c.looking.at c.args.areas.now c.looking.invariant.0 c.tried_at-tried.result t safe out)
 
-pub returns-then-is_ruled_out-2-clause-out : goal.returns-then-is_ruled_out-2-clause-out
-returns-then-is_ruled_out-2-clause-out g c =
-    let safe = here_safe c.args.code.now c.args.branch.now c.args.from c.args.areas.now c.requires c.looking.at c.looking.invariant.1 in
-    leaves_here c.args.code.now c.args.branch.now c.args.from c.looking.at c.args.areas.now c.looking.invariant.0 safe (c.if-is_ruled_out-2.ensures.out refl)
+pub returns-in-Other-clause-out : goal.returns-in-Other-clause-out
+returns-in-Other-clause-out g c =
+    let t = c.tried_at-tried.ensures in
+    let out = subst (λ n. IsRuledOut c.args.code.now c.args.branch.now n c.args.areas.now) c.first_of.ensures (c.if-not-is_ruled_out.ensures.out refl) in
+    let safe = tried_safe c.args.code.now c.args.branch.now c.args.from c.args.areas.now c.requires c.looking.at c.looking.invariant.1 c.tried_at-tried.result t in
+    subst (LeavesOut c.args.code.now c.args.branch.now c.args.from c.args.areas.now) (ap behind_of c.in-Other.is)
+    (leaves_tried c.args.code.now c.args.branch.now c.args.from c.looking.at c.args.areas.now c.looking.invariant.0 c.tried_at-tried.result t safe out)
