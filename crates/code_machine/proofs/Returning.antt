@@ -1,5 +1,5 @@
 -- The way back to the newest choice point.
-use Rattle.std.proofs.Common.{◌≡◌, ◌<◌, ℕ, suc, List, ◌∷◌, length, Some, None, refl, ap, sym, ◌∙◌, subst, inl, inr, arith}
+use Rattle.std.proofs.Common.{◌≡◌, ◌<◌, ℕ, suc, List, ◌∷◌, length, Some, None, ap, sym, ◌∙◌, subst, inl, inr, arith}
 use Rattle.branch_state.specs.States as branch
 use Rattle.branch_state.specs.States.{IsUndone, IsSameBelow}
 use Rattle.wam_code.specs.Area.{Area}

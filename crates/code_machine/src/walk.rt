@@ -242,6 +242,7 @@ fn come_to_values<A: Agenda + Drop>(
 
 /// Goes back to the newest choice point. Where it has values of a labelling, the least of them is tried, and else its choice is taken.
 /// Gives where that leads; the error is want of memory.
+#[inline(never)]
 fn come_back<A: Agenda + Drop>(
     code: &CodeArea,
     branch: &mut BranchState<A>,
