@@ -98,8 +98,9 @@ points_same (m ∷ ms) saved s t e =
 marks_grow : (ms : List Mark) (r q r' q' : ℕ) (saved : Places) (s : Stack) → r ≤ r' → q ≤ q' → AreMarks ms r q saved s → AreMarks ms r' q' saved s
 marks_grow [] r q r' q' saved s i j a = tt
 marks_grow (m ∷ ms) r q r' q' saved s i j a =
-    let f = a.0.fitting in (
-      record { saved_kept = a.0.saved_kept; slots_kept = a.0.slots_kept; frames_kept = a.0.frames_kept; fitting = omega (arith, f, i); roomy = λ b. (let k = a.0.roomy b in omega (arith, k, j)) },
+    let f = a.0.fitting in
+    let g = a.0.again in (
+      record { saved_kept = a.0.saved_kept; slots_kept = a.0.slots_kept; frames_kept = a.0.frames_kept; fitting = omega (arith, f, i); roomy = λ b. (let k = a.0.roomy b in omega (arith, k, j)); again = omega (arith, g, j) },
       a.1,
       marks_grow ms r q r' q' (take m.first saved) (kept_by m s.slots s.frames) i j a.2,
     )
@@ -131,7 +132,8 @@ module _ (r q r' q' : ℕ) (saved : Places) (s t : Stack) where
   above [] a k = tt
   above (m ∷ ms) a k =
       let f = a.0.fitting in let i = k.registers in
-      record { saved_kept = a.0.saved_kept; slots_kept = k.slots_in; frames_kept = k.frames_in; fitting = omega (arith, f, i); roomy = k.roomy }
+      let g = a.0.again in let j = k.room in
+      record { saved_kept = a.0.saved_kept; slots_kept = k.slots_in; frames_kept = k.frames_in; fitting = omega (arith, f, i); roomy = k.roomy; again = omega (arith, g, j) }
 
   -- the marks are as before
   pub marks_kept : (ms : List Mark) → AreMarks ms r q saved s → Keeps ms r q r' q' s t → AreMarks ms r' q' saved t

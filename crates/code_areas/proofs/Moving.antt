@@ -274,7 +274,7 @@ module _ (noted : ℕ) (held saved : Places) (r q : ℕ) (s : Stack) (ms : List 
         let below : IsLevel s × AreMarks ms r q' saved s = more_hold r q' (omega arith) more in
         let T : Places → Places → List Frame → Type 0 = λ x y z. IsLevel (record { slots = y; base = s.base; size = s.size; frames = z; newest = s.newest }) × AreMarks ms r q' x (record { slots = y; base = s.base; size = s.size; frames = z; newest = s.newest }) in
         let all = subst (λ x. T x (take (length s.slots) s.slots) (take (length s.frames) s.frames)) (sym saved_same) (subst (λ y. T saved y (take (length s.frames) s.frames)) (sym (take-length s.slots)) (subst (T saved s.slots) (sym (take-length s.frames)) below)) in
-        (l, (record { saved_kept = omega (arith, e); slots_kept = omega arith; frames_kept = omega arith; fitting = omega (arith, e, fits); roomy = λ b. room }, all.0, all.1))
+        (l, (record { saved_kept = omega (arith, e); slots_kept = omega arith; frames_kept = omega arith; fitting = omega (arith, e, fits); roomy = λ b. room; again = room }, all.0, all.1))
 
     pub push_seen : seen noted held (saved ++ held) s (mark ∷ ms) ≡ record old { points = record { place = place; registers = held; slots = slots_of s; returns = returns_of s.slots s.frames s.newest; noted = noted } ∷ points_of ms saved s.slots s.frames }
     push_seen =

@@ -72,13 +72,14 @@ pub record IsLevel (s : Stack) : Type 0 where
   pub rising : (k : ℕ) → k < length s.frames → end_of s.frames (frame_at s.frames k).behind ≤ (frame_at s.frames k).start
 
 -- What a mark keeps is there. There are registers for those that it has saved, and room to copy the
--- current frame where the mark keeps that.
+-- current frame where the mark keeps that, and its own when it is gone back to.
 pub record IsAbove (m : Mark) (registers room : ℕ) (saved : Places) (s : Stack) : Type 0 where
   pub saved_kept : m.first ≤ length saved
   pub slots_kept : m.slots ≤ length s.slots
   pub frames_kept : m.frames ≤ length s.frames
   pub fitting : length saved ≤ m.first + registers
   pub roomy : s.base < m.slots → length s.slots + s.size ≤ room
+  pub again : m.slots + m.size ≤ room
 
 abbrev pub frames_kept : List Mark → ℕ
 frames_kept [] = 0

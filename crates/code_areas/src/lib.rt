@@ -8,9 +8,9 @@
 //! behind all others first.
 #![tactic(auto)]
 
-ghost use Rattle.std.specs.Prelude.{ℕ, ◌≡◌, ◌+◌, ◌-◌, ◌<◌, ◌≤◌, [], ◌∷◌, ◌++◌, length, take, drop, reverse, replicate, slice_range, slice_set, Some, None, IfOk, OnOk, OnErr};
+ghost use Rattle.std.specs.Prelude.{ℕ, List, ◌≡◌, ◌+◌, ◌-◌, ◌<◌, ◌≤◌, [], ◌∷◌, ◌++◌, length, take, drop, reverse, replicate, slice_range, slice_set, Some, None, IfOk, OnOk, OnErr};
 ghost use Rattle.std.specs.Vec.{vec_len, vec_capacity};
-ghost use Rattle.code_areas.specs.Areas.{cell_at, level_at, holds, level, nothing_held, IsSet, IsLevelSet, IsPut, nothing};
+ghost use Rattle.code_areas.specs.Areas.{cell_at, level_at, holds, level, nothing_held, IsSet, IsLevelSet, IsPut, Point, nothing};
 ghost use Rattle.code_areas.specs.AreaFields.{end_of, frames_kept, slots_kept};
 
 use fd_language::NoMemory;
@@ -396,6 +396,54 @@ impl Areas {
         Ok(())
     }
 
+    /// The place of the newest choice point.
+    #[inline]
+    pub fn point_place(&self) -> usize
+        requires { 0 < length self.now.points }
+        ensures { (p : Point) (ps : List Point) → self.now.points ≡ p ∷ ps → result ≡ p.place }
+    {
+        match self.marks.last() {
+            Some(mark) => mark.place,
+            None => unreachable!(),
+        }
+    }
+
+    /// Puts a place into the newest choice point, to come back to there. No memory.
+    #[inline]
+    pub fn set_point_place(&mut self, place: usize)
+        requires { 0 < length self.old.points }
+        ensures { (p : Point) (ps : List Point) → self.old.points ≡ p ∷ ps → self.new
+            ≡ record self.old { points = record p { place = place } ∷ ps } }
+    {
+        let mark = self.marks.pop().unwrap();
+        self.marks.push_reserved(Mark { place, ..mark });
+    }
+
+    /// Goes back to the newest choice point, which stays: what is current is what it has saved, and
+    /// the result is its place. No memory.
+    pub fn restore_point(&mut self) -> usize
+        requires { 0 < length self.old.points }
+        ensures back { self.new.points ≡ record {
+          place = result;
+          registers = self.new.registers;
+          slots = self.new.slots;
+          returns = self.new.returns;
+          noted = self.new.noted;
+        } ∷ drop 1 self.new.points }
+        ensures same { self.new.points ≡ self.old.points }
+    {
+        let kept = self.marks.pop().unwrap();
+        self.held = put_back(&mut self.cells, &self.saved, kept.first);
+        self.slots.truncate(kept.slots);
+        self.frames.truncate(kept.frames);
+        self.base = kept.base;
+        self.size = kept.size;
+        self.newest = kept.newest;
+        self.noted = kept.noted;
+        self.marks.push_reserved(kept);
+        kept.place
+    }
+
     /// Goes back to the newest choice point, which is taken away: what is current is what it has
     /// saved, and the result is its place. No memory.
     pub fn pop_point(&mut self) -> usize
@@ -651,6 +699,22 @@ fn put_beyond(cells: &mut Vec<Place>, held: usize, n: usize, cell: Cell) -> Resu
         put_further(cells, held, n, cell);
         return Ok(n + 1);
     }
+    put_new(cells, held, n, cell)
+}
+
+/// Puts a cell into the register `n`, where fewer were ever held: those between are not set. The
+/// result is how many are held now.
+#[cold]
+#[inline(never)]
+fn put_new(cells: &mut Vec<Place>, held: usize, n: usize, cell: Cell) -> Result<usize, NoMemory>
+    requires within { held ≤ length cells.old.items }
+    requires beyond { held ≤ n }
+    ensures put { IfOk result (λ now. IsPut (take held cells.old.items) n cell
+        (take now cells.new.items)) }
+    ensures within { IfOk result (λ now. now ≤ length cells.new.items) }
+    ensures longer { length cells.old.items ≤ length cells.new.items }
+    ensures unchanged { OnErr result (cells.new.items ≡ cells.old.items) }
+{
     let now = n.checked_add(1).ok_or(NoMemory)?;
     fill_to(cells, now)?;
     put_further(cells, held, n, cell);

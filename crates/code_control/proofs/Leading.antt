@@ -1,5 +1,5 @@
 -- Where a choice leads it is safe to go on, with the same to come, and less is left to be done.
-use Rattle.std.proofs.Common.{◌≡◌, ℕ, suc, ◌<◌, ◌∷◌, length, Some, None, slice_get, ap, refl, sym, ◌∙◌, subst, inl, inr, arith}
+use Rattle.std.proofs.Common.{◌≡◌, ℕ, suc, ◌<◌, ◌≤◌, ◌∷◌, length, Some, None, slice_get, ap, refl, sym, ◌∙◌, subst, inl, inr, arith}
 use Rattle.std.proofs.lemmas.Option.{same_Some}
 use Rattle.branch_state.specs.States as branch
 use Rattle.branch_state.specs.States.{IsSound, with_pair}
@@ -49,7 +49,6 @@ module _ (area : Area) (s : branch.State) (from : ℕ) (c : Contents) (safe : Is
   pub last_safe : (to : ℕ) → IsTried area at (Last to) → IsSafe area s to 0 c
   last_safe to is = safe_at area s from to c safe (led area s from c safe at later (Last to) is).0
 
-  -- so is the clause that any choice tries first
   pub tried_safe : (t : Tried) → IsTried area at t → IsSafe area s (first_of t at) 0 c
   tried_safe (Both to other) is = first_safe to other is
   tried_safe (Last to) is = last_safe to is
@@ -162,24 +161,21 @@ module _ (area : Area) (s : branch.State) (at : ℕ) (c : Contents) (safe : IsSa
         query = place_query to both_places.0;
       })
 
-      module _ (next : ℕ) (left : LeavesOut area s other c (Some next)) (more : IsLater area s other next c) where
-        next_thread : IsThread area safe.states s next 0 c.registers c.slots c.returns
-        unfolding place_safe
-        next_thread = more.goes (place_safe other both_places.1)
-
+      -- with a choice point for some of those at the other one
+      module _ (next : ℕ) (left : LeavesOut area s other c (Some next)) (goes : IsThread area safe.states s next 0 c.registers c.slots c.returns) (near : distance area next ≤ distance area other) (inside : StaysInside area other next) where
         abbrev pub with_point : Contents
         with_point = record c { points = point_of c next ∷ c.points }
 
-        pub both_safe : IsSound (with_pair s) → IsSafe area (with_pair s) to 0 with_point
-        both_safe sound = left_safe area s at c safe to next both_places.0.0 next_thread sound
+        pub point_safe : IsSound (with_pair s) → IsSafe area (with_pair s) to 0 with_point
+        point_safe sound = left_safe area s at c safe to next both_places.0.0 goes sound
 
-        pub both_falls : work_at area to with_point < work_at area at c
-        both_falls =
+        pub point_falls : work_at area to with_point < work_at area at c
+        point_falls =
             left_falls area safe.states safe.verified at c to next (near_from to both_places.0)
-            (let near = near_from other both_places.1 in let less = more.near in omega (arith, near, less))
+            (let less = near_from other both_places.1 in omega (arith, near, less))
 
-        pub chooses_both : MayMatchFrom area s next c → Chooses area s at c (with_pair s) with_point (On to)
-        chooses_both may = inr (record {
+        pub chooses_point : MayMatchFrom area s next c → Chooses area s at c (with_pair s) with_point (On to)
+        chooses_point may = inr (record {
           to = to;
           other = next;
           on = refl;
@@ -188,5 +184,19 @@ module _ (area : Area) (s : branch.State) (at : ℕ) (c : Contents) (safe : IsSa
           areas = refl;
           runs = λ t ls u naming m. left_runs area s first c is.0 (choice_of is.0 first (λ e. no_other to other (is.2 ∙ e))) is.1 to other is.2 next left t ls u naming (skip t ls u naming m);
           query = place_query to both_places.0;
-          left = query_kept area at next c (λ number k. more.inside number (inside_from other both_places.1 number k));
+          left = query_kept area at next c (λ number k. inside number (inside_from other both_places.1 number k));
         })
+
+      module _ (next : ℕ) (left : LeavesOut area s other c (Some next)) (more : IsLater area s other next c) where
+        pub next_thread : IsThread area safe.states s next 0 c.registers c.slots c.returns
+        unfolding place_safe
+        next_thread = more.goes (place_safe other both_places.1)
+
+        pub both_safe : IsSound (with_pair s) → IsSafe area (with_pair s) to 0 (with_point next left next_thread more.near more.inside)
+        both_safe sound = point_safe next left next_thread more.near more.inside sound
+
+        pub both_falls : work_at area to (with_point next left next_thread more.near more.inside) < work_at area at c
+        both_falls = point_falls next left next_thread more.near more.inside
+
+        pub chooses_both : MayMatchFrom area s next c → Chooses area s at c (with_pair s) (with_point next left next_thread more.near more.inside) (On to)
+        chooses_both may = chooses_point next left next_thread more.near more.inside may

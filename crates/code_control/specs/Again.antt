@@ -1,16 +1,35 @@
--- What it comes to that a choice point is gone back to, and the choice at its place is taken.
-use Rattle.std.specs.Prelude.{◌≡◌, ◌⊎◌, ℕ, ◌<◌, ◌∷◌}
+-- What it comes to that a choice point is gone back to, and the choice at its place is taken: the point stays while a later clause may match.
+use Rattle.std.specs.Prelude.{◌≡◌, ◌⊎◌, ℕ, ◌<◌, List, ◌∷◌, drop, Option, Some, None}
 use Rattle.branch_state.specs.States as branch
-use Rattle.branch_state.specs.States.{IsUndone}
+use Rattle.branch_state.specs.States.{IsSound, IsUndone, with_pair, without_pairs}
 use Rattle.wam_code.specs.Area.{Area}
-use Rattle.code_areas.specs.Areas.{Contents}
+use Rattle.code_areas.specs.Areas.{Point, Contents}
 use Rattle.code_states.specs.Choices.{point_of}
 use Rattle.code_states.specs.Safety.{IsSafe, IsSafeThen}
 use Rattle.code_states.specs.Stages.{Resumes}
 use Rattle.code_states.specs.Work.{work_at, work_then}
 use Rattle.code_states.specs.declared.went.Went.{Went}
 use Rattle.code_states.specs.declared.went.Went.TheVariants.{On}
-use Rattle.code_control.specs.Choosing.{Chooses}
+use Rattle.code_control.specs.Choosing.{MayMatchFrom, IsLater, LeavesOut, Chooses}
+
+-- The pair below is the current one, and a copy of it stays below.
+pub record IsUndoneAgain (old new : branch.State) : Type 0 where
+  pub back : branch.State
+  pub undone : IsUndone old back
+  pub sound : IsSound back
+  pub pair : new ≡ with_pair back
+  pub kept : IsSound new
+
+-- The newest choice point is for the place of the first choice from the place other on whose clause may match. Where none may, it is gone, and so is its pair.
+abbrev pub KeptFor : Area → branch.State → ℕ → Contents → branch.State → Contents → Option ℕ → Type 0
+KeptFor area s other c s' c' (Some at) =
+    IsLater area s other at c × MayMatchFrom area s at c × (s' ≡ s) × ((p : Point) (ps : List Point) → c.points ≡ p ∷ ps → c' ≡ record c { points = record p { place = at } ∷ ps })
+KeptFor area s other c s' c' None = (s' ≡ without_pairs s 1) × (c' ≡ record c { points = drop 1 c.points })
+
+pub record KeepsPoint (area : Area) (s : branch.State) (other : ℕ) (c : Contents) (s' : branch.State) (c' : Contents) : Type 0 where
+  pub at : Option ℕ
+  pub out : LeavesOut area s other c at
+  pub kept : KeptFor area s other c s' c' at
 
 -- The newest choice point was gone back to, and taken away.
 pub record IsBackAt (area : Area) (s : branch.State) (c : Contents) (s' : branch.State) (at : ℕ) (c' : Contents) : Type 0 where

@@ -1,10 +1,11 @@
-//! Choice points that are gone back to.
+//! Choice points that are gone back to: one stays while a later clause may match.
 
-ghost use Rattle.std.specs.Prelude.{◌<◌, length, IfOk};
-ghost use Rattle.code_states.specs.Safety.{IsSafeBack};
-ghost use Rattle.code_control.specs.Again.{TriesAgain};
+ghost use Rattle.std.specs.Prelude.{◌<◌, length, IfOk, OnOk};
+ghost use Rattle.branch_state.specs.States.{IsSoundBelow};
+ghost use Rattle.code_states.specs.Safety.{IsSafe, IsSafeBack};
+ghost use Rattle.code_control.specs.Again.{IsUndoneAgain, KeepsPoint, TriesAgain};
 
-use crate::choices::{go_back, leave_choice};
+use crate::choices::go_back;
 use crate::choosing::{Tried, next_choice, tried_at};
 use branch_state::BranchState;
 use code_areas::Areas;
@@ -12,8 +13,42 @@ use fd_language::NoMemory;
 use propagate_queue::Agenda;
 use wam_code::CodeArea;
 
-/// Goes back to the newest choice point, and takes the choice at its place: there is a choice point then while a later clause may match,
-/// and none for the last one, or where no choice stands there. The result is the next place; the error is want of memory.
+/// Makes the pair below the current one, of which a copy stays below. The error is want of memory.
+#[inline]
+fn undo_again<A: Agenda + Drop>(branch: &mut BranchState<A>) -> Result<(), NoMemory>
+    requires sound { IsSoundBelow branch.old }
+    requires marked { 1 < length branch.old.heaps.below }
+    ensures { OnOk result (IsUndoneAgain branch.old branch.new) }
+{
+    branch.undo();
+    branch.mark()?;
+    Ok(())
+}
+
+/// Keeps the newest choice point for the first choice from the place `other` on whose clause may match, or takes it away where none may,
+/// with the pair of the branch that was kept for it. No memory.
+#[inline]
+fn keep_point<A: Agenda + Drop>(
+    code: &CodeArea,
+    other: usize,
+    branch: &mut BranchState<A>,
+    areas: &mut Areas,
+)
+    requires safe { IsSafe code.now branch.old other 0 areas.old }
+    requires some { 0 < length areas.old.points }
+    ensures { KeepsPoint code.now branch.old other areas.old branch.new areas.new }
+{
+    match next_choice(code, other, branch, areas) {
+        Some(later) => areas.set_point_place(later),
+        None => {
+            branch.drop_marks(1);
+            areas.drop_points(areas.points() - 1);
+        }
+    }
+}
+
+/// Goes back to the newest choice point, and takes the choice at its place: the point stays while a later clause may match, and is gone
+/// with the last one, or where no choice stands there. The result is the next place; the error is want of memory.
 pub fn try_again<A: Agenda + Drop>(
     code: &CodeArea,
     branch: &mut BranchState<A>,
@@ -23,15 +58,17 @@ pub fn try_again<A: Agenda + Drop>(
     requires some { 0 < length areas.old.points }
     ensures { IfOk result (TriesAgain code.now branch.old areas.old branch.new areas.new) }
 {
-    let at = go_back(code, branch, areas);
-    match tried_at(code, at) {
+    match tried_at(code, areas.point_place()) {
         Tried::Both(to, other) => {
-            if let Some(later) = next_choice(code, other, branch, areas) {
-                leave_choice(later, branch, areas)?;
-            }
+            undo_again(branch)?;
+            areas.restore_point();
+            keep_point(code, other, branch, areas);
             Ok(to)
         }
-        Tried::Last(to) => Ok(to),
-        Tried::Other => Ok(at),
+        Tried::Last(to) => {
+            go_back(code, branch, areas);
+            Ok(to)
+        }
+        Tried::Other => Ok(go_back(code, branch, areas)),
     }
 }
