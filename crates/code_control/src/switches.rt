@@ -5,7 +5,7 @@ ghost use Rattle.wam_code.specs.declared.instruction.Code.TheVariants as step;
 ghost use Rattle.wam_code.specs.Area.{Holds, table_at};
 ghost use Rattle.code_states.specs.Queries.{KeepsQuery, KeepsQueryThen};
 ghost use Rattle.code_states.specs.Safety.{IsSafe, IsSafeThen};
-ghost use Rattle.code_control.specs.Leading.{IsPastJump, ArgumentShows};
+ghost use Rattle.code_control.specs.Leading.{IsPastJump, ArgumentShows, FirstIsSeen};
 ghost use Rattle.code_control.specs.Rows.{Finds, place_for};
 ghost use Rattle.code_states.specs.Stages.{KeepsRunning, RunsThen};
 ghost use Rattle.code_states.specs.Work.{work_at, work_then};
@@ -19,7 +19,26 @@ use heap_cells::Seen;
 use propagate_queue::Agenda;
 use wam_code::{Code, CodeArea};
 
-/// The place of the four that is for what the first argument shows. No memory.
+/// What is seen of the first argument. No memory.
+#[inline(always)]
+fn first_seen<'a, A: Agenda + Drop>(
+    code: &CodeArea,
+    at: usize,
+    v: usize,
+    c: usize,
+    i: usize,
+    s: usize,
+    branch: &'a BranchState<A>,
+    areas: &Areas,
+) -> Seen<'a>
+    requires safe { IsSafe code.now branch.now at 0 areas.now }
+    requires holds { Holds code.now at (step.SwitchOnTerm v c i s) }
+    ensures { FirstIsSeen branch.now areas.now result }
+{
+    branch.heap().deref(areas.register(1))
+}
+
+/// The place of the four that is for what is seen of the first argument. No memory.
 #[inline]
 fn arm_for<A: Agenda + Drop>(
     code: &CodeArea,
@@ -28,18 +47,20 @@ fn arm_for<A: Agenda + Drop>(
     c: usize,
     i: usize,
     s: usize,
+    seen: Seen<'_>,
     branch: &BranchState<A>,
     areas: &Areas,
 ) -> usize
     requires safe { IsSafe code.now branch.now at 0 areas.now }
     requires holds { Holds code.now at (step.SwitchOnTerm v c i s) }
+    requires seen { FirstIsSeen branch.now areas.now seen }
     ensures safe { IsSafe code.now branch.now result 0 areas.now }
     ensures runs { KeepsRunning code.now branch.now at areas.now branch.now result areas.now }
     ensures falls { work_at code.now result areas.now < work_at code.now at areas.now }
     ensures query { KeepsQuery code.now at areas.now result areas.now }
     ensures place { ArgumentShows branch.now areas.now 1 (λ x. place_for x v c i s ≡ result) }
 {
-    place_for(branch.heap().deref(areas.register(1)), v, c, i, s)
+    place_for(seen, v, c, i, s)
 }
 
 /// Where the jump at a place leads, or the place where none stands there. No memory.
@@ -64,29 +85,31 @@ fn past_jump<A: Agenda + Drop>(
 }
 
 /// Goes on at `v` where the first argument is a variable, at `c` where it is an atom, at `i` where it is an integer, and at `s` where it is
-/// a structure; where a jump stands there, where that leads. No memory.
+/// a structure; where a jump stands there, where that leads. The result is that place, and what is seen of the first argument. No memory.
 #[inline]
-pub fn switch_on_term<A: Agenda + Drop>(
+pub fn switch_on_term<'a, A: Agenda + Drop>(
     code: &CodeArea,
     at: usize,
     v: usize,
     c: usize,
     i: usize,
     s: usize,
-    branch: &BranchState<A>,
+    branch: &'a BranchState<A>,
     areas: &Areas,
-) -> usize
+) -> (usize, Seen<'a>)
     requires safe { IsSafe code.now branch.now at 0 areas.now }
     requires holds { Holds code.now at (step.SwitchOnTerm v c i s) }
-    ensures safe { IsSafe code.now branch.now result 0 areas.now }
-    ensures runs { KeepsRunning code.now branch.now at areas.now branch.now result areas.now }
-    ensures falls { work_at code.now result areas.now < work_at code.now at areas.now }
-    ensures query { KeepsQuery code.now at areas.now result areas.now }
+    ensures safe { IsSafe code.now branch.now result.0 0 areas.now }
+    ensures runs { KeepsRunning code.now branch.now at areas.now branch.now result.0 areas.now }
+    ensures falls { work_at code.now result.0 areas.now < work_at code.now at areas.now }
+    ensures query { KeepsQuery code.now at areas.now result.0 areas.now }
     ensures place { ArgumentShows branch.now areas.now 1
-        (λ x. IsPastJump code.now (place_for x v c i s) result) }
+        (λ x. IsPastJump code.now (place_for x v c i s) result.0) }
+    ensures seen { FirstIsSeen branch.now areas.now result.1 }
 {
-    let arm = arm_for(code, at, v, c, i, s, branch, areas);
-    past_jump(code, arm, branch, areas)
+    let seen = first_seen(code, at, v, c, i, s, branch, areas);
+    let arm = arm_for(code, at, v, c, i, s, seen, branch, areas);
+    (past_jump(code, arm, branch, areas), seen)
 }
 
 /// The place for a variable, an atom, an integer or a structure.

@@ -1,6 +1,7 @@
 //! Instructions that spend no reduction.
 
 ghost use Rattle.std.specs.Prelude.{IfOk};
+ghost use Rattle.wam_code.specs.declared.instruction.Code.TheVariants as step;
 ghost use Rattle.wam_code.specs.Area.{Holds};
 ghost use Rattle.code_states.specs.Safety.{IsSafe};
 ghost use Rattle.code_machine.specs.Instructions.{IsChoice};
@@ -16,10 +17,32 @@ use code_states::Went;
 use fd_language::NoMemory;
 use propagate_queue::Agenda;
 use term_instructions::{
-    Scratch, get_constant, get_integer, get_structure, get_value, get_variable, put_constant,
-    put_integer, put_structure, put_value, put_variable,
+    Scratch, get_constant, get_integer, get_pair, get_structure, get_value, get_variable,
+    put_constant, put_integer, put_structure, put_value, put_variable,
 };
 use wam_code::{Code, CodeArea};
+
+/// Takes a switch by kinds, and with it a structure of two arguments that the code asks for where it leads, if the first argument is one,
+/// and both go into registers that are met first. Gives where that leads; the error is want of memory.
+#[inline(always)]
+fn take_switch<A: Agenda + Drop>(
+    code: &CodeArea,
+    at: usize,
+    arms: (usize, usize, usize, usize),
+    branch: &BranchState<A>,
+    areas: &mut Areas,
+) -> Result<Went, NoMemory>
+    requires safe { IsSafe code.now branch.now at 0 areas.old }
+    requires holds { Holds code.now at (step.SwitchOnTerm arms.0 arms.1 arms.2 arms.3) }
+    ensures { IfOk result (Moves code.now branch.now at areas.old branch.now areas.new) }
+{
+    let (v, c, i, s) = arms;
+    let (to, seen) = switch_on_term(code, at, v, c, i, s, branch, areas);
+    match get_pair(code, to, seen, branch, areas)? {
+        Some(next) => Ok(Went::On(next)),
+        None => Ok(Went::On(to)),
+    }
+}
 
 /// Takes an instruction of a clause's terms or of its frame, a level, a jump, or a switch by kinds, and gives where it leads, or nothing
 /// where it is another one; `scratch` is lent. The error is want of memory.
@@ -64,8 +87,7 @@ pub(crate) fn take_term<A: Agenda + Drop>(
         Code::Level(n) => Ok(Some(Went::On(level(code, at, n, branch, areas)))),
         Code::Jump(to) => Ok(Some(Went::On(jump(code, at, to, branch, areas)))),
         Code::SwitchOnTerm(v, c, i, s) => {
-            let to = switch_on_term(code, at, v, c, i, s, branch, areas);
-            Ok(Some(Went::On(to)))
+            Ok(Some(take_switch(code, at, (v, c, i, s), branch, areas)?))
         }
         _ => Ok(None),
     }

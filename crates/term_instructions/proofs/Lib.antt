@@ -5,3 +5,4 @@ mod BuildSteps
 mod Structure
 mod Head
 mod Bound
+mod PairSteps

@@ -1,3 +1,4 @@
 pub mod Arguments
 pub mod ReadMode
 pub mod WriteMode
+pub mod Pairs
