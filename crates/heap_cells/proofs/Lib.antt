@@ -13,6 +13,7 @@ mod Adding
 mod Undoing
 mod Loose
 mod Sound
+mod Resetting
 mod Atoms
 mod SeenTerms
 pub mod Lemmas

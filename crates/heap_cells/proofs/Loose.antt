@@ -1,5 +1,5 @@
 -- Loose variables: no compound term has them, and no variable is bound to them.
-use Rattle.std.proofs.Common.{◌≡◌, ◌≢◌, ℕ, zero, suc, ◌+◌, ◌<◌, ◌≤◌, Bool, true, false, ◌||◌, ◌==◌, refl, ap, sym, ◌∙◌, subst, arith, inl, inr, List, [], ◌∷◌, ◌++◌, length, map, get_or, set, take, drop, reverse, ne_eqb, length-set, get_or-set_other, get_or-set_same}
+use Rattle.std.proofs.Common.{◌≡◌, ◌≢◌, ℕ, zero, suc, ◌+◌, ◌<◌, ◌≤◌, false, ◌||◌, refl, ap, sym, ◌∙◌, subst, arith, inl, inr, List, [], ◌∷◌, ◌++◌, length, map, get_or, set, take, drop, reverse, ne_eqb, length-set, get_or-set_other, get_or-set_same}
 use Rattle.std.specs.Prelude.{All}
 use Rattle.std.proofs.Math.Seq.{take-suc}
 use Rattle.std.proofs.lemmas.Bool.{cases_eq, cases_lt}
@@ -12,10 +12,10 @@ use Rattle.heap_cells.specs.declared.Variable.TheVariants as variable
 use Rattle.heap_cells.specs.declared.Structure.{Structure}
 use Rattle.heap_cells.specs.declared.Saved.{Saved}
 use Rattle.heap_cells.specs.declared.Mark.{Mark}
-use Rattle.heap_cells.specs.Cells.{Slot, free, linked, bound, Compound, Cells, Heaps, slot_at, compound_at}
+use Rattle.heap_cells.specs.Cells.{Slot, free, linked, bound, Cells, Heaps, slot_at, compound_at}
 use Rattle.heap_cells.specs.Terms.{Naming, terms_by, slot_term, within, term_of, occurs, occurs_any, IsAbsent}
 use Rattle.heap_cells.specs.Valid.{IsHeap}
-use Rattle.heap_cells.specs.HeapFields.{slot_of, compound_of, cells_of, heaps_of, restored, marked, lengths, held_at, held, held_all, IsUnheld, AreLoose, AreLooseAt, AreStored}
+use Rattle.heap_cells.specs.HeapFields.{slot_of, compound_of, cells_of, heaps_of, restored, marked, lengths, held_at, held, held_all, IsUnheld, AreLooseAt, AreStored}
 use Rattle.heap_cells.proofs.Elements.{head_of, tail_of, both_of, none_at_all}
 use Rattle.heap_cells.proofs.Marks.{map_same, fall_more}
 

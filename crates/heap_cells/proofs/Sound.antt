@@ -1,5 +1,5 @@
 -- What holds of loose variables stays while a heap changes.
-use Rattle.std.proofs.Common.{◌≡◌, ◌≢◌, ℕ, zero, suc, ◌<◌, ◌≤◌, refl, ap, sym, ◌∙◌, subst, arith, inl, inr, List, [], ◌∷◌, ◌++◌, length, map, get_or, set, take, drop, reverse, get_or-set_other, get_or-set_same, length-append}
+use Rattle.std.proofs.Common.{◌≡◌, ◌≢◌, ℕ, ◌<◌, refl, ap, sym, ◌∙◌, subst, arith, inl, inr, List, [], ◌∷◌, ◌++◌, length, get_or, set, take, drop, reverse, get_or-set_other, get_or-set_same}
 use Rattle.std.specs.Prelude.{All, OnOk, OnErr, Result, Ok, Err}
 use Rattle.std.proofs.lemmas.Bool.{cases_eq, cases_lt}
 use Rattle.std.proofs.lemmas.List.{get_or_append_left, reverse-append, length-map}
@@ -12,9 +12,9 @@ use Rattle.heap_cells.specs.declared.Variable.TheVariants as variable
 use Rattle.heap_cells.specs.declared.Structure.{Structure}
 use Rattle.heap_cells.specs.declared.Saved.{Saved}
 use Rattle.heap_cells.specs.declared.Mark.{Mark}
-use Rattle.heap_cells.specs.Cells.{Slot, free, linked, bound, Compound, Cells, Heaps, slot_at, compound_at, IsOf, with_slot, with_new_slot, with_compound}
+use Rattle.heap_cells.specs.Cells.{Slot, free, linked, bound, Compound, Cells, Heaps, slot_at, IsOf, with_slot, with_new_slot, with_compound}
 use Rattle.heap_cells.specs.Valid.{IsHeap}
-use Rattle.heap_cells.specs.HeapFields.{slot_of, cells_of, restored, saved_at, trailed, lengths, held, held_all, IsUnheld, AreLoose, AreLooseAt, AreStored, AreSound, HasArgs}
+use Rattle.heap_cells.specs.HeapFields.{slot_of, cells_of, restored, saved_at, trailed, lengths, held, held_all, AreLoose, AreLooseAt, AreStored, AreSound, HasArgs}
 use Rattle.heap_cells.proofs.Elements.{head_of, tail_of, both_of}
 use Rattle.heap_cells.proofs.Marks.{each_up_to, below_newest, at_mark_same, marked_same, changed_stored, now_changed}
 use Rattle.heap_cells.proofs.Binding.{slot_there, slot_elsewhere}

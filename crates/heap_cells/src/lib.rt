@@ -501,7 +501,18 @@ impl Heap {
         requires { 0 < length self.old.below }
         ensures { self.old.below ≡ self.new.now ∷ self.new.below }
     {
-        if let Some(m) = self.marks.pop() {
+        self.reset_to_mark();
+        self.drop_marks(1);
+    }
+
+    /// Gives the heap below back, which stays below as well. No memory.
+    #[inline]
+    pub fn reset_to_mark(&mut self)
+        requires { 0 < length self.old.below }
+        ensures back { self.old.below ≡ self.new.now ∷ drop 1 self.old.below }
+        ensures below { self.new.below ≡ self.old.below }
+    {
+        if let Some(m) = self.marks.last().copied() {
             restore(&mut self.variables, &mut self.trail, m.trail);
             self.variables.truncate(m.variables);
             self.args.truncate(m.args);

@@ -1,12 +1,11 @@
-use Rattle.std.proofs.Common.{◌≡◌, ℕ, ◌<◌, ◌∙◌, refl, sym, ap, subst, arith, List, length, set, reverse}
+use Rattle.std.proofs.Common.{◌≡◌, ℕ, ◌<◌, ◌∙◌, sym, ap, subst, arith, List, length, set}
 use Rattle.std.specs.Prelude.{Result, Ok}
 use Rattle.fd_language.specs.Term.{apply}
 use Rattle.heap_cells.specs.declared.Cell.{Cell}
 use Rattle.heap_cells.specs.declared.Variable.{Variable}
-use Rattle.heap_cells.specs.declared.Variable.TheVariants as variable
 use Rattle.heap_cells.specs.declared.Saved.{Saved}
 use Rattle.heap_cells.specs.Cells.{Cells, Heaps, bound, with_slot}
-use Rattle.heap_cells.specs.HeapFields.{cells_of, heaps_of, held, saved_at, trailed, AreSound}
+use Rattle.heap_cells.specs.HeapFields.{cells_of, heaps_of, held, AreSound}
 use Rattle.heap_cells.specs.Terms.{Naming, term_of, one}
 use Rattle.heap_cells.specs.Valid.{IsHeap}
 use Rattle.heap_cells.proofs.Fields.{valid_now, now_is, slots_there}
