@@ -1,5 +1,5 @@
 -- The levels that a store's fields stand for.
-use Rattle.std.specs.Prelude.{◌≡◌, ℕ, ◌<◌, ◌≤◌, Bool, true, false, List, [], ◌∷◌, ◌++◌, length, take, filter, nat_lt, All}
+use Rattle.std.specs.Prelude.{◌≡◌, ℕ, ◌<◌, ◌≤◌, Bool, true, false, List, [], ◌∷◌, ◌++◌, length, take, filter, nat_lt, replicate, All}
 use Rattle.fd_language.specs.declared.TheConstants.{INFINITY}
 use Rattle.fd_language.specs.Family.{universe}
 use Rattle.fd_language.specs.Range.{Indexical}
@@ -50,6 +50,10 @@ pub record IsStore (is : List Posting) (flags : List Bool) (agenda : List ℕ) (
 -- nothing is posted, and there are no variables
 abbrev pub no_levels : Levels
 no_levels = record { current = record { posted = []; sets = []; failed = false }; below = []; spent = false }
+
+-- so many marks wait: as many copies of the current level are below it, before the others
+abbrev pub with_waiting : Levels → ℕ → Levels
+with_waiting l n = record l { below = replicate n l.current ++ l.below }
 
 -- one more variable, which may have any value
 abbrev pub with_variable : Level → Level

@@ -8,6 +8,7 @@ mod agenda;
 mod agents;
 mod cheapest;
 mod instance;
+mod marked;
 mod propagation;
 mod store;
 

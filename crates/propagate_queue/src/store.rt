@@ -1,25 +1,22 @@
-//! The store: domains under posted ranges, in levels.
+//! The store: domains of variables under posted ranges, in levels.
+//!
+//! A mark is made only when the current level is to change. Until then it waits: the levels below begin with as many copies of the current
+//! one as marks wait.
 
-ghost use Rattle.std.specs.Prelude.{◌≡◌, ◌<◌, ◌≤◌, ◌+◌, ◌++◌, ◌∷◌, [], ℕ, List, true, false, map, take, drop, filter, nat_lt, length, All, IfOk, OnOk, OnErr, MatchBool};
+ghost use Rattle.std.specs.Prelude.{◌≡◌, ◌<◌, ◌≤◌, ◌+◌, ◌++◌, ◌∷◌, [], true, false, drop, length, replicate, All, IfOk, OnOk, OnErr};
 ghost use Rattle.fd_language.specs.declared.TheConstants.{INFINITY as TOP};
 ghost use Rattle.fd_language.specs.Monotonicity.{IsMonotone};
 ghost use Rattle.fd_model.specs.Closed.{AllPosted};
-ghost use Rattle.fd_model.specs.Weights.{weights};
 ghost use Rattle.range_code.specs.Frames.{family_of};
-ghost use Rattle.propagate_queue.specs.Instances.{posting, posting_of, posted_by, IsInstance};
-ghost use Rattle.propagate_queue.specs.Postings.{Posting, ranged, ranges_of, IsPosting, AreReaders, IsAdded};
-ghost use Rattle.propagate_queue.specs.Queues.{AreQueued};
+ghost use Rattle.propagate_queue.specs.Instances.{posting_of, posted_by, IsInstance};
+ghost use Rattle.propagate_queue.specs.Postings.{ranged, IsPosting};
 ghost use Rattle.propagate_queue.specs.Running.{AreDomains, HasNone};
 
-use crate::adding::{add_agents, add_one};
 use crate::agenda::Agenda;
-use crate::agents::Agents;
 use crate::instance::Instance;
-use crate::propagation::{clear, empty, propagate};
-use dependency_chains::Chains;
+use crate::marked::MarkedStore;
 use domain_ranges::{Domain, View};
-use domain_trail::Trail;
-use fd_language::{Feature, NoMemory};
+use fd_language::NoMemory;
 use range_code::{Activations, Arg, RangeCode};
 use std::alloc::Global;
 use std::marker::Model;
@@ -39,15 +36,8 @@ pub enum Posted {
 /// Where memory was wanting once, every later call that answers a Result answers `NoMemory`; the levels below stay as they are.
 #[derive(Drop)]
 pub struct Store<A: Agenda + Drop> {
-    trail: Trail,
-    chains: Chains,
-    agents: Agents,
-    queued: Vec<bool>,
-    agenda: A,
-    marks: Vec<usize>,
-    scratch: Vec<(usize, Feature)>,
-    failed: bool,
-    spent: bool,
+    made: MarkedStore<A>,
+    waiting: usize,
 }
 
 impl<A: Agenda + Drop> Model for Store<A> {
@@ -57,39 +47,46 @@ impl<A: Agenda + Drop> Model for Store<A> {
 
     ghost coded = { levels_coded };
 
-    ghost use Rattle.std.specs.Prelude.{reverse};
-    ghost use Rattle.propagate_queue.specs.Postings.{ranges_of};
-    ghost use Rattle.propagate_queue.specs.StoreFields.{levels_below, IsStore};
+    ghost use Rattle.std.specs.Prelude.{◌≡◌, ◌<◌, false};
+    ghost use Rattle.propagate_queue.specs.StoreFields.{with_waiting};
 
-    ghost view = { λ s. record {
-      current = record { posted = ranges_of s.agents; sets = s.trail.current; failed = s.failed };
-      below = levels_below (reverse s.marks.items) s.trail.below (ranges_of s.agents);
-      spent = s.spent;
-    } };
+    ghost view = { λ s. with_waiting s.made s.waiting };
 
-    ghost invariant = { λ s. IsStore s.agents s.queued.items (A.agents s.agenda)
-        (A.spare s.agenda) s.chains s.trail (reverse s.marks.items) s.failed s.spent };
+    ghost invariant = { λ s. 0 < s.waiting → s.made.current.failed ≡ false };
 }
 
-ghost use Rattle.propagate_queue.specs.StoreFields.{no_levels, with_variable, step_weight, whole_weight_of_post, IsPosted};
+ghost use Rattle.propagate_queue.specs.StoreFields.{no_levels, with_variable, with_waiting, step_weight, whole_weight_of_post, IsPosted};
 ghost use Rattle.propagate_queue.specs.declared.store.Posted.TheVariants as Ended;
+
+/// Makes the marks that wait. `NoMemory`: there is no room for one, or memory was wanting before.
+fn make_marks<A: Agenda + Drop>(
+    made: &mut MarkedStore<A>,
+    waiting: &mut usize,
+) -> Result<(), NoMemory>
+    requires { 0 < waiting.old → made.old.current.failed ≡ false }
+    ensures current { made.new.current ≡ made.old.current }
+    ensures levels { OnOk result (made.new ≡ with_waiting made.old waiting.old) }
+    ensures none { OnOk result (waiting.new ≡ 0) }
+    ensures fewer { waiting.new ≤ waiting.old }
+    ensures below { (with_waiting made.new waiting.new).below
+        ≡ (with_waiting made.old waiting.old).below }
+    ensures spent { OnErr result (made.new.spent ≡ true) }
+{
+    while *waiting > 0 {
+        made.push_mark()?;
+        *waiting -= 1;
+    }
+    Ok(())
+}
 
 impl<A: Agenda + Drop> Store<A> {
     /// One level without variables, where nothing is posted.
-    pub fn new(alloc: Global, mut agenda: A) -> Store<A>
+    pub fn new(alloc: Global, agenda: A) -> Store<A>
         ensures { result ≡ no_levels }
     {
-        empty(&mut agenda);
         Store {
-            trail: Trail::new(alloc),
-            chains: Chains::new(alloc),
-            agents: Agents::new(alloc),
-            queued: Vec::new(alloc),
-            agenda,
-            marks: Vec::new(alloc),
-            scratch: Vec::new(alloc),
-            failed: false,
-            spent: false,
+            made: MarkedStore::new(alloc, agenda),
+            waiting: 0,
         }
     }
 
@@ -103,14 +100,8 @@ impl<A: Agenda + Drop> Store<A> {
         ensures below { self.new.below ≡ self.old.below }
         ensures spent { OnErr result (self.new.spent ≡ true) }
     {
-        if self.spent {
-            return Err(NoMemory);
-        }
-        self.spent = true;
-        self.chains.new_var()?;
-        let k = self.trail.new_var()?;
-        self.spent = false;
-        Ok(k)
+        make_marks(&mut self.made, &mut self.waiting)?;
+        self.made.new_var()
     }
 
     /// Posts the ranges behind those that are posted, and narrows the domains until no posted range narrows one further.
@@ -133,24 +124,8 @@ impl<A: Agenda + Drop> Store<A> {
         ensures whole { n.new.count ≤ n.old.count
             + (length list.items + whole_weight_of_post self.old.current (posted_by list.items)) }
     {
-        if self.spent {
-            return Err(NoMemory);
-        }
-        self.spent = true;
-        let kept = post_all(
-            &mut self.trail,
-            &mut self.chains,
-            &mut self.agents,
-            &mut self.queued,
-            &mut self.agenda,
-            &mut self.scratch,
-            self.failed,
-            list,
-            n,
-        )?;
-        self.failed = !kept;
-        self.spent = false;
-        Ok(if kept { Posted::Kept } else { Posted::Failed })
+        make_marks(&mut self.made, &mut self.waiting)?;
+        self.made.post(list, n)
     }
 
     /// Posts one range behind those that are posted, as `post` does with a list of one.
@@ -178,41 +153,22 @@ impl<A: Agenda + Drop> Store<A> {
         ensures whole { n.new.count ≤ n.old.count + (1 + whole_weight_of_post self.old.current
             (ranged (posting_of code.value target args.now) ∷ [])) }
     {
-        if self.spent {
-            return Err(NoMemory);
-        }
-        self.spent = true;
-        let kept = post_new(
-            &mut self.trail,
-            &mut self.chains,
-            &mut self.agents,
-            &mut self.queued,
-            &mut self.agenda,
-            &mut self.scratch,
-            self.failed,
-            code,
-            target,
-            args,
-            n,
-        )?;
-        self.failed = !kept;
-        self.spent = false;
-        let ended = if kept { Posted::Kept } else { Posted::Failed };
-        Ok(ended)
+        make_marks(&mut self.made, &mut self.waiting)?;
+        self.made.post_one(code, target, args, n)
     }
 
     /// How many variables the current level has.
     pub fn vars(&self) -> usize
         ensures { result ≡ length self.now.current.sets }
     {
-        self.trail.vars()
+        self.made.vars()
     }
 
     /// Whether the current level has failed.
     pub fn failed(&self) -> bool
         ensures { result ≡ self.now.current.failed }
     {
-        self.failed
+        self.made.failed()
     }
 
     /// The domain of the variable `k`.
@@ -220,7 +176,7 @@ impl<A: Agenda + Drop> Store<A> {
         requires { k < length self.now.current.sets }
         ensures { result.now ≡ family_of self.now.current.sets k }
     {
-        self.trail.domain(k)
+        self.made.domain(k)
     }
 
     /// What holds of the current level.
@@ -231,7 +187,7 @@ impl<A: Agenda + Drop> Store<A> {
         ensures failed { self.now.spent ≡ false → self.now.current.failed ≡ true
             → HasNone self.now.current.posted (length self.now.current.sets) }
     {
-        let _ = &self.agents;
+        self.made.known()
     }
 
     /// From now on every call that answers a Result answers `NoMemory`, as after want of memory of the store's own: for a caller whose
@@ -239,7 +195,7 @@ impl<A: Agenda + Drop> Store<A> {
     pub fn give_up(&mut self)
         ensures { self.new ≡ record self.old { spent = true } }
     {
-        self.spent = true;
+        self.made.give_up();
     }
 
     /// Puts an equal level below the current one, which hasn't failed. `NoMemory`: there is no room for the mark, or memory
@@ -252,14 +208,11 @@ impl<A: Agenda + Drop> Store<A> {
         ensures unspent { OnOk result (self.old.spent ≡ false) }
         ensures spent { OnErr result (self.new ≡ record self.old { spent = true }) }
     {
-        if self.spent {
+        if self.made.spent() || self.waiting == usize::MAX {
+            self.made.give_up();
             return Err(NoMemory);
         }
-        self.spent = true;
-        self.marks.reserve(1)?;
-        self.trail.push_mark()?;
-        self.marks.push_reserved(self.agents.len());
-        self.spent = false;
+        self.waiting += 1;
         Ok(())
     }
 
@@ -269,12 +222,25 @@ impl<A: Agenda + Drop> Store<A> {
         ensures levels { self.old.below ≡ self.new.current ∷ self.new.below }
         ensures spent { self.new.spent ≡ self.old.spent }
     {
-        let agents = self.marks.pop().unwrap();
-        self.trail.pop_mark();
-        self.chains.cut_to(agents, self.trail.vars());
-        self.agents.truncate(agents);
-        self.queued.truncate(agents);
-        self.failed = false;
+        if self.waiting > 0 {
+            self.waiting -= 1;
+        } else {
+            self.made.pop_mark();
+        }
+    }
+
+    /// Gives back the level below the current one, which stays below as well.
+    #[inline]
+    pub fn reset_to_mark(&mut self)
+        requires { 0 < length self.old.below }
+        ensures back { self.old.below ≡ self.new.current ∷ drop 1 self.old.below }
+        ensures below { self.new.below ≡ self.old.below }
+        ensures spent { self.new.spent ≡ self.old.spent }
+    {
+        if self.waiting == 0 {
+            self.made.pop_mark();
+            self.waiting = 1;
+        }
     }
 
     /// Takes away the `n` levels directly below the current one.
@@ -282,9 +248,12 @@ impl<A: Agenda + Drop> Store<A> {
         requires { n ≤ length self.old.below }
         ensures { self.new ≡ record self.old { below = drop n self.old.below } }
     {
-        let left = self.marks.len() - n;
-        self.marks.truncate(left);
-        self.trail.drop_marks(n);
+        if n <= self.waiting {
+            self.waiting -= n;
+        } else {
+            self.made.drop_marks(n - self.waiting);
+            self.waiting = 0;
+        }
     }
 }
 
@@ -292,129 +261,6 @@ impl<A: Agenda + Drop> View for Store<A> {
     ghost sets = { λ s. s.current.sets };
 
     fn domain(&self, k: usize) -> &Domain {
-        self.trail.domain(k)
+        self.made.domain(k)
     }
-}
-
-/// Adds the agents of the list, and propagates unless the level has failed. Whether no domain would be empty.
-fn post_all<A: Agenda>(
-    trail: &mut Trail,
-    chains: &mut Chains,
-    agents: &mut Agents,
-    queued: &mut Vec<bool>,
-    agenda: &mut A,
-    scratch: &mut Vec<(usize, Feature)>,
-    lost: bool,
-    list: Vec<Instance>,
-    n: &mut Activations,
-) -> Result<bool, NoMemory>
-    requires list { All (IsInstance (length trail.old.current)) list.items }
-    requires instances { All (IsPosting (length trail.old.current)) agents.old }
-    requires monotone { AllPosted (λ p. IsMonotone TOP p.range) (ranges_of agents.old) }
-    requires readers { AreReaders (ranges_of agents.old) chains.old.reads }
-    requires vars { chains.old.vars ≡ length trail.old.current }
-    requires within { All (λ r. r.var < length trail.old.current) chains.old.reads }
-    requires flagged { length queued.old.items ≡ length agents.old }
-    requires queued { AreQueued queued.old.items (A.agents agenda.old) (A.spare agenda.old) }
-    requires empty { A.agents agenda.old ≡ [] }
-    requires settled { lost ≡ false → AreDomains (ranges_of agents.old) trail.old.current }
-    requires failed { lost ≡ true → HasNone (ranges_of agents.old) (length trail.old.current) }
-    ensures agents { OnOk result (agents.new ≡ agents.old ++ map posting list.items) }
-    ensures part { (rest : List Posting) × (agents.new ++ rest
-        ≡ agents.old ++ map posting list.items) }
-    ensures instances { All (IsPosting (length trail.old.current)) agents.new }
-    ensures monotone { AllPosted (λ p. IsMonotone TOP p.range) (ranges_of agents.new) }
-    ensures readers { AreReaders (ranges_of agents.new) chains.new.reads }
-    ensures vars { chains.new.vars ≡ length trail.old.current }
-    ensures within { All (λ r. r.var < length trail.old.current) chains.new.reads }
-    ensures flagged { length queued.new.items ≡ length agents.new }
-    ensures more { length agents.old ≤ length agents.new }
-    ensures front { take (length agents.old) agents.new ≡ agents.old }
-    ensures kept { (m : ℕ) → m ≤ length agents.old
-        → filter (λ r. nat_lt r.agent m) chains.new.reads
-        ≡ filter (λ r. nat_lt r.agent m) chains.old.reads }
-    ensures below { trail.new.below ≡ trail.old.below }
-    ensures sets { length trail.new.current ≡ length trail.old.current }
-    ensures queued { OnOk result (AreQueued queued.new.items (A.agents agenda.new)
-        (A.spare agenda.new)) }
-    ensures empty { OnOk result (A.agents agenda.new ≡ []) }
-    ensures done { IfOk result
-        (λ b. MatchBool b (AreDomains (ranges_of agents.new) trail.new.current)
-        (HasNone (ranges_of agents.new) (length trail.old.current))) }
-    ensures lost { lost ≡ true → IfOk result (λ b. b ≡ false) }
-    ensures uncounted { lost ≡ true → n.new.count ≡ n.old.count }
-    ensures count { n.new.count ≤ n.old.count + (length list.items + weights (ranges_of agents.new)
-        (family_of trail.old.current) (family_of trail.new.current)) }
-{
-    let vars = trail.vars();
-    agenda.reserve(queued.len() + list.len())?;
-    add_agents(agents, queued, chains, agenda, scratch, vars, list)?;
-    if lost {
-        clear(agenda, queued);
-        return Ok(false);
-    }
-    propagate(trail, chains, agents, agenda, queued, n)
-}
-
-/// Adds one agent, and propagates unless the level has failed. Whether no domain would be empty.
-fn post_new<A: Agenda>(
-    trail: &mut Trail,
-    chains: &mut Chains,
-    agents: &mut Agents,
-    queued: &mut Vec<bool>,
-    agenda: &mut A,
-    scratch: &mut Vec<(usize, Feature)>,
-    lost: bool,
-    code: Rc<RangeCode>,
-    target: usize,
-    args: &[Arg],
-    n: &mut Activations,
-) -> Result<bool, NoMemory>
-    requires instance { IsPosting (length trail.old.current)
-        (posting_of code.value target args.now) }
-    requires instances { All (IsPosting (length trail.old.current)) agents.old }
-    requires monotone { AllPosted (λ p. IsMonotone TOP p.range) (ranges_of agents.old) }
-    requires readers { AreReaders (ranges_of agents.old) chains.old.reads }
-    requires vars { chains.old.vars ≡ length trail.old.current }
-    requires within { All (λ r. r.var < length trail.old.current) chains.old.reads }
-    requires flagged { length queued.old.items ≡ length agents.old }
-    requires queued { AreQueued queued.old.items (A.agents agenda.old) (A.spare agenda.old) }
-    requires empty { A.agents agenda.old ≡ [] }
-    requires settled { lost ≡ false → AreDomains (ranges_of agents.old) trail.old.current }
-    requires failed { lost ≡ true → HasNone (ranges_of agents.old) (length trail.old.current) }
-    ensures added { IsAdded (posting_of code.value target args.now ∷ []) agents.old agents.new }
-    ensures agents { OnOk result (agents.new ≡ agents.old
-        ++ posting_of code.value target args.now ∷ []) }
-    ensures instances { All (IsPosting (length trail.old.current)) agents.new }
-    ensures monotone { AllPosted (λ p. IsMonotone TOP p.range) (ranges_of agents.new) }
-    ensures readers { AreReaders (ranges_of agents.new) chains.new.reads }
-    ensures vars { chains.new.vars ≡ length trail.old.current }
-    ensures within { All (λ r. r.var < length trail.old.current) chains.new.reads }
-    ensures flagged { length queued.new.items ≡ length agents.new }
-    ensures kept { (m : ℕ) → m ≤ length agents.old
-        → filter (λ r. nat_lt r.agent m) chains.new.reads
-        ≡ filter (λ r. nat_lt r.agent m) chains.old.reads }
-    ensures below { trail.new.below ≡ trail.old.below }
-    ensures sets { length trail.new.current ≡ length trail.old.current }
-    ensures queued { OnOk result (AreQueued queued.new.items (A.agents agenda.new)
-        (A.spare agenda.new)) }
-    ensures empty { OnOk result (A.agents agenda.new ≡ []) }
-    ensures done { IfOk result
-        (λ b. MatchBool b (AreDomains (ranges_of agents.new) trail.new.current)
-        (HasNone (ranges_of agents.new) (length trail.old.current))) }
-    ensures lost { lost ≡ true → IfOk result (λ b. b ≡ false) }
-    ensures uncounted { lost ≡ true → n.new.count ≡ n.old.count }
-    ensures count { n.new.count ≤ n.old.count + (1 + weights (ranges_of agents.new)
-        (family_of trail.old.current) (family_of trail.new.current)) }
-{
-    let vars = trail.vars();
-    agenda.reserve(queued.len() + 1)?;
-    add_one(
-        agents, queued, chains, agenda, scratch, vars, code, target, args,
-    )?;
-    if lost {
-        clear(agenda, queued);
-        return Ok(false);
-    }
-    propagate(trail, chains, agents, agenda, queued, n)
 }

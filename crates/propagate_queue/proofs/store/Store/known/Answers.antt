@@ -4,4 +4,4 @@ use Rattle.propagate_queue.specs.Running.{HasNone}
 use Rattle.propagate_queue.proofs.store.Store.known.Goals as goal
 
 pub returns-clause-failed : goal.returns-clause-failed
-returns-clause-failed g c = subst (λ (v : Levels). v.spent ≡ false → v.current.failed ≡ true → HasNone v.current.posted (length v.current.sets)) c.self.view_is c.self.invariant.failed
+returns-clause-failed g c = subst (λ (v : Levels). v.spent ≡ false → v.current.failed ≡ true → HasNone v.current.posted (length v.current.sets)) c.self.view_is c.known.ensures.failed

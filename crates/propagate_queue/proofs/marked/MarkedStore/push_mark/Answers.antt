@@ -1,7 +1,7 @@
 use Rattle.std.proofs.Common.{◌≡◌, ◌∙◌, ◌++◌, ◌∷◌, [], List, ℕ, Bool, reverse, false, ap, sym, subst, arith}
 use Rattle.propagate_queue.specs.StoreFields.{IsStore}
 use Rattle.propagate_queue.proofs.Storing.{pushed, newest}
-use Rattle.propagate_queue.proofs.store.Store.push_mark.Goals as goal
+use Rattle.propagate_queue.proofs.marked.MarkedStore.push_mark.Goals as goal
 
 pub invariant_of-self-2 : goal.invariant_of-self-2
 invariant_of-self-2 g c =

@@ -7,7 +7,7 @@ use Rattle.propagate_queue.specs.Postings.{Posting, ranges_of}
 use Rattle.propagate_queue.specs.Running.{AreDomains, HasNone}
 use Rattle.propagate_queue.proofs.NewAgents.{none_added}
 use Rattle.propagate_queue.proofs.Storing.{none_more, starts, flagged_new}
-use Rattle.propagate_queue.proofs.store.post_new.Goals as goal
+use Rattle.propagate_queue.proofs.marked.post_new.Goals as goal
 
 pub returns-in_err-reserve-clause-added : goal.returns-in_err-reserve-clause-added
 returns-in_err-reserve-clause-added g c = none_added (posting_of c.args.code.value c.args.target c.args.args.now ∷ []) c.args.agents.now c.args.agents.now refl

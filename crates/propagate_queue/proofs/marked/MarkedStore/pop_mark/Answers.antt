@@ -3,7 +3,7 @@ use Rattle.std.specs.Option.{option_to_list}
 use Rattle.propagate_queue.specs.Postings.{ranges_of}
 use Rattle.propagate_queue.specs.StoreFields.{IsStore, levels_below}
 use Rattle.propagate_queue.proofs.Storing.{popped_store, popped_stay, newest}
-use Rattle.propagate_queue.proofs.store.Store.pop_mark.Goals as goal
+use Rattle.propagate_queue.proofs.marked.MarkedStore.pop_mark.Goals as goal
 
 pub cut_to-requires-clause-stay : goal.cut_to-requires-clause-stay
 cut_to-requires-clause-stay g c =

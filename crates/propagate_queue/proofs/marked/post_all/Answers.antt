@@ -8,7 +8,7 @@ use Rattle.propagate_queue.specs.Postings.{Posting, ranges_of}
 use Rattle.propagate_queue.specs.Running.{AreDomains, HasNone}
 use Rattle.propagate_queue.proofs.NewAgents.{same_flags}
 use Rattle.propagate_queue.proofs.Storing.{none_more, starts, flagged_new}
-use Rattle.propagate_queue.proofs.store.post_all.Goals as goal
+use Rattle.propagate_queue.proofs.marked.post_all.Goals as goal
 
 pub returns-in_err-reserve-clause-part : goal.returns-in_err-reserve-clause-part
 returns-in_err-reserve-clause-part g c = (map posting c.args.list.items, refl)

@@ -1,0 +1,7 @@
+use Rattle.std.proofs.Common.{◌≡◌, true, false, length, subst}
+use Rattle.fd_model.specs.Levels.{Levels}
+use Rattle.propagate_queue.specs.Running.{HasNone}
+use Rattle.propagate_queue.proofs.marked.MarkedStore.known.Goals as goal
+
+pub returns-clause-failed : goal.returns-clause-failed
+returns-clause-failed g c = subst (λ (v : Levels). v.spent ≡ false → v.current.failed ≡ true → HasNone v.current.posted (length v.current.sets)) c.self.view_is c.self.invariant.failed
