@@ -1,6 +1,7 @@
 mod Spelling
 mod LevelModels
 mod Sound
+mod Resetting
 mod Compounds
 mod Constraining
 mod ConstrainingRows

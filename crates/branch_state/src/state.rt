@@ -199,6 +199,20 @@ impl<A: Agenda + Drop> BranchState<A> {
         self.store.pop_mark();
     }
 
+    /// Gives the pair below back, which stays below as well, as `undo` and then `mark` do. No memory.
+    #[inline]
+    pub fn reset_to_mark(&mut self)
+        requires sound { IsSoundBelow self.old }
+        requires marked { 1 < length self.old.heaps.below }
+        ensures undone { IsUndone self.old (without_pairs self.new 1) }
+        ensures pair { self.new ≡ with_pair (without_pairs self.new 1) }
+        ensures under { IsSound (without_pairs self.new 1) }
+        ensures sound { IsSound self.new }
+    {
+        self.heap.reset_to_mark();
+        self.store.reset_to_mark();
+    }
+
     /// Takes away the `n` pairs directly below the current one, of which there are more. No memory.
     #[inline]
     pub fn drop_marks(&mut self, n: usize)
