@@ -1,6 +1,6 @@
 //! Choice points that are gone back to: one stays while a later clause may match.
 
-ghost use Rattle.std.specs.Prelude.{◌<◌, length, IfOk, OnOk};
+ghost use Rattle.std.specs.Prelude.{◌<◌, length};
 ghost use Rattle.branch_state.specs.States.{IsSoundBelow};
 ghost use Rattle.code_states.specs.Safety.{IsSafe, IsSafeBack};
 ghost use Rattle.code_control.specs.Again.{IsUndoneAgain, KeepsPoint, TriesAgain};
@@ -9,20 +9,17 @@ use crate::choices::go_back;
 use crate::choosing::{Tried, next_choice, tried_at};
 use branch_state::BranchState;
 use code_areas::Areas;
-use fd_language::NoMemory;
 use propagate_queue::Agenda;
 use wam_code::CodeArea;
 
-/// Makes the pair below the current one, of which a copy stays below. The error is want of memory.
+/// Makes the pair below the current one, of which a copy stays below. No memory.
 #[inline]
-fn undo_again<A: Agenda + Drop>(branch: &mut BranchState<A>) -> Result<(), NoMemory>
+fn undo_again<A: Agenda + Drop>(branch: &mut BranchState<A>)
     requires sound { IsSoundBelow branch.old }
     requires marked { 1 < length branch.old.heaps.below }
-    ensures { OnOk result (IsUndoneAgain branch.old branch.new) }
+    ensures { IsUndoneAgain branch.old branch.new }
 {
-    branch.undo();
-    branch.mark()?;
-    Ok(())
+    branch.reset_to_mark();
 }
 
 /// Keeps the newest choice point for the first choice from the place `other` on whose clause may match, or takes it away where none may,
@@ -48,27 +45,27 @@ fn keep_point<A: Agenda + Drop>(
 }
 
 /// Goes back to the newest choice point, and takes the choice at its place: the point stays while a later clause may match, and is gone
-/// with the last one, or where no choice stands there. The result is the next place; the error is want of memory.
+/// with the last one, or where no choice stands there. The result is the next place. No memory.
 pub fn try_again<A: Agenda + Drop>(
     code: &CodeArea,
     branch: &mut BranchState<A>,
     areas: &mut Areas,
-) -> Result<usize, NoMemory>
+) -> usize
     requires safe { IsSafeBack code.now branch.old areas.old }
     requires some { 0 < length areas.old.points }
-    ensures { IfOk result (TriesAgain code.now branch.old areas.old branch.new areas.new) }
+    ensures { TriesAgain code.now branch.old areas.old branch.new areas.new result }
 {
     match tried_at(code, areas.point_place()) {
         Tried::Both(to, other) => {
-            undo_again(branch)?;
+            undo_again(branch);
             areas.restore_point();
             keep_point(code, other, branch, areas);
-            Ok(to)
+            to
         }
         Tried::Last(to) => {
             go_back(code, branch, areas);
-            Ok(to)
+            to
         }
-        Tried::Other => Ok(go_back(code, branch, areas)),
+        Tried::Other => go_back(code, branch, areas),
     }
 }

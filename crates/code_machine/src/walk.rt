@@ -260,7 +260,7 @@ fn come_back<A: Agenda + Drop>(
     if has_values(labels, areas.points() - 1) {
         return come_to_values(code, branch, areas, labels, scratch);
     }
-    Ok(Went::On(try_again(code, branch, areas)?))
+    Ok(Went::On(try_again(code, branch, areas)))
 }
 
 /// Goes back to the newest choice point of a run.

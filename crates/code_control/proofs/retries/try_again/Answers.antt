@@ -19,7 +19,7 @@ undo_again-requires g c = record { sound = c.requires.safe.sound; marked = can_u
 
 pub keep_point-requires : goal.keep_point-requires
 keep_point-requires g c =
-    let u = c.in_ok-undo_again-in-Both.ensures in
+    let u = c.undo_again.ensures in
     let r = c.restore_point.ensures in
     let n = c.restore_point.new.self in
     let gone : IsBackAt c.args.code.now c.args.branch.now c.args.areas.now u.back c.restore_point.result (record n { points = drop 1 n.points }) = restored_gone c.args.code.now c.args.branch.now c.args.areas.now c.requires.safe u.back u.undone u.sound n c.restore_point.result r.back r.same in
@@ -30,9 +30,9 @@ keep_point-requires g c =
       some = subst (λ (ps : List Point). 0 < length ps) (sym r.same) c.requires.some;
     }
 
-pub returns-in_ok-undo_again-in-Both : goal.returns-in_ok-undo_again-in-Both
-returns-in_ok-undo_again-in-Both g c =
-    let u = c.in_ok-undo_again-in-Both.ensures in
+pub returns-in-Both : goal.returns-in-Both
+returns-in-Both g c =
+    let u = c.undo_again.ensures in
     let r = c.restore_point.ensures in
     let n = c.restore_point.new.self in
     let gone : IsBackAt c.args.code.now c.args.branch.now c.args.areas.now u.back c.restore_point.result (record n { points = drop 1 n.points }) = restored_gone c.args.code.now c.args.branch.now c.args.areas.now c.requires.safe u.back u.undone u.sound n c.restore_point.result r.back r.same in

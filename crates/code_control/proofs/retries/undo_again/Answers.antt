@@ -1,4 +1,7 @@
+use Rattle.branch_state.specs.States.{without_pairs}
 use Rattle.code_control.proofs.retries.undo_again.Goals as goal
 
 pub returns : goal.returns
-returns g c = record { back = c.undo.new.self; undone = c.undo.ensures.undone; sound = c.undo.ensures.sound; pair = c.in_ok-mark.ensures.marked; kept = c.in_ok-mark.ensures.sound }
+returns g c =
+    let e = c.reset_to_mark.ensures in
+    record { back = without_pairs c.reset_to_mark.new.self 1; undone = e.undone; sound = e.under; pair = e.pair; kept = e.sound }

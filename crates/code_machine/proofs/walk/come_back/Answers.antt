@@ -9,4 +9,4 @@ returns g c =
     let some = c.requires.some in
     let many : length c.args.areas.now.points ≡ suc (c.points.result - 1) = omega (arith, n, some) in
     tried_again c.args.code.now c.args.branch.now c.args.areas.now (reverse c.args.labels.now.items) c.requires.labels (c.points.result - 1) many
-    (subst (λ ls. TakesValues (reverse ls) (c.points.result - 1) (reverse ls) None) c.deref.ensures.value (c.if-has_values.ensures refl)) c.try_again.new.branch c.try_again.new.areas c.in_ok-try_again.field-0 c.in_ok-try_again.ensures
+    (subst (λ ls. TakesValues (reverse ls) (c.points.result - 1) (reverse ls) None) c.deref.ensures.value (c.if-has_values.ensures refl)) c.try_again.new.branch c.try_again.new.areas c.try_again.result c.try_again.ensures
