@@ -1,12 +1,13 @@
 -- What is written of each answer.
-use Rattle.std.proofs.Common.{◌≡◌, ℕ, suc, ◌+◌, ◌<◌, ◌≤◌, Bool, true, ◌&&◌, List, [], ◌∷◌, ◌++◌, length, take, get_or, Option, Some, None, is_none, codes, decimal, refl, sym, ap, ◌∙◌, subst, inl, inr, arith, append_assoc, append-nil}
+use Rattle.std.proofs.Common.{◌≡◌, ℕ, suc, ◌+◌, ◌<◌, ◌≤◌, Bool, true, ◌&&◌, List, [], ◌∷◌, ◌++◌, length, take, get_or, Option, Some, None, is_none, codes}
+use Rattle.std.proofs.Common.{decimal, refl, sym, ap, ◌∙◌, subst, inl, inr, arith, append_assoc, append-nil}
 use Rattle.std.specs.Prelude.{All}
 use Rattle.std.specs.List.{list_all}
 use Rattle.std.proofs.lemmas.List.Elements.{All-nil, All-cons, All-head, All-tail, All-append}
 use Rattle.fd_language.specs.declared.TheConstants.{INFINITY}
 use Rattle.fd_model.specs.Goal.{Goal}
 use Rattle.fd_model.specs.Lines.{line}
-use Rattle.fd_model.specs.Satisfies.{Assignment}
+use Rattle.fd_model.specs.Satisfaction.{Assignment}
 use Rattle.answer_check.specs.declared.goals.Constraint.{Constraint}
 use Rattle.answer_check.specs.AnswerLines.{assigned}
 use Rattle.answer_check.specs.Checks.{IsBounded, CanCheck, AreFirstBroken}
@@ -25,7 +26,8 @@ yes_line old one two new k e f g =
     ∙ append_assoc old (codes "answer ") (decimal k ++ codes ": yes\n")
     ∙ ap (λ t. old ++ (codes "answer " ++ t)) (sym (append_assoc (decimal k) (codes ": yes") (codes "\n")))
 
-pub no_line : (old one two three four new : List ℕ) (k g : ℕ) → one ≡ old ++ codes "answer " → two ≡ one ++ decimal k → three ≡ two ++ codes ": no " → four ≡ three ++ decimal g → new ≡ four ++ codes "\n" → new ≡ old ++ answer_line k (Some g)
+pub no_line : (old one two three four new : List ℕ) (k g : ℕ) → one ≡ old ++ codes "answer " → two ≡ one ++ decimal k → three ≡ two ++ codes ": no "
+    → four ≡ three ++ decimal g → new ≡ four ++ codes "\n" → new ≡ old ++ answer_line k (Some g)
 no_line old one two three four new k g a b c d e =
     e ∙ ap (λ t. t ++ codes "\n") (d ∙ ap (λ t. t ++ decimal g) (c ∙ ap (λ t. t ++ codes ": no ") (b ∙ ap (λ t. t ++ decimal k) a)))
     ∙ append_assoc (((old ++ codes "answer ") ++ decimal k) ++ codes ": no ") (decimal g) (codes "\n")
@@ -34,7 +36,8 @@ no_line old one two three four new k g a b c d e =
     ∙ append_assoc old (codes "answer ") (decimal k ++ (codes ": no " ++ (decimal g ++ codes "\n")))
     ∙ ap (λ t. old ++ (codes "answer " ++ t)) (sym (append_assoc (decimal k) (codes ": no " ++ decimal g) (codes "\n")))
 
-pub falling_line : (old one two new : List ℕ) (k : ℕ) → one ≡ old ++ codes "order: not rising at " → two ≡ one ++ decimal k → new ≡ two ++ codes "\n" → new ≡ old ++ line (codes "order: " ++ order_text (not_rising k))
+pub falling_line : (old one two new : List ℕ) (k : ℕ) → one ≡ old ++ codes "order: not rising at " → two ≡ one ++ decimal k → new ≡ two ++ codes "\n"
+    → new ≡ old ++ line (codes "order: " ++ order_text (not_rising k))
 falling_line old one two new k e f g =
     g ∙ ap (λ t. t ++ codes "\n") (f ∙ ap (λ t. t ++ decimal k) e)
     ∙ append_assoc (old ++ codes "order: not rising at ") (decimal k) (codes "\n")
@@ -64,7 +67,8 @@ each_can [] (k ∷ ks) s = absurd s
 each_can (g ∷ gs) [] s = absurd s
 each_can (g ∷ gs) (k ∷ ks) s = All-cons CanCheck k ks s.0.safe (each_can gs ks s.1)
 
-each_more : (gs : List Goal) (nss : List (List ℕ)) (vs : List (Option ℕ)) (ns : List ℕ) (v : Option ℕ) → EachFirstBroken INFINITY gs nss vs → IsFirstBroken INFINITY (assigned ns) 1 gs v → EachFirstBroken INFINITY gs (nss ++ ns ∷ []) (vs ++ v ∷ [])
+each_more : (gs : List Goal) (nss : List (List ℕ)) (vs : List (Option ℕ)) (ns : List ℕ) (v : Option ℕ) → EachFirstBroken INFINITY gs nss vs
+    → IsFirstBroken INFINITY (assigned ns) 1 gs v → EachFirstBroken INFINITY gs (nss ++ ns ∷ []) (vs ++ v ∷ [])
 each_more gs [] [] ns v h b = (b, refl)
 each_more gs [] (w ∷ vs) ns v h b = absurd (cc (h))
 each_more gs (ms ∷ nss) [] ns v h b = absurd h
@@ -87,13 +91,15 @@ pub record IsReported (gs : List Goal) (nss : List (List ℕ)) (number : ℕ) (t
 pub reported_none : (gs : List Goal) (nss : List (List ℕ)) → IsReported gs nss 0 [] true
 reported_none gs nss = record { broken = []; count = refl; each = refl; written = refl; good = refl }
 
-pub reported_more : (gs : List Goal) (ks : List Constraint) (nss : List (List ℕ)) (number : ℕ) (old new : List ℕ) (is_good : Bool) (row : List ℕ) (o : Option ℕ) → number < length nss → EachSays gs ks → row ≡ get_or nss number [] → All (λ n. n ≤ INFINITY) row
+pub reported_more : (gs : List Goal) (ks : List Constraint) (nss : List (List ℕ)) (number : ℕ) (old new : List ℕ) (is_good : Bool) (row : List ℕ) (o : Option ℕ)
+    → number < length nss → EachSays gs ks → row ≡ get_or nss number [] → All (λ n. n ≤ INFINITY) row
     → AreFirstBroken (assigned row) 1 ks o → new ≡ old ++ answer_line (number + 1) o → IsReported gs nss number old is_good → IsReported gs nss (number + 1) new (is_good && is_none o)
 reported_more gs ks nss number old new is_good row o l s is small h e r = record {
   broken = r.broken ++ o ∷ [];
   count = (let c = r.count in let k = lengths r.broken o in omega (arith, c, k));
   each = subst (λ ms. EachFirstBroken INFINITY gs ms (r.broken ++ o ∷ [])) (sym (take_next nss number [] l))
-      (each_more gs (take number nss) r.broken (get_or nss number []) o r.each (subst (λ ns. IsFirstBroken INFINITY (assigned ns) 1 gs o) is (first_broken (assigned row) 1 gs ks o (bounded_values_of row small) s h)));
+      (each_more gs (take number nss) r.broken (get_or nss number []) o r.each
+      (subst (λ ns. IsFirstBroken INFINITY (assigned ns) 1 gs o) is (first_broken (assigned row) 1 gs ks o (bounded_values_of row small) s h)));
   written = e ∙ ap (λ t. t ++ answer_line (number + 1) o) r.written
       ∙ (let c : number + 1 ≡ 1 + length r.broken = (let k = r.count in omega (arith, k)) in ap (λ n. answer_lines 1 r.broken ++ answer_line n o) c)
       ∙ sym (lines_more 1 r.broken o);
@@ -110,5 +116,6 @@ all_numbers (ns ∷ nss) h = All-append (λ k. k ≤ INFINITY) ns (all_values ns
 
 -- ---- the whole report
 
-pub none_missing : (gs : List Goal) (nss : List (List ℕ)) (number : ℕ) (text : List ℕ) (is_good : Bool) → take number nss ≡ nss → (r : IsReported gs nss number text is_good) → EachFirstBroken INFINITY gs nss r.broken
+pub none_missing : (gs : List Goal) (nss : List (List ℕ)) (number : ℕ) (text : List ℕ) (is_good : Bool) → take number nss ≡ nss
+    → (r : IsReported gs nss number text is_good) → EachFirstBroken INFINITY gs nss r.broken
 none_missing gs nss number text is_good e r = subst (λ ms. EachFirstBroken INFINITY gs ms r.broken) e r.each

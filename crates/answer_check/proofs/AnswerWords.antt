@@ -1,5 +1,6 @@
 -- The numbers that an answer line gives the variables, read from its front.
-use Rattle.std.proofs.Common.{◌≡◌, ℕ, suc, ◌<◌, ◌≤◌, ◌^◌, Bool, true, false, cond, not, pos, List, [], ◌∷◌, ◌++◌, map, length, take, drop, get_or, codes, decimal, Option, Some, None, refl, sym, ap, ◌∙◌, subst, arith, append_assoc, take-append-drop, length-take-le}
+use Rattle.std.proofs.Common.{◌≡◌, ℕ, suc, ◌<◌, ◌≤◌, ◌^◌, Bool, true, false, cond, not, pos, List, [], ◌∷◌, ◌++◌, map, length, take, drop, get_or, codes}
+use Rattle.std.proofs.Common.{decimal, Option, Some, None, refl, sym, ap, ◌∙◌, subst, arith, append_assoc, take-append-drop, length-take-le}
 use Rattle.std.specs.Prelude.{◌&&◌, nat_eq, nat_le, option_map, option_and_then, slice_index, All}
 use Rattle.std.specs.Char.{is_ascii_digit}
 use Rattle.std.specs.List.{position_or_len, starts_with}
@@ -100,9 +101,12 @@ digits_and_rest rest =
 
 -- ---- the value of one variable
 
-pub value_is : (between : List ℕ) (name : Name) (bytes rest : List ℕ) (n : ℕ) → value_in between name bytes ≡ Some (n, rest) → (bytes ≡ between ++ (name ++ (codes " = " ++ (decimal n ++ rest)))) × (n ≤ INFINITY)
+pub value_is : (between : List ℕ) (name : Name) (bytes rest : List ℕ) (n : ℕ) → value_in between name bytes ≡ Some (n, rest)
+    → (bytes ≡ between ++ (name ++ (codes " = " ++ (decimal n ++ rest)))) × (n ≤ INFINITY)
 value_is between name bytes rest n e =
-    let a = then_is (λ (named : List ℕ). option_and_then (λ (equals : List ℕ). option_and_then (λ (later : List ℕ). number_and_rest later) (behind (codes " = ") equals)) (behind name named)) (behind between bytes) (n, rest) e in
+    let a = then_is (λ (named : List ℕ). option_and_then
+    (λ (equals : List ℕ). option_and_then (λ (later : List ℕ). number_and_rest later) (behind (codes " = ") equals)) (behind name named))
+    (behind between bytes) (n, rest) e in
     let b = then_is (λ (equals : List ℕ). option_and_then (λ (later : List ℕ). number_and_rest later) (behind (codes " = ") equals)) (behind name a.0) (n, rest) a.2 in
     let d = then_is (λ (later : List ℕ). number_and_rest later) (behind (codes " = ") b.0) (n, rest) b.2 in
     let later = d.0 in
@@ -110,10 +114,14 @@ value_is between name bytes rest n e =
     let first : m.0 ≡ n = ap (λ (p : ℕ × List ℕ). p.0) m.2 in
     let second : drop (length (digits_of later)) later ≡ rest = ap (λ (p : ℕ × List ℕ). p.1) m.2 in
     let num = number_is (digits_of later) m.0 m.1 in
-    let text : later ≡ decimal n ++ rest = sym (digits_and_rest later) ∙ ap (λ t. t ++ drop (length (digits_of later)) later) (num.0 ∙ ap decimal first) ∙ ap (λ t. decimal n ++ t) second in
-    (behind_is between bytes a.0 a.1 ∙ ap (λ t. between ++ t) (behind_is name a.0 b.0 b.1 ∙ ap (λ t. name ++ t) (behind_is (codes " = ") b.0 later d.1 ∙ ap (λ t. codes " = " ++ t) text)), subst (λ k. k ≤ INFINITY) first num.1)
+    let text : later ≡ decimal n ++ rest = sym (digits_and_rest later) ∙ ap (λ t. t ++ drop (length (digits_of later)) later) (num.0 ∙ ap decimal first) ∙ ap (λ t. decimal n ++ t) second in (
+      behind_is between bytes a.0 a.1 ∙ ap (λ t. between ++ t)
+          (behind_is name a.0 b.0 b.1 ∙ ap (λ t. name ++ t) (behind_is (codes " = ") b.0 later d.1 ∙ ap (λ t. codes " = " ++ t) text)),
+      subst (λ k. k ≤ INFINITY) first num.1,
+    )
 
-pub value_of : (between : List ℕ) (name : Name) (n c : ℕ) (ws : List ℕ) → n ≤ INFINITY → not (is_ascii_digit c) ≡ true → value_in between name (between ++ (name ++ (codes " = " ++ (decimal n ++ c ∷ ws)))) ≡ Some (n, c ∷ ws)
+pub value_of : (between : List ℕ) (name : Name) (n c : ℕ) (ws : List ℕ) → n ≤ INFINITY → not (is_ascii_digit c) ≡ true
+    → value_in between name (between ++ (name ++ (codes " = " ++ (decimal n ++ c ∷ ws)))) ≡ Some (n, c ∷ ws)
 value_of between name n c ws l other =
     let later = decimal n ++ c ∷ ws in
     let F = λ (named : List ℕ). option_and_then (λ (equals : List ℕ). option_and_then (λ (rest : List ℕ). number_and_rest rest) (behind (codes " = ") equals)) (behind name named) in
@@ -137,7 +145,8 @@ abbrev row_text : Name → List Name → ℕ → List ℕ → List ℕ
 row_text n ns k ks = n ++ (codes " = " ++ (decimal k ++ tail_text ns ks))
 
 -- the bytes that tail_text begins with
-values_of_row : (between : List ℕ) (n : Name) (ns : List Name) (k : ℕ) (ks : List ℕ) → length ks ≡ length ns → k ≤ INFINITY → All (λ j. j ≤ INFINITY) ks → values_in between (n ∷ ns) (between ++ row_text n ns k ks) ≡ Some (k ∷ ks)
+values_of_row : (between : List ℕ) (n : Name) (ns : List Name) (k : ℕ) (ks : List ℕ) → length ks ≡ length ns → k ≤ INFINITY → All (λ j. j ≤ INFINITY) ks
+    → values_in between (n ∷ ns) (between ++ row_text n ns k ks) ≡ Some (k ∷ ks)
 values_of_row between n [] k [] e l h =
     ap (option_and_then (λ v. option_map (λ vs. v.0 ∷ vs) (values_in (codes ", ") [] v.1))) (value_of between n k 10 [] l refl)
 values_of_row between n [] k (j ∷ ks) e l h = absurd (omega (arith, e))
@@ -197,7 +206,8 @@ row_of_values between n (m ∷ ns) bytes ks e =
 abbrev term_for : ℕ → Term
 term_for k = Int (pos k)
 
-joined_row : (vars : ℕ → List ℕ) (n : Name) (ns : List Name) (k : ℕ) (ks : List ℕ) → length ks ≡ length ns → joined (codes ", ") (equals_text vars (n ∷ ns) (map term_for (k ∷ ks))) ++ codes "\n" ≡ row_text n ns k ks
+joined_row : (vars : ℕ → List ℕ) (n : Name) (ns : List Name) (k : ℕ) (ks : List ℕ) → length ks ≡ length ns
+    → joined (codes ", ") (equals_text vars (n ∷ ns) (map term_for (k ∷ ks))) ++ codes "\n" ≡ row_text n ns k ks
 joined_row vars n [] k [] e = append_assoc n (codes " = " ++ decimal k) (codes "\n") ∙ ap (λ t. n ++ t) (append_assoc (codes " = ") (decimal k) (codes "\n"))
 joined_row vars n [] k (j ∷ ks) e = absurd (omega (arith, e))
 joined_row vars n (m ∷ ns) k [] e = absurd (omega (arith, e))

@@ -1,5 +1,6 @@
 -- The goals of a body, kept one after the other.
-use Rattle.std.proofs.Common.{◌≡◌, ℕ, ◌<◌, Bool, true, false, cond, List, [], ◌∷◌, ◌++◌, length, Some, refl, sym, ap, ◌∙◌, subst, arith, append_assoc, append-nil}
+use Rattle.std.proofs.Common.{◌≡◌, ℕ, ◌<◌, Bool, true, false, cond, List, [], ◌∷◌, ◌++◌, length, Some, refl, sym, ap, ◌∙◌, subst, arith, append_assoc}
+use Rattle.std.proofs.Common.{append-nil}
 use Rattle.std.specs.Prelude.{All, Result, Ok, Err, codes}
 use Rattle.std.specs.Str.{bytes_eq}
 use Rattle.std.proofs.lemmas.List.Elements.{All-nil, All-cons, All-append, All-pop}
@@ -22,7 +23,7 @@ use Rattle.answer_check.specs.declared.outcome.Stop.{Stop}
 use Rattle.answer_check.specs.declared.outcome.Stop.TheVariants.{Refused}
 use Rattle.answer_check.specs.FlatForm.{FlatGoals, behind_goal, conjuncts, flat_goals, is_flat_goal, labelling_of}
 use Rattle.answer_check.specs.Goals.{Says, EachSays, SaysGoal, FindsGoals, IsLabelling, StopsAt}
-use Rattle.answer_check.specs.Reading.{IsAlone, AreSides}
+use Rattle.answer_check.specs.TermShapes.{IsAlone, AreSides}
 
 -- a refusal at the place where the form is broken
 pub stops_here : {A : Type 0} (r : Result A ℕ) (p : ℕ) (w : Reason) (st : Stop) → r ≡ Err p → st ≡ Refused p w → StopsAt r w st
@@ -71,7 +72,17 @@ sides_ahead c ts t a b s =
 pub sides_smaller : (c : Contents) (ts : List TermId) (t a b : TermId) → AreSides c t a b → total_size c ((ts ++ b ∷ []) ++ a ∷ []) < total_size c (ts ++ t ∷ [])
 sides_smaller c ts t a b s =
     let k = s.smaller in
-    omega (arith, k, total_size-append c (ts ++ b ∷ []) (a ∷ []), total_size-append c ts (b ∷ []), total_size-append c ts (t ∷ []), total_size-cons c a [], total_size-cons c b [], total_size-cons c t [], total_size-nil c)
+    omega (
+      arith,
+      k,
+      total_size-append c (ts ++ b ∷ []) (a ∷ []),
+      total_size-append c ts (b ∷ []),
+      total_size-append c ts (t ∷ []),
+      total_size-cons c a [],
+      total_size-cons c b [],
+      total_size-cons c t [],
+      total_size-nil c,
+    )
 
 -- some goal is ahead
 some_conjunct : (t : PlacedTerm) → conjuncts t ≡ [] → ⊥
@@ -115,7 +126,8 @@ module _ (c : Contents) (n : ℕ) (found : Result FlatGoals ℕ) (ks : List Cons
     goals = h.goals;
     says = h.says;
     same = h.same ∙ ap (λ xs. behind_goals h.goals (flat_goals INFINITY n xs)) (ap (ahead_goals c) e ∙ sym (sides_ahead c rest t a b s) ∙ ap (ahead_goals c) (sym is));
-    within = subst (All IsIn) (sym is) (All-append IsIn (rest ++ b ∷ []) (a ∷ []) (All-append IsIn rest (b ∷ []) popped.0 (All-cons IsIn b [] s.right (All-nil IsIn))) (All-cons IsIn a [] s.left (All-nil IsIn)));
+    within = subst (All IsIn) (sym is) (All-append IsIn (rest ++ b ∷ []) (a ∷ [])
+        (All-append IsIn rest (b ∷ []) popped.0 (All-cons IsIn b [] s.right (All-nil IsIn))) (All-cons IsIn a [] s.left (All-nil IsIn)));
   }
 
   -- one goal more
@@ -125,11 +137,14 @@ module _ (c : Contents) (n : ℕ) (found : Result FlatGoals ℕ) (ks : List Cons
   abbrev x : PlacedTerm
   x = placed_of c t
 
-  front_goal : (xs : List PlacedTerm) → (xs ≡ [] → ⊥) → flat_goals INFINITY n (x ∷ xs) ≡ cond (is_flat_goal INFINITY x (goal_of INFINITY x)) (behind_goal (goal_of INFINITY x) (flat_goals INFINITY n xs)) (Err (place x))
+  front_goal : (xs : List PlacedTerm) → (xs ≡ [] → ⊥)
+      → flat_goals INFINITY n (x ∷ xs) ≡ cond (is_flat_goal INFINITY x (goal_of INFINITY x)) (behind_goal (goal_of INFINITY x) (flat_goals INFINITY n xs))
+      (Err (place x))
   front_goal [] h = absurd (h refl)
   front_goal (y ∷ ys) h = refl
 
-  pub goals_more : (k : Constraint) → IsAlone c t → (ahead_goals c rest ≡ [] → ⊥) → is_flat_goal INFINITY x (goal_of INFINITY x) ≡ true → Says (λ a. IsSatisfied INFINITY INFINITY a (goal_of INFINITY x)) k → IsGoingOn c n found (ks ++ k ∷ []) rest
+  pub goals_more : (k : Constraint) → IsAlone c t → (ahead_goals c rest ≡ [] → ⊥) → is_flat_goal INFINITY x (goal_of INFINITY x) ≡ true
+      → Says (λ a. IsSatisfied INFINITY INFINITY a (goal_of INFINITY x)) k → IsGoingOn c n found (ks ++ k ∷ []) rest
   goals_more k s some test says = record {
     goals = h.goals ++ goal_of INFINITY x ∷ [];
     says = each_more h.goals ks (goal_of INFINITY x) k h.says says;
@@ -152,7 +167,8 @@ module _ (c : Contents) (n : ℕ) (found : Result FlatGoals ℕ) (ks : List Cons
   pub goals_unlabelled : IsAlone c t → rest ≡ [] → labelling_of n (place x) (goal_of INFINITY x) ≡ Err (place x) → found ≡ Err (place x)
   goals_unlabelled s none f = last_goal s none ∙ ap (behind_goals h.goals) f ∙ behind_err h.goals (place x)
 
-  pub goals_labelled : (l : Labelling) (g : Goals) → IsAlone c t → rest ≡ [] → IsLabelling (labelling_of n (place x) (goal_of INFINITY x)) l → g.constraints.items ≡ ks → g.order ≡ l.order → g.labelled.items ≡ l.labelled.items → FindsGoals found g
+  pub goals_labelled : (l : Labelling) (g : Goals) → IsAlone c t → rest ≡ [] → IsLabelling (labelling_of n (place x) (goal_of INFINITY x)) l
+      → g.constraints.items ≡ ks → g.order ≡ l.order → g.labelled.items ≡ l.labelled.items → FindsGoals found g
   goals_labelled l g s none f kept order labelled = (
     with_front h.goals f.goals,
     last_goal s none ∙ ap (behind_goals h.goals) f.found ∙ behind_ok h.goals f.goals,

@@ -1,22 +1,23 @@
 -- One member more, and one constraint more.
-use Rattle.std.proofs.Common.{◌≡◌, ℕ, zero, suc, ◌+◌, ◌-◌, ◌<◌, ◌≤◌, Bool, true, false, cond, ℤ, pos, List, [], ◌∷◌, ◌++◌, length, take, drop, get_or, None, IsTrue, refl, sym, ap, ◌∙◌, subst, arith, true≢false}
+use Rattle.std.proofs.Common.{◌≡◌, ℕ, zero, suc, ◌+◌, ◌-◌, ◌<◌, ◌≤◌, Bool, true, false, cond, ℤ, pos, List, [], ◌∷◌, ◌++◌, length, take, drop, get_or, None}
+use Rattle.std.proofs.Common.{IsTrue, refl, sym, ap, ◌∙◌, subst, arith, true≢false}
 use Rattle.std.specs.Prelude.{◌↔◌}
 use Rattle.std.specs.List.{list_any}
 use Rattle.std.specs.Ordering.{int_eq}
 use Rattle.std.proofs.lemmas.Bool.Decides.{Decides-int_eq}
 use Rattle.fd_language.specs.declared.TheConstants.{INFINITY}
-use Rattle.fd_language.specs.Flat.{nodes_of}
+use Rattle.fd_language.specs.PostfixRanges.{nodes_of}
 use Rattle.fd_language.specs.Range.{Range, Span}
 use Rattle.fd_model.specs.declared.kinds.Relation.{Relation}
-use Rattle.fd_model.specs.Satisfies.{Assignment, Holds, IsNumber, AreNumbers, AreDifferent, IsElement, occurrences}
+use Rattle.fd_model.specs.Satisfaction.{Assignment, Holds, IsNumber, AreNumbers, AreDifferent, IsElement, occurrences}
 use Rattle.answer_check.specs.declared.goals.Constraint.{Constraint}
 use Rattle.answer_check.specs.declared.goals.Constraint.TheVariants as constraint
 use Rattle.answer_check.specs.declared.members.Member.{Member}
-use Rattle.answer_check.specs.declared.work.Work.{Work}
+use Rattle.answer_check.specs.declared.operand_stack.Work.{Work}
 use Rattle.answer_check.specs.Checks.{IsBounded, CanCheck, Meets, EndsFit, EndsHold, AreFirstBroken}
 use Rattle.answer_check.specs.Members.{worth_of, worths_of, open_in}
-use Rattle.answer_check.specs.Work.{value_by, RangeFits, IsAt}
-use Rattle.answer_check.proofs.Breaking.{AllMet, met_more, none_broken}
+use Rattle.answer_check.specs.OperandStack.{value_by, RangeFits, IsAt}
+use Rattle.answer_check.proofs.BrokenConstraints.{AllMet, met_more, none_broken}
 use Rattle.answer_check.proofs.Lists.{different_more, different_not, element_at, element_is, numbers_more, numbers_at, occurrences_more, take_next, take_whole}
 use Rattle.answer_check.proofs.MemberTerms.{open_more}
 use Rattle.answer_check.proofs.Spellings.{ends_waiting, some_node}
@@ -32,7 +33,8 @@ module _ (d : Member) (a : Assignment) (ms : List Member) (i : ℕ) (w : ℤ) (l
   pub numbers_stop : (IsNumber INFINITY w → ⊥) → AreNumbers INFINITY (worths_of a ms) → ⊥
   numbers_stop f h = f (subst (IsNumber INFINITY) (sym e) (numbers_at INFINITY (worth_of a) ms i d l h))
 
-  pub occurrences_step : (z : ℤ) (count new : ℕ) (b : Bool) → b ≡ int_eq w z → count ≡ occurrences (worths_of a (take i ms)) z → new ≡ cond b (count + 1) count → new ≡ occurrences (worths_of a (take (i + 1) ms)) z
+  pub occurrences_step : (z : ℤ) (count new : ℕ) (b : Bool) → b ≡ int_eq w z → count ≡ occurrences (worths_of a (take i ms)) z → new ≡ cond b (count + 1) count
+      → new ≡ occurrences (worths_of a (take (i + 1) ms)) z
   occurrences_step z count new b t c n =
       n ∙ ap (λ x. cond x (count + 1) count) (t ∙ ap (λ x. int_eq x z) e) ∙ ap (λ k. cond (int_eq (worth_of a (get_or ms i d)) z) (k + 1) k) c
       ∙ sym (ap (λ xs. occurrences (worths_of a xs) z) (take_next ms i d l) ∙ occurrences_more (worth_of a) z (take i ms) (get_or ms i d))
@@ -55,7 +57,8 @@ module _ (d : Member) (a : Assignment) (ms : List Member) (i : ℕ) (w : ℤ) (l
       ap (λ zs. worth_of a m ∷ zs) (parted ms i (omega (arith, l))) ∙ ap (λ k. worth_of a m ∷ worths_of a (take i ms) ++ worth_of a (get_or ms i d) ∷ worths_of a (drop k (m ∷ ms))) (sym n)
 
   pub different_stop : list_any (int_eq w) (worths_of a (take i ms)) ≡ true → AreDifferent (worths_of a ms) → ⊥
-  different_stop f h = different_not (worths_of a (take i ms)) (worths_of a (drop (i + 1) ms)) w f (subst AreDifferent (parted ms i l ∙ ap (λ z. worths_of a (take i ms) ++ z ∷ worths_of a (drop (i + 1) ms)) (sym e)) h)
+  different_stop f h = different_not (worths_of a (take i ms)) (worths_of a (drop (i + 1) ms)) w f
+      (subst AreDifferent (parted ms i l ∙ ap (λ z. worths_of a (take i ms) ++ z ∷ worths_of a (drop (i + 1) ms)) (sym e)) h)
 
 -- ---- elements
 
@@ -78,7 +81,8 @@ none_behind a ms k z l s h =
     let m = r.within in
     omega (arith, n, m, l, as_many a ms)
 
-pub element_there : (d : Member) (a : Assignment) (ms : List Member) (k : ℕ) (z w : ℤ) (b : Bool) → (k ≡ 0 → ⊥) → k - 1 < length ms → w ≡ worth_of a (get_or ms (k - 1) d) → b ≡ int_eq z w → IsTrue b ↔ IsElement 1 (worths_of a ms) (pos k) z
+pub element_there : (d : Member) (a : Assignment) (ms : List Member) (k : ℕ) (z w : ℤ) (b : Bool) → (k ≡ 0 → ⊥) → k - 1 < length ms
+    → w ≡ worth_of a (get_or ms (k - 1) d) → b ≡ int_eq z w → IsTrue b ↔ IsElement 1 (worths_of a ms) (pos k) z
 element_there d a ms k z w b s l e t = (
   (λ h.
       let n : k ≡ 1 + (k - 1) = some k s in
@@ -100,7 +104,8 @@ some_nodes a (Span d e) f = some_node d e
 some_nodes a r f = absurd f
 
 pub ends_hold : (a : Assignment) (rel : Relation) (r : Range) (count : ℕ) (w : Work) (one : List ℤ) (left right : ℤ) (b : Bool) → EndsFit a r → count ≡ length (nodes_of r) - 1 → IsAt a 0 r count w
-    → ((front : List ℤ) (x : ℤ) → w.numbers.items ≡ front ++ x ∷ [] → (right ≡ x) × (one ≡ front)) → ((front : List ℤ) (x : ℤ) → one ≡ front ++ x ∷ [] → (left ≡ x)) → (IsTrue b ↔ Holds rel left right) → IsTrue b ↔ EndsHold a rel r
+    → ((front : List ℤ) (x : ℤ) → w.numbers.items ≡ front ++ x ∷ [] → (right ≡ x) × (one ≡ front))
+    → ((front : List ℤ) (x : ℤ) → one ≡ front ++ x ∷ [] → (left ≡ x)) → (IsTrue b ↔ Holds rel left right) → IsTrue b ↔ EndsHold a rel r
 ends_hold a rel (Span d e) count w one left right b f is k p q h =
     let x = p ([] ++ value_by a d ∷ []) (value_by a e) (ends_waiting a 0 d e count w is k) in
     let y = q [] (value_by a d) x.1 in (

@@ -1,5 +1,6 @@
 -- What a kept constraint says of numbers is what its goal does.
-use Rattle.std.proofs.Common.{◌≡◌, ℕ, ◌+◌, ◌≤◌, Bool, true, false, cond, ◌&&◌, pos, ◌≤ℤ◌, List, [], ◌∷◌, Option, Some, None, is_none, refl, sym, ap, ◌∙◌, subst, true≢false}
+use Rattle.std.proofs.Common.{◌≡◌, ℕ, ◌+◌, ◌≤◌, Bool, true, false, cond, ◌&&◌, pos, ◌≤ℤ◌, List, [], ◌∷◌, Option, Some, None, is_none, refl, sym, ap, ◌∙◌, subst}
+use Rattle.std.proofs.Common.{true≢false}
 use Rattle.std.specs.Prelude.{is_some, codes}
 use Rattle.std.specs.Cmp.{both_ways}
 use Rattle.std.specs.List.{list_all, list_any}
@@ -23,7 +24,8 @@ use Rattle.fd_model.specs.Builtins.{is_integer}
 use Rattle.fd_model.specs.FlatConstraints.{is_narrow, is_operator, width, is_flat, is_flat_comparison, is_list_of, is_place}
 use Rattle.fd_model.specs.ProductRows.{factors, with_result, product_form}
 use Rattle.fd_model.specs.Refusals.{Refusal, range_refusal, or_later, unspelled, offence_refusal}
-use Rattle.fd_model.specs.Satisfies.{Assignment, singles, worth, worths, Holds, IsNumber, AreNumbers, AreDifferent, IsElement, occurrences, InRange, HasResult}
+use Rattle.fd_model.specs.Satisfaction.{Assignment, singles, worth, worths, Holds, IsNumber, AreNumbers, AreDifferent, IsElement, occurrences, InRange}
+use Rattle.fd_model.specs.Satisfaction.{HasResult}
 use Rattle.answer_check.specs.declared.goals.Constraint.{Constraint}
 use Rattle.answer_check.specs.declared.goals.Constraint.TheVariants as constraint
 use Rattle.answer_check.specs.declared.members.Member.{Member}
@@ -32,8 +34,9 @@ use Rattle.answer_check.specs.FlatForm.{is_plain, is_flat_range}
 use Rattle.answer_check.specs.Goals.{Says}
 use Rattle.answer_check.specs.Members.{is_known, worth_of, worths_of, member_in, members_in, known_in}
 use Rattle.answer_check.specs.Sides.{expr_of, sides_in}
-use Rattle.answer_check.specs.Work.{value_by}
-use Rattle.answer_check.proofs.MemberTerms.{place_member, member_worth, known_place, known_member, members_worths, members_listed, known_listed, members_unlisted}
+use Rattle.answer_check.specs.OperandStack.{value_by}
+use Rattle.answer_check.proofs.MemberTerms.{place_member, member_worth, known_place, known_member, members_worths, members_listed, known_listed}
+use Rattle.answer_check.proofs.MemberTerms.{members_unlisted}
 use Rattle.answer_check.proofs.Safety.{accepted_fits, side_fits}
 use Rattle.answer_check.proofs.SideTerms.{value_is}
 
@@ -62,7 +65,9 @@ pub flat_accepted : (t : PlacedTerm) (r : Range) → r ≡ (read_range INFINITY 
 flat_accepted t r is h =
     let both = and_parts (is_none (range_refusal INFINITY INFINITY t)) (is_none_left (params r) && is_plain r) h in
     let none = later_none (unspelled (not_a_range INFINITY t)) (offence_refusal (verdict INFINITY (read_range INFINITY t).places (read_range INFINITY t).tree)) both.0 in
-    subst (λ q. is_accepted INFINITY q ≡ true) (sym is) ((verdict_agrees INFINITY (read_range INFINITY t).places (read_range INFINITY t).tree).0 (no_offence (verdict INFINITY (read_range INFINITY t).places (read_range INFINITY t).tree) none))
+    subst (λ q. is_accepted INFINITY q ≡ true) (sym is)
+    ((verdict_agrees INFINITY (read_range INFINITY t).places (read_range INFINITY t).tree).0
+    (no_offence (verdict INFINITY (read_range INFINITY t).places (read_range INFINITY t).tree) none))
   where
     no_offence : (o : Option Offence) → is_none (offence_refusal o) ≡ true → o ≡ None
     no_offence None h = refl
@@ -83,7 +88,8 @@ no_range t b e = ap (λ p. is_place t && p) e ∙ by (is_place t) where
 pub post_test : (t : Term) (m : Member) (b : Bool) → member_in t ≡ Some m → b ≡ true → (is_place t && b) ≡ true
 post_test t m b e h = ap (λ p. p && b) (place_member t ∙ ap is_some e) ∙ h
 
-pub post_says : (x : PlacedTerm) (t : Term) (m : Member) (r q : Range) → member_in t ≡ Some m → q ≡ r → r ≡ (read_range INFINITY x).tree → is_flat_range INFINITY x r ≡ true → Says (λ a. InRange INFINITY INFINITY a t r) (constraint.Post m q)
+pub post_says : (x : PlacedTerm) (t : Term) (m : Member) (r q : Range) → member_in t ≡ Some m → q ≡ r → r ≡ (read_range INFINITY x).tree
+    → is_flat_range INFINITY x r ≡ true → Says (λ a. InRange INFINITY INFINITY a t r) (constraint.Post m q)
 post_says x t m r q e same is h =
     let both = and_parts (is_none (range_refusal INFINITY INFINITY x)) (is_none_left (params r) && is_plain r) h in
     let plain = and_parts (is_none_left (params r)) (is_plain r) both.1 in
@@ -169,7 +175,8 @@ sides_say rel s t r e =
 
 -- ---- lists
 
-pub different_says : (l : Term) (ms : List Member) (k : Constraint) → Some ms ≡ members_in l → ((a : Assignment) → Meets a k → AreAllDifferent a ms) → ((a : Assignment) → AreAllDifferent a ms → Meets a k) → CanCheck k → Says (λ a. AreNumbers INFINITY (worths a l) × AreDifferent (worths a l)) k
+pub different_says : (l : Term) (ms : List Member) (k : Constraint) → Some ms ≡ members_in l → ((a : Assignment) → Meets a k → AreAllDifferent a ms)
+    → ((a : Assignment) → AreAllDifferent a ms → Meets a k) → CanCheck k → Says (λ a. AreNumbers INFINITY (worths a l) × AreDifferent (worths a l)) k
 different_says l ms k e to back safe = record {
   safe = safe;
   same = λ a small. (
@@ -234,12 +241,15 @@ module _ (i l x : Term) where
             (λ y. let h = to a y in (
               subst (IsNumber INFINITY) (sym wi) h.0,
               subst (IsNumber INFINITY) (sym wx) h.1,
-              subst (λ z. IsElement 1 (worths a l) (worth a i) z) (sym wx) (subst (λ z. IsElement 1 (worths a l) z (worth_of a value)) (sym wi) (subst (λ zs. IsElement 1 zs (worth_of a index) (worth_of a value)) (sym wl) h.2)),
+              subst (λ z. IsElement 1 (worths a l) (worth a i) z) (sym wx)
+                  (subst (λ z. IsElement 1 (worths a l) z (worth_of a value)) (sym wi)
+                  (subst (λ zs. IsElement 1 zs (worth_of a index) (worth_of a value)) (sym wl) h.2)),
             )),
             (λ h. back a (
               subst (IsNumber INFINITY) wi h.0,
               subst (IsNumber INFINITY) wx h.1,
-              subst (λ z. IsElement 1 (worths_of a ms) (worth_of a index) z) wx (subst (λ z. IsElement 1 (worths_of a ms) z (worth a x)) wi (subst (λ zs. IsElement 1 zs (worth a i) (worth a x)) wl h.2)),
+              subst (λ z. IsElement 1 (worths_of a ms) (worth_of a index) z) wx
+                  (subst (λ z. IsElement 1 (worths_of a ms) z (worth a x)) wi (subst (λ zs. IsElement 1 zs (worth a i) (worth a x)) wl h.2)),
             )),
           );
     }
@@ -270,11 +280,14 @@ module _ (n l v : Term) where
           let wl = members_worths a l ms (sym g) in (
             (λ y. let h = to a y in (
               subst (AreNumbers INFINITY) (sym wl) h.0,
-              subst (λ z. pos (occurrences (worths a l) (worth a v)) ≤ℤ z) (sym wn) (subst (λ z. pos (occurrences (worths a l) z) ≤ℤ worth_of a most) (sym wv) (subst (λ zs. pos (occurrences zs (worth_of a value)) ≤ℤ worth_of a most) (sym wl) h.1)),
+              subst (λ z. pos (occurrences (worths a l) (worth a v)) ≤ℤ z) (sym wn)
+                  (subst (λ z. pos (occurrences (worths a l) z) ≤ℤ worth_of a most) (sym wv)
+                  (subst (λ zs. pos (occurrences zs (worth_of a value)) ≤ℤ worth_of a most) (sym wl) h.1)),
             )),
             (λ h. back a (
               subst (AreNumbers INFINITY) wl h.0,
-              subst (λ z. pos (occurrences (worths_of a ms) (worth_of a value)) ≤ℤ z) wn (subst (λ z. pos (occurrences (worths_of a ms) z) ≤ℤ worth a n) wv (subst (λ zs. pos (occurrences zs (worth a v)) ≤ℤ worth a n) wl h.1)),
+              subst (λ z. pos (occurrences (worths_of a ms) (worth_of a value)) ≤ℤ z) wn
+                  (subst (λ z. pos (occurrences (worths_of a ms) z) ≤ℤ worth a n) wv (subst (λ zs. pos (occurrences zs (worth a v)) ≤ℤ worth a n) wl h.1)),
             )),
           );
     }

@@ -1,5 +1,6 @@
 -- How a check ends, from what its last call says.
-use Rattle.std.proofs.Common.{◌≡◌, ℕ, ◌+◌, ◌<◌, ◌≤◌, ◌⊎◌, inl, inr, List, [], ◌∷◌, ◌++◌, map, length, Option, Some, None, IsSome, refl, ap, sym, subst, ◌∙◌, arith, codes, Bool, true, false, length-append, append-nil}
+use Rattle.std.proofs.Common.{◌≡◌, ℕ, ◌+◌, ◌<◌, ◌≤◌, ◌⊎◌, inl, inr, List, [], ◌∷◌, ◌++◌, map, length, Option, Some, None, IsSome, refl, ap, sym, subst, ◌∙◌}
+use Rattle.std.proofs.Common.{arith, codes, Bool, true, false, length-append, append-nil}
 use Rattle.std.specs.Prelude.{is_none, ◌&&◌}
 use Rattle.std.specs.List.{list_all}
 use Rattle.fd_language.specs.declared.TheConstants.{INFINITY}
@@ -67,7 +68,8 @@ rose_not a b e l = omega (arith, e)
 -- ---- the headline
 
 -- the last call wrote the output of an input
-module _ (words : List (List ℕ)) (old new : Ends) (result : CheckStatus) (input out : List ℕ) (st : CheckStatus) (output : CheckOutput INFINITY words input out st) (is : IsInput words old.left new.left input)
+module _ (words : List (List ℕ)) (old new : Ends) (result : CheckStatus) (input out : List ℕ) (st : CheckStatus)
+    (output : CheckOutput INFINITY words input out st) (is : IsInput words old.left new.left input)
     (kept : new.source_faults ≡ old.source_faults) (rest : (front : List ℕ) × Took old.left new.left front) (end : (st ≡ Good) ⊎ (st ≡ Bad) → IsAtEnd new.left)
     (same : (words ≡ [] → ⊥) → (new.left ≡ old.left) × (new.source_faults ≡ old.source_faults)) where
   decided : IsDecided st
@@ -128,13 +130,16 @@ words_output : (words : List (List ℕ)) → (words ≡ [] → ⊥) → CheckOut
 words_output [] h = absurd (h refl)
 words_output (w ∷ ws) h = (refl, refl)
 
-pub with_words : (words : List (List ℕ)) (old new : Ends) (result : CheckStatus) → (words ≡ [] → ⊥) → new.left ≡ old.left → new.source_faults ≡ old.source_faults → Ending (sink_of old) (sink_of new) result Usage usage → Headline words old new result
+pub with_words : (words : List (List ℕ)) (old new : Ends) (result : CheckStatus) → (words ≡ [] → ⊥) → new.left ≡ old.left
+    → new.source_faults ≡ old.source_faults → Ending (sink_of old) (sink_of new) result Usage usage → Headline words old new result
 with_words words old new result some same count h =
-    ended words old new result [] usage Usage (words_output words some) (λ w. absurd (some w)) count (subst (λ (l : Option (List ℕ)). (front : List ℕ) × Took old.left l front) (sym same) (none_took old.left))
+    ended words old new result [] usage Usage (words_output words some) (λ w. absurd (some w)) count
+    (subst (λ (l : Option (List ℕ)). (front : List ℕ) × Took old.left l front) (sym same) (none_took old.left))
     (λ c. absurd (elim c [ inl e ↦ (let f : Usage ≡ Good = e in cc) | inr e ↦ (let f : Usage ≡ Bad = e in cc) ])) (λ n. (same, count)) h
 
 -- nothing was written
-module _ (words : List (List ℕ)) (old new : Ends) (none : words ≡ []) (same : sink_of new ≡ sink_of old) (rest : (front : List ℕ) × Took old.left new.left front) (later : old.source_faults ≤ new.source_faults) where
+module _ (words : List (List ℕ)) (old new : Ends) (none : words ≡ []) (same : sink_of new ≡ sink_of old)
+    (rest : (front : List ℕ) × Took old.left new.left front) (later : old.source_faults ≤ new.source_faults) where
   put : Put old.written new.written []
   put = subst (λ (s : SinkState). Put old.written s.written []) (sym same) (put_none old.written)
 
@@ -180,7 +185,8 @@ module _ (words : List (List ℕ)) (old new : Ends) (none : words ≡ []) (same 
   }
 
 -- the judgement of an input was written, or memory was wanting before
-checked : (words : List (List ℕ)) (old new : Ends) (result : CheckStatus) (input : List ℕ) → words ≡ [] → IsInput words old.left new.left input → new.source_faults ≡ old.source_faults → (front : List ℕ) × Took old.left new.left front → IsAtEnd new.left
+checked : (words : List (List ℕ)) (old new : Ends) (result : CheckStatus) (input : List ℕ) → words ≡ [] → IsInput words old.left new.left input
+    → new.source_faults ≡ old.source_faults → (front : List ℕ) × Took old.left new.left front → IsAtEnd new.left
     → Checks (sink_of old) (sink_of new) result input → Headline words old new result
 checked words old new result input none is count rest end (inl c) =
     ended words old new result input (judgement_output c.0) (judgement_status c.0)
@@ -207,11 +213,13 @@ with_large words old new result none just count h =
     (λ c. absurd (elim c [ inl e ↦ (let f : Refused ≡ Good = e in cc) | inr e ↦ (let f : Refused ≡ Bad = e in cc) ])) (λ n. absurd (n none)) h
 
 -- reading failed
-pub with_fault : (words : List (List ℕ)) (old new : Ends) → words ≡ [] → sink_of new ≡ sink_of old → ReadWithin old.left new.left max_text → Rose old.source_faults new.source_faults → old.source_faults ≤ new.source_faults → Headline words old new ReadFault
+pub with_fault : (words : List (List ℕ)) (old new : Ends) → words ≡ [] → sink_of new ≡ sink_of old → ReadWithin old.left new.left max_text
+    → Rose old.source_faults new.source_faults → old.source_faults ≤ new.source_faults → Headline words old new ReadFault
 with_fault words old new none same read rose later = read_failed words old new none same (within_front old.left new.left max_text read) later rose
 
 -- memory was wanting while reading
-pub with_memory : (words : List (List ℕ)) (old new : Ends) → words ≡ [] → sink_of new ≡ sink_of old → ReadWithin old.left new.left max_text → new.source_faults ≡ old.source_faults → Headline words old new NoMemory
+pub with_memory : (words : List (List ℕ)) (old new : Ends) → words ≡ [] → sink_of new ≡ sink_of old → ReadWithin old.left new.left max_text
+    → new.source_faults ≡ old.source_faults → Headline words old new NoMemory
 with_memory words old new none same read count = ran_short words old new none same (within_front old.left new.left max_text read) (omega (arith, count)) count
 
 -- words by their bytes

@@ -1,5 +1,6 @@
 -- The goals that terms stand for, by their names and parts.
-use Rattle.std.proofs.Common.{◌≡◌, ℕ, zero, suc, Bool, true, false, cond, ◌&&◌, ◌||◌, List, [], ◌∷◌, length, Option, Some, None, refl, sym, ap, ◌∙◌, subst, true≢false}
+use Rattle.std.proofs.Common.{◌≡◌, ℕ, zero, suc, Bool, true, false, cond, ◌&&◌, ◌||◌, List, [], ◌∷◌, length, Option, Some, None, refl, sym, ap, ◌∙◌, subst}
+use Rattle.std.proofs.Common.{true≢false}
 use Rattle.std.specs.Prelude.{Err, MatchOption}
 use Rattle.std.specs.List.{list_any}
 use Rattle.std.proofs.lemmas.Option.{same_Some}
@@ -10,31 +11,31 @@ use Rattle.fd_language.specs.Term.{Name, Term, Comp, term}
 use Rattle.fd_model.specs.declared.kinds.ConstraintKind.{ConstraintKind}
 use Rattle.fd_model.specs.declared.kinds.ConstraintKind.TheVariants as kind
 use Rattle.fd_model.specs.declared.kinds.Order.{Order}
-use Rattle.fd_model.specs.Constraining.{arguments}
+use Rattle.fd_model.specs.ConstraintExpansion.{arguments}
 use Rattle.fd_language.specs.Spelling.{read_range}
 use Rattle.fd_model.specs.FlatConstraints.{is_place}
 use Rattle.fd_model.specs.FlatQueries.{IsSatisfied}
 use Rattle.fd_model.specs.Forms.{GoalForm, truth, failure, unification, posting, cutting, constraint, labelling, optimum, builtin, forms, form_in, form_named}
 use Rattle.fd_model.specs.Labelling.{read_list}
 use Rattle.fd_model.specs.Queries.{best_of, goal_of, goal_named}
-use Rattle.fd_model.specs.Satisfies.{Satisfies, InRange}
+use Rattle.fd_model.specs.Satisfaction.{Satisfies, InRange}
 use Rattle.term_pool.specs.declared.TermId.{TermId}
 use Rattle.term_pool.specs.declared.Node.{Node}
 use Rattle.term_pool.specs.declared.Node.TheVariants as node
 use Rattle.term_pool.specs.Contents.{Contents, atom_name}
-use Rattle.term_pool.specs.Valid.{shape_of}
+use Rattle.term_pool.specs.PoolInvariant.{shape_of}
 use Rattle.term_pool.specs.PlacedTerms.{placed_of, parts_by}
 use Rattle.term_pool.specs.Terms.{term_of, terms_by}
 use Rattle.term_reader.proofs.Lemmas.{plain_placed}
-use Rattle.answer_check.specs.declared.forms.Form.{Form}
-use Rattle.answer_check.specs.declared.forms.Form.TheVariants as form
+use Rattle.answer_check.specs.declared.forms.GoalKind.{GoalKind}
+use Rattle.answer_check.specs.declared.forms.GoalKind.TheVariants as form
 use Rattle.answer_check.specs.declared.goals.Constraint.{Constraint}
 use Rattle.answer_check.specs.FlatForm.{is_flat_goal, is_linear_constraint, is_flat_range, labelled_by, labelling_of}
 use Rattle.answer_check.specs.Forms.{kind_form, flat_form}
 use Rattle.answer_check.specs.declared.goals.Labelling.{Labelling}
 use Rattle.answer_check.specs.Goals.{Keeps, KeepsKind, FindsLabels, FindsLabelling, IsLabelling}
 use Rattle.answer_check.proofs.Labels.{labelling_found, labelling_missing}
-use Rattle.answer_check.specs.Reading.{IsSeen}
+use Rattle.answer_check.specs.TermShapes.{IsSeen}
 use Rattle.answer_check.proofs.Shapes.{count_parts}
 
 all_plain_placed : (c : Contents) (ids : List TermId) → all_plain (parts_by (placed_of c) ids) ≡ terms_by (term_of c) ids
@@ -43,7 +44,8 @@ all_plain_placed c (t ∷ ids) = ap (λ x. term x (all_plain (parts_by (placed_o
 
 module _ (c : Contents) (x : PlacedTerm) (f : Name) (p : ℕ) (ids : List TermId) (e : x ≡ comp f p (parts_by (placed_of c) ids)) where
   goal_form : goal_of INFINITY x ≡ goal_named INFINITY (form_named f (length ids)) x
-  goal_form = ap (goal_of INFINITY) e ∙ ap (λ n. goal_named INFINITY (form_named f n) (comp f p (parts_by (placed_of c) ids))) (count_parts (placed_of c) ids) ∙ ap (goal_named INFINITY (form_named f (length ids))) (sym e)
+  goal_form = ap (goal_of INFINITY) e ∙ ap (λ n. goal_named INFINITY (form_named f n) (comp f p (parts_by (placed_of c) ids))) (count_parts (placed_of c) ids)
+      ∙ ap (goal_named INFINITY (form_named f (length ids))) (sym e)
 
   plain_is : plain x ≡ Comp f (terms_by (term_of c) ids)
   plain_is = ap plain e ∙ ap (Comp f) (all_plain_placed c ids)
@@ -72,7 +74,8 @@ other_kind x kind.Not h = refl
 other_kind x kind.Reified h = refl
 
 -- a goal that is none of the form's constraints
-other_goal : (x : PlacedTerm) (o : Option GoalForm) → ((k : ConstraintKind) → flat_form o ≡ Some (form.Constraint k) → ⊥) → (flat_form o ≡ Some form.Posting → ⊥) → is_flat_goal INFINITY x (goal_named INFINITY o x) ≡ false
+other_goal : (x : PlacedTerm) (o : Option GoalForm) → ((k : ConstraintKind) → flat_form o ≡ Some (form.Constraint k) → ⊥)
+    → (flat_form o ≡ Some form.Posting → ⊥) → is_flat_goal INFINITY x (goal_named INFINITY o x) ≡ false
 other_goal x None h g = refl
 other_goal x (Some truth) h g = refl
 other_goal x (Some failure) h g = refl
@@ -84,7 +87,9 @@ other_goal x (Some (labelling o)) h g = refl
 other_goal x (Some (optimum least)) h g = best_goal x _ _ least _
 other_goal x (Some (builtin k)) h g = refl
 
-pub other_is : (c : Contents) (x : PlacedTerm) (f : Name) (p : ℕ) (ids : List TermId) → x ≡ comp f p (parts_by (placed_of c) ids) → ((k : ConstraintKind) → flat_form (form_named f (length ids)) ≡ Some (form.Constraint k) → ⊥) → (flat_form (form_named f (length ids)) ≡ Some form.Posting → ⊥)
+pub other_is : (c : Contents) (x : PlacedTerm) (f : Name) (p : ℕ) (ids : List TermId) → x ≡ comp f p (parts_by (placed_of c) ids)
+    → ((k : ConstraintKind) → flat_form (form_named f (length ids)) ≡ Some (form.Constraint k) → ⊥)
+    → (flat_form (form_named f (length ids)) ≡ Some form.Posting → ⊥)
     → is_flat_goal INFINITY x (goal_of INFINITY x) ≡ false
 other_is c x f p ids e h g = ap (is_flat_goal INFINITY x) (goal_form c x f p ids e) ∙ other_goal x (form_named f (length ids)) h g
 
@@ -98,7 +103,7 @@ kind_is kind.Or k e = absurd (cc (e))
 kind_is kind.Not k e = absurd (cc (e))
 kind_is kind.Reified k e = absurd (cc (e))
 
-kind_not : (j : ConstraintKind) (f : Form) → ((k : ConstraintKind) → f ≡ form.Constraint k → ⊥) → kind_form j ≡ Some f → ⊥
+kind_not : (j : ConstraintKind) (f : GoalKind) → ((k : ConstraintKind) → f ≡ form.Constraint k → ⊥) → kind_form j ≡ Some f → ⊥
 kind_not (kind.Compare r) f h e = h (kind.Compare r) cc
 kind_not kind.AllDifferent f h e = h kind.AllDifferent cc
 kind_not kind.Element f h e = h kind.Element cc
@@ -121,7 +126,8 @@ constraint_form (Some (labelling o)) k e = absurd (cc (e))
 constraint_form (Some (optimum least)) k e = absurd (cc (e))
 constraint_form (Some (builtin j)) k e = absurd (cc (e))
 
-pub kind_says : (c : Contents) (x : PlacedTerm) (f : Name) (p : ℕ) (ids : List TermId) → x ≡ comp f p (parts_by (placed_of c) ids) → (k : ConstraintKind) → flat_form (form_named f (length ids)) ≡ Some (form.Constraint k) → (o : Option Constraint)
+pub kind_says : (c : Contents) (x : PlacedTerm) (f : Name) (p : ℕ) (ids : List TermId) → x ≡ comp f p (parts_by (placed_of c) ids) → (k : ConstraintKind)
+    → flat_form (form_named f (length ids)) ≡ Some (form.Constraint k) → (o : Option Constraint)
     → KeepsKind k (terms_by (term_of c) ids) o → Keeps (is_flat_goal INFINITY x (goal_of INFINITY x)) (λ a. IsSatisfied INFINITY INFINITY a (goal_of INFINITY x)) o
 kind_says c x f p ids e k h o keeps =
     let is = goal_form c x f p ids e ∙ ap (λ q. goal_named INFINITY q x) (constraint_form (form_named f (length ids)) k h) in
@@ -137,7 +143,8 @@ none_in test (row ∷ rows) a g h e = by (bytes_eq a row.0) e (both (test row.1)
   both false y h = (refl, h)
   both true y h = absurd (true≢false h)
 
-  by : (b : Bool) → cond b (Some row.1) (form_in rows a) ≡ Some g → (test row.1 ≡ false) × (list_any (λ (r : Name × GoalForm). test r.1) rows ≡ false) → (list_any (λ (r : Name × GoalForm). test r.1) rows ≡ false → form_in rows a ≡ Some g → test g ≡ false) → test g ≡ false
+  by : (b : Bool) → cond b (Some row.1) (form_in rows a) ≡ Some g → (test row.1 ≡ false) × (list_any (λ (r : Name × GoalForm). test r.1) rows ≡ false)
+      → (list_any (λ (r : Name × GoalForm). test r.1) rows ≡ false → form_in rows a ≡ Some g → test g ≡ false) → test g ≡ false
   by true e p i = ap test (sym (same_Some row.1 g e)) ∙ p.0
   by false e p i = i p.1 e
 
@@ -183,14 +190,17 @@ posting_two f n h e = go n h (posting_form (form_named f n) e) where
   go (suc (suc (suc zero))) h e = true≢false (none_in is_posting (forms 3) f posting refl e)
   go (suc (suc (suc (suc n)))) h e = cc (e)
 
-pub posting_says : (c : Contents) (x : PlacedTerm) (f : Name) (p : ℕ) (a b : TermId) → x ≡ comp f p (parts_by (placed_of c) (a ∷ b ∷ [])) → flat_form (form_named f 2) ≡ Some form.Posting → (o : Option Constraint)
-    → Keeps (is_place (term_of c a) && is_flat_range INFINITY (placed_of c b) (read_range INFINITY (placed_of c b)).tree) (λ s. InRange INFINITY INFINITY s (term_of c a) (read_range INFINITY (placed_of c b)).tree) o
+pub posting_says : (c : Contents) (x : PlacedTerm) (f : Name) (p : ℕ) (a b : TermId) → x ≡ comp f p (parts_by (placed_of c) (a ∷ b ∷ []))
+    → flat_form (form_named f 2) ≡ Some form.Posting → (o : Option Constraint)
+    → Keeps (is_place (term_of c a) && is_flat_range INFINITY (placed_of c b) (read_range INFINITY (placed_of c b)).tree)
+    (λ s. InRange INFINITY INFINITY s (term_of c a) (read_range INFINITY (placed_of c b)).tree) o
     → Keeps (is_flat_goal INFINITY x (goal_of INFINITY x)) (λ s. IsSatisfied INFINITY INFINITY s (goal_of INFINITY x)) o
 posting_says c x f p a b e h o keeps =
     let is = goal_form c x f p (a ∷ b ∷ []) e ∙ ap (λ q. goal_named INFINITY q x) (posting_form (form_named f 2) h) in
     subst (λ g. Keeps (is_flat_goal INFINITY x g) (λ s. IsSatisfied INFINITY INFINITY s g) o) (sym is)
     (subst (λ y. Keeps (is_flat_goal INFINITY y (goal_named INFINITY (Some posting) y)) (λ s. IsSatisfied INFINITY INFINITY s (goal_named INFINITY (Some posting) y)) o) (sym e)
-    (subst (λ t. Keeps (is_place t && is_flat_range INFINITY (placed_of c b) (read_range INFINITY (placed_of c b)).tree) (λ s. InRange INFINITY INFINITY s t (read_range INFINITY (placed_of c b)).tree) o) (sym (plain_placed c a)) keeps))
+    (subst (λ t. Keeps (is_place t && is_flat_range INFINITY (placed_of c b) (read_range INFINITY (placed_of c b)).tree)
+    (λ s. InRange INFINITY INFINITY s t (read_range INFINITY (placed_of c b)).tree) o) (sym (plain_placed c a)) keeps))
 
 -- ---- the labelling
 
@@ -226,22 +236,27 @@ labelling_one f (suc (suc zero)) h k e = true≢false (none_in is_labelling (for
 labelling_one f (suc (suc (suc zero))) h k e = true≢false (none_in is_labelling (forms 3) f (labelling k) refl e)
 labelling_one f (suc (suc (suc (suc n)))) h k e = cc (e)
 
-pub unlabelled : (c : Contents) (t : TermId) (n p : ℕ) (v : Node) → IsSeen c t (shape_of v) → ((f : _) (ids : _) → v ≡ node.Comp f ids → length ids.now ≡ 1 → ⊥) → labelling_of n p (goal_of INFINITY (placed_of c t)) ≡ Err p
+pub unlabelled : (c : Contents) (t : TermId) (n p : ℕ) (v : Node) → IsSeen c t (shape_of v) → ((f : _) (ids : _) → v ≡ node.Comp f ids → length ids.now ≡ 1 → ⊥)
+    → labelling_of n p (goal_of INFINITY (placed_of c t)) ≡ Err p
 unlabelled c t n p (node.Var x) e h = ap (λ y. labelling_of n p (goal_of INFINITY y)) e
 unlabelled c t n p (node.Int z) e h = ap (λ y. labelling_of n p (goal_of INFINITY y)) e
-unlabelled c t n p (node.Atom a) e h = ap (λ y. labelling_of n p (goal_of INFINITY y)) e ∙ no_labelling n p (atom (atom_name c a) (place (placed_of c t))) (form_named (atom_name c a) 0) (λ k. labelling_one (atom_name c a) 0 (λ z. cc (z)) k)
+unlabelled c t n p (node.Atom a) e h = ap (λ y. labelling_of n p (goal_of INFINITY y)) e
+    ∙ no_labelling n p (atom (atom_name c a) (place (placed_of c t))) (form_named (atom_name c a) 0) (λ k. labelling_one (atom_name c a) 0 (λ z. cc (z)) k)
 unlabelled c t n p (node.Comp f ids) e h =
     ap (labelling_of n p) (goal_form c (placed_of c t) (atom_name c f) (place (placed_of c t)) ids.now e)
     ∙ no_labelling n p (placed_of c t) (form_named (atom_name c f) (length ids.now)) (λ k. labelling_one (atom_name c f) (length ids.now) (λ l. h f ids refl l) k)
 
-pub no_labels : (c : Contents) (x : PlacedTerm) (f : Name) (p : ℕ) (ids : List TermId) → x ≡ comp f p (parts_by (placed_of c) ids) → (n q : ℕ) → ((k : Order) → flat_form (form_named f (length ids)) ≡ Some (form.Labelling k) → ⊥) → labelling_of n q (goal_of INFINITY x) ≡ Err q
+pub no_labels : (c : Contents) (x : PlacedTerm) (f : Name) (p : ℕ) (ids : List TermId) → x ≡ comp f p (parts_by (placed_of c) ids) → (n q : ℕ)
+    → ((k : Order) → flat_form (form_named f (length ids)) ≡ Some (form.Labelling k) → ⊥) → labelling_of n q (goal_of INFINITY x) ≡ Err q
 no_labels c x f p ids e n q h = ap (labelling_of n q) (goal_form c x f p ids e) ∙ no_labelling n q x (form_named f (length ids)) (λ k g. h k (ap flat_form g))
 
-labels_found : (n p : ℕ) (o : Order) (list : Term) (r : Option Labelling) → FindsLabels n o list r → MatchOption r (labelled_by n p o (read_list list) ≡ Err p) (IsLabelling (labelled_by n p o (read_list list)))
+labels_found : (n p : ℕ) (o : Order) (list : Term) (r : Option Labelling) → FindsLabels n o list r
+    → MatchOption r (labelled_by n p o (read_list list) ≡ Err p) (IsLabelling (labelled_by n p o (read_list list)))
 labels_found n p o list None h = labelling_missing n p o list None h refl
 labels_found n p o list (Some l) h = labelling_found n p o list (Some l) h l refl
 
-pub labels_say : (c : Contents) (x : PlacedTerm) (f : Name) (p : ℕ) (a : TermId) → x ≡ comp f p (parts_by (placed_of c) (a ∷ [])) → (n q : ℕ) (k : Order) → flat_form (form_named f 1) ≡ Some (form.Labelling k)
+pub labels_say : (c : Contents) (x : PlacedTerm) (f : Name) (p : ℕ) (a : TermId) → x ≡ comp f p (parts_by (placed_of c) (a ∷ [])) → (n q : ℕ) (k : Order)
+    → flat_form (form_named f 1) ≡ Some (form.Labelling k)
     → (r : Option Labelling) → FindsLabels n k (term_of c a) r → FindsLabelling n q (goal_of INFINITY x) r
 labels_say c x f p a e n q k h r found =
     let is = ap (labelling_of n q) (goal_form c x f p (a ∷ []) e ∙ ap (λ o. goal_named INFINITY o x) (labelling_form (form_named f 1) k h) ∙ ap (goal_named INFINITY (Some (labelling k))) e)

@@ -11,8 +11,8 @@ use Rattle.std.proofs.Math.Nat.{min_comm}
 use Rattle.term_pool.specs.declared.AtomId.{AtomId}
 use Rattle.term_pool.specs.declared.Node.{Node}
 use Rattle.term_pool.specs.declared.Node.TheVariants as nodes
-use Rattle.term_pool.specs.Valid.{shape_of}
-use Rattle.answer_check.specs.Reading.{IsSeen}
+use Rattle.term_pool.specs.PoolInvariant.{shape_of}
+use Rattle.answer_check.specs.TermShapes.{IsSeen}
 use Rattle.answer_check.specs.FlatForm.{hidden_places, hidden_places_of, name_at}
 use Rattle.answer_check.specs.Queries.{lesser}
 
@@ -111,7 +111,8 @@ module _ (names : List Name) where
     by false h = absurd (true≢false h)
 
   -- integers and atoms
-  pub flat_here : (c : Contents) (t : TermId) (n : Node) → IsSeen c t (shape_of n) → ((x : ℕ) → n ≡ nodes.Var x → ⊥) → ((f : AtomId) (ids : Bor (List TermId)) → n ≡ nodes.Comp f ids → ⊥) → hidden_places names (placed_of c t) ≡ []
+  pub flat_here : (c : Contents) (t : TermId) (n : Node) → IsSeen c t (shape_of n) → ((x : ℕ) → n ≡ nodes.Var x → ⊥)
+      → ((f : AtomId) (ids : Bor (List TermId)) → n ≡ nodes.Comp f ids → ⊥) → hidden_places names (placed_of c t) ≡ []
   flat_here c t (nodes.Var x) s g h = absurd (g x refl)
   flat_here c t (nodes.Int z) s g h = ap (hidden_places names) s
   flat_here c t (nodes.Atom a) s g h = ap (hidden_places names) s

@@ -21,7 +21,8 @@ labels_none n list e = λ ms r. absurd (members_unread list ms e r)
 below_is : (n : ℕ) (ms : List Member) (xs : List ℕ) → xs ≡ open_in ms → has_below n (map model_of ms) ≡ list_all (has xs) (count_up 0 n)
 below_is n ms xs e = ap (λ (ys : List ℕ). list_all (has ys) (count_up 0 n)) (open_same ms ∙ sym e)
 
-pub labels_some : (n : ℕ) (o : Order) (list : Term) (ms : List Member) (xs : List ℕ) (l : Labelling) → Some ms ≡ members_in list → xs ≡ open_in ms → list_all (has xs) (count_up 0 n) ≡ true → l.order ≡ o → l.labelled.items ≡ xs → AreLabels n o list l
+pub labels_some : (n : ℕ) (o : Order) (list : Term) (ms : List Member) (xs : List ℕ) (l : Labelling) → Some ms ≡ members_in list → xs ≡ open_in ms
+    → list_all (has xs) (count_up 0 n) ≡ true → l.order ≡ o → l.labelled.items ≡ xs → AreLabels n o list l
 labels_some n o list ms xs l e opened all order labelled = record {
   members = map model_of ms;
   read = members_read list ms (sym e);
@@ -37,7 +38,8 @@ labels_short n list ms xs e opened all = λ ns r.
     ap (has_below n) (sym same) ∙ below_is n ms xs opened ∙ all
 
 -- the labelling goal of such a list
-labelled_some : (n p : ℕ) (o : Order) (r : Result (List model.Member) QueryFault) (ms : List model.Member) (l : Labelling) → r ≡ Ok ms → has_below n ms ≡ true → l.order ≡ o → l.labelled.items ≡ open_ones ms → IsLabelling (labelled_by n p o r) l
+labelled_some : (n p : ℕ) (o : Order) (r : Result (List model.Member) QueryFault) (ms : List model.Member) (l : Labelling) → r ≡ Ok ms → has_below n ms ≡ true
+    → l.order ≡ o → l.labelled.items ≡ open_ones ms → IsLabelling (labelled_by n p o r) l
 labelled_some n p o r ms l e all order labelled = record {
   goals = (let g : FlatGoals = record { constraints = []; order = o; members = ms } in g);
   found = ap (labelled_by n p o) e ∙ rw all refl;

@@ -1,4 +1,4 @@
-mod Walks
+mod NodeWalk
 mod Operators
 mod Lines
 mod Lists
@@ -6,7 +6,7 @@ mod SideTerms
 mod Shapes
 mod AnswerWords
 mod MemberTerms
-mod Breaking
+mod BrokenConstraints
 mod HiddenPlaces
 mod Endings
 mod Safety
@@ -14,7 +14,7 @@ mod Constraints
 mod Bodies
 mod WholeQueries
 mod Numbers
-mod Rising
+mod AnswerOrder
 mod AnswerReports
 mod RowReading
 mod Marks
@@ -26,5 +26,5 @@ mod Labels
 mod Positions
 mod GoalForms
 mod WholeInputs
-mod Deciding
+mod Decidability
 mod Streams

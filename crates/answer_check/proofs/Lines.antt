@@ -1,5 +1,6 @@
 -- The first line of bytes, and the others.
-use Rattle.std.proofs.Common.{◌≡◌, ℕ, zero, suc, ◌+◌, ◌-◌, ◌<◌, ◌≤◌, Bool, true, false, cond, List, [], ◌∷◌, ◌++◌, length, take, drop, get_or, Option, Some, None, refl, sym, ap, ◌∙◌, subst, arith, append_assoc, append-nil, length-append, length-drop, true≢false}
+use Rattle.std.proofs.Common.{◌≡◌, ℕ, zero, suc, ◌+◌, ◌-◌, ◌<◌, ◌≤◌, Bool, true, false, cond, List, [], ◌∷◌, ◌++◌, length, take, drop, get_or, Option, Some}
+use Rattle.std.proofs.Common.{None, refl, sym, ap, ◌∙◌, subst, arith, append_assoc, append-nil, length-append, length-drop, true≢false}
 use Rattle.std.specs.Prelude.{option_map}
 use Rattle.std.specs.List.{onto_first}
 use Rattle.std.specs.Str.{bytes_eq}
@@ -10,7 +11,7 @@ use Rattle.memchr.specs.Find.{NoneBefore, Nowhere, Passes, is_byte}
 use Rattle.std.proofs.lemmas.List.{drop_all, drop-drop}
 use Rattle.answer_check.specs.Lines.{is_newline, lines_of, first_line}
 use Rattle.answer_check.specs.Parts.{Parts, with_line, parts_in, parts_of, query_line}
-use Rattle.answer_check.specs.Splitting.{IsSplitAt}
+use Rattle.answer_check.specs.InputSplit.{IsSplitAt}
 use Rattle.answer_check.proofs.Lists.{take_whole}
 
 -- ---- the first line by the place of its newline
@@ -54,7 +55,8 @@ lines_step (b ∷ []) l = by (is_newline b) where
   by false = refl
 lines_step (b ∷ d ∷ ds) l = by (is_newline b) (lines_step (d ∷ ds) (omega arith)) where
   by : (t : Bool) → lines_of (d ∷ ds) ≡ first_line (d ∷ ds) ∷ lines_of (drop (length (first_line (d ∷ ds))) (d ∷ ds))
-      → cond t ((b ∷ []) ∷ lines_of (d ∷ ds)) (onto_first b (lines_of (d ∷ ds))) ≡ cond t (b ∷ []) (b ∷ first_line (d ∷ ds)) ∷ lines_of (drop (length (cond t (b ∷ []) (b ∷ first_line (d ∷ ds)))) (b ∷ d ∷ ds))
+      → cond t ((b ∷ []) ∷ lines_of (d ∷ ds)) (onto_first b (lines_of (d ∷ ds))) ≡ cond t (b ∷ []) (b ∷ first_line (d ∷ ds)) ∷ lines_of
+      (drop (length (cond t (b ∷ []) (b ∷ first_line (d ∷ ds)))) (b ∷ d ∷ ds))
   by true h = refl
   by false h = ap (onto_first b) h
 
@@ -134,7 +136,8 @@ module _ (input : List ℕ) (at : ℕ) (l : at < length input) where
       let same : line ≡ query_line = (bytes_eq-Decides line query_line).0 e in
       let behind : at + length line ≡ at + length query_line = ap (λ xs. at + length xs) same in
       record {
-        stands = sym (line_and_rest (drop at input)) ∙ ap (λ xs. xs ++ drop (length line) (drop at input)) same ∙ ap (λ xs. query_line ++ xs) (drop-drop (length line) at input ∙ ap (λ n. drop n input) behind);
+        stands = sym (line_and_rest (drop at input)) ∙ ap (λ xs. xs ++ drop (length line) (drop at input)) same
+            ∙ ap (λ xs. query_line ++ xs) (drop-drop (length line) at input ∙ ap (λ n. drop n input) behind);
         within = (let f = behind_line input at (omega arith) in subst (λ n. n ≤ length input) behind f);
         parts = h ∙ ap (λ ls. option_map (with_line (take at input)) (parts_in ls)) (lines_from input at l)
             ∙ ap (λ b. option_map (with_line (take at input)) (cond b (Some (let q : Parts = record { text = []; lines = later } in q)) (option_map (with_line line) (parts_in later)))) e

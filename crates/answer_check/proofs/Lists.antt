@@ -1,11 +1,12 @@
 -- Lists of integers: which are pairwise different, which is an element, how often one occurs.
-use Rattle.std.proofs.Common.{◌≡◌, ℕ, zero, suc, ◌+◌, ◌<◌, ◌≤◌, Bool, true, false, cond, ◌||◌, ℤ, pos, List, [], ◌∷◌, ◌++◌, map, length, take, get_or, not, refl, sym, ap, ◌∙◌, inl, inr, arith, true≢false}
+use Rattle.std.proofs.Common.{◌≡◌, ℕ, zero, suc, ◌+◌, ◌<◌, ◌≤◌, Bool, true, false, cond, ◌||◌, ℤ, pos, List, [], ◌∷◌, ◌++◌, map, length, take, get_or, not}
+use Rattle.std.proofs.Common.{refl, sym, ap, ◌∙◌, inl, inr, arith, true≢false}
 use Rattle.std.specs.Prelude.{◌==◌}
 use Rattle.std.specs.List.{list_any}
 use Rattle.std.proofs.lemmas.Bool.{eqb-true, eq-eqb}
 use Rattle.std.specs.Ordering.{int_eq}
 use Rattle.std.proofs.lemmas.Bool.Decides.{Decides-int_eq}
-use Rattle.fd_model.specs.Satisfies.{IsNumber, AreNumbers, IsNone, AreDifferent, IsElement, occurrences}
+use Rattle.fd_model.specs.Satisfaction.{IsNumber, AreNumbers, IsNone, AreDifferent, IsElement, occurrences}
 
 -- ---- pairwise different
 

@@ -1,5 +1,6 @@
 -- Lists of variables and integers: their members, what these are worth, and what the definitions read.
-use Rattle.std.proofs.Common.{◌≡◌, ℕ, ◌≤◌, length, arith, Bool, true, false, cond, ◌&&◌, List, [], ◌∷◌, ◌++◌, map, Option, Some, None, Result, Ok, Err, Vec, Global, refl, sym, ap, ◌∙◌, subst, append_assoc, append-nil}
+use Rattle.std.proofs.Common.{◌≡◌, ℕ, ◌≤◌, length, arith, Bool, true, false, cond, ◌&&◌, List, [], ◌∷◌, ◌++◌, map, Option, Some, None, Result, Ok, Err, Vec}
+use Rattle.std.proofs.Common.{Global, refl, sym, ap, ◌∙◌, subst, append_assoc, append-nil}
 use Rattle.std.specs.Prelude.{codes, is_some, option_map}
 use Rattle.std.specs.Bool.{then_some}
 use Rattle.std.specs.List.{list_all}
@@ -14,7 +15,7 @@ use Rattle.fd_model.specs.Labelling.{read_list, open_ones}
 use Rattle.fd_model.specs.Linear.{of_both}
 use Rattle.fd_model.specs.Members as model
 use Rattle.fd_model.specs.Members.{as_member, prepend}
-use Rattle.fd_model.specs.Satisfies.{Assignment, worth, worths}
+use Rattle.fd_model.specs.Satisfaction.{Assignment, worth, worths}
 use Rattle.term_pool.specs.declared.TermId.{TermId}
 use Rattle.term_pool.specs.Terms.{terms_by}
 use Rattle.answer_check.specs.declared.members.Member.{Member}
@@ -128,7 +129,8 @@ lists P nil cell (Atom a) ms e = by (bytes_eq a (codes "[]")) refl e where
 lists P nil cell (Comp f no_terms) ms e = absurd (cc (e))
 lists P nil cell (Comp f (term h no_terms)) ms e = absurd (cc (e))
 lists P nil cell (Comp f (term h (term t no_terms))) ms e = by (bytes_eq f (codes ".")) refl e (lists P nil cell t) where
-  by : (b : Bool) → bytes_eq f (codes ".") ≡ b → cond b (onto (member_in h) (members_in t)) None ≡ Some ms → ((ns : List Member) → members_in t ≡ Some ns → P t ns) → P (Comp f (term h (term t no_terms))) ms
+  by : (b : Bool) → bytes_eq f (codes ".") ≡ b → cond b (onto (member_in h) (members_in t)) None ≡ Some ms
+      → ((ns : List Member) → members_in t ≡ Some ns → P t ns) → P (Comp f (term h (term t no_terms))) ms
   by true g e i = let o = onto_is (member_in h) (members_in t) ms e in subst (P (Comp f (term h (term t no_terms)))) (sym o.is) (cell f h t o.first o.others g o.one (i o.others o.rest))
   by false g e i = absurd (cc (e))
 lists P nil cell (Comp f (term h (term t (term u us)))) ms e = absurd (cc (e))
@@ -200,7 +202,8 @@ members_unread (Comp f (term h (term t no_terms))) ns e r = by (bytes_eq f (code
   first_ok (Err f) (Ok ms) e h = cc (e)
   first_ok (Err f) (Err g) e h = cc (e)
 
-  by : (b : Bool) → cond b (onto (member_in h) (members_in t)) None ≡ None → cond b (of_both prepend (as_member h) (read_list t)) (Err BadType) ≡ Ok ns → (o : Option Member) → member_in h ≡ o → (p : Option (List Member)) → members_in t ≡ p
+  by : (b : Bool) → cond b (onto (member_in h) (members_in t)) None ≡ None → cond b (of_both prepend (as_member h) (read_list t)) (Err BadType) ≡ Ok ns
+      → (o : Option Member) → member_in h ≡ o → (p : Option (List Member)) → members_in t ≡ p
       → ((ms : List model.Member) → members_in t ≡ None → read_list t ≡ Ok ms → ⊥) → ⊥
   by false e r o g p k i = cc (r)
   by true e r None g p k i = first_ok (as_member h) (read_list t) r (member_unread h g)

@@ -12,10 +12,11 @@ use Rattle.fd_model.specs.declared.kinds.Order.TheVariants.{Leftmost, FirstFail}
 use Rattle.fd_model.specs.Goal.{Goal, Query}
 use Rattle.fd_model.specs.Labelling.{open_ones}
 use Rattle.fd_model.specs.Refusals.{form_of}
-use Rattle.fd_model.specs.Satisfies.{Assignment}
+use Rattle.fd_model.specs.Satisfaction.{Assignment}
 use Rattle.answer_check.specs.AnswerLines.{assigned, behind_row, IsAnswer, AreAnswers}
 use Rattle.answer_check.specs.FlatForm.{FlatQuery, flat_query}
-use Rattle.answer_check.specs.Judgement.{Judgement, judged, OrderVerdict, order_by, IsFirstBroken, EachFirstBroken, IsFirstFalling, IsRisingBy, IsOrderOf, JudgesAnswers, JudgesQuery, JudgesReading, JudgesParts}
+use Rattle.answer_check.specs.Judgement.{Judgement, judged, OrderVerdict, order_by, IsFirstBroken, EachFirstBroken, IsFirstFalling, IsRisingBy, IsOrderOf}
+use Rattle.answer_check.specs.Judgement.{JudgesAnswers, JudgesQuery, JudgesReading, JudgesParts}
 use Rattle.answer_check.specs.Laws.{OneJudgement}
 use Rattle.answer_check.specs.Parts.{Parts, parts_of, place_behind}
 use Rattle.answer_check.proofs.AnswerWords.{answer_is, IsShownAll}
@@ -89,7 +90,8 @@ one_list q ns at (l ∷ ls) r s w h k = elim h [
 
 -- ---- inputs
 
-judges_query : (at : ℕ) (ls : List (List ℕ)) (r : Result FlatQuery ℕ) (i j : Judgement) → ((f : FlatQuery) → r ≡ Ok f → (ns : List Name) × IsShownAll f.query ns) → JudgesQuery INFINITY at ls r i → JudgesQuery INFINITY at ls r j → i ≡ j
+judges_query : (at : ℕ) (ls : List (List ℕ)) (r : Result FlatQuery ℕ) (i j : Judgement)
+    → ((f : FlatQuery) → r ≡ Ok f → (ns : List Name) × IsShownAll f.query ns) → JudgesQuery INFINITY at ls r i → JudgesQuery INFINITY at ls r j → i ≡ j
 judges_query at ls (Err p) i j s h k = h ∙ sym k
 judges_query at ls (Ok f) i j s h k =
     let n = s f refl in

@@ -8,7 +8,7 @@ use Rattle.fd_language.specs.declared.TheConstants.{INFINITY}
 use Rattle.fd_language.specs.Range.{div_up, down_by}
 use Rattle.fd_language.specs.declared.range_node.RangeNode.{RangeNode}
 use Rattle.fd_language.specs.declared.range_node.RangeNode.TheVariants as node
-use Rattle.answer_check.specs.Work.{IsLimited, operated}
+use Rattle.answer_check.specs.OperandStack.{IsLimited, operated}
 
 pub fits_limited : (z : ℤ) → IsLimited z → SFits w128 z
 fits_limited (pos n) h = record { sfits = omega (arith, h) }

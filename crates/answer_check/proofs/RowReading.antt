@@ -1,5 +1,6 @@
 -- The answers of an input, read line by line.
-use Rattle.std.proofs.Common.{◌≡◌, ℕ, zero, suc, ◌+◌, ◌*◌, ◌<◌, ◌≤◌, Bool, true, false, cond, List, [], ◌∷◌, ◌++◌, map, length, drop, get_or, codes, Option, Some, None, refl, sym, ap, ◌∙◌, subst, inl, inr, arith, add-one, append_assoc, append-nil}
+use Rattle.std.proofs.Common.{◌≡◌, ℕ, zero, suc, ◌+◌, ◌*◌, ◌<◌, ◌≤◌, Bool, true, false, cond, List, [], ◌∷◌, ◌++◌, map, length, drop, get_or, codes, Option}
+use Rattle.std.proofs.Common.{Some, None, refl, sym, ap, ◌∙◌, subst, inl, inr, arith, add-one, append_assoc, append-nil}
 use Rattle.std.specs.Prelude.{All, Result, Ok, Err, option_map, option_and_then}
 use Rattle.std.specs.Str.{bytes_eq}
 use Rattle.std.proofs.lemmas.List.{length-append, drop_all}
@@ -51,12 +52,14 @@ module _ {X : Type 0} (f : X → Name) where
       more None = refl
       more (Some ms) = ap Some (sym (append_assoc front (n ∷ []) ms))
 
-  pub name_unread : (between : List ℕ) (xs : List X) (i : ℕ) (d : X) (rest : List ℕ) (front : List ℕ) → i < length xs → None ≡ value_in between (f (get_or xs i d)) rest → put_before front (from_name between xs i rest) ≡ None
+  pub name_unread : (between : List ℕ) (xs : List X) (i : ℕ) (d : X) (rest : List ℕ) (front : List ℕ) → i < length xs
+      → None ≡ value_in between (f (get_or xs i d)) rest → put_before front (from_name between xs i rest) ≡ None
   name_unread between xs i d rest front l e =
       ap (λ ys. put_before front (values_in between (map f ys) rest)) (drop_one xs i d l)
       ∙ ap (λ o. put_before front (option_and_then (λ (v : ℕ × List ℕ). option_map (λ vs. v.0 ∷ vs) (values_in (codes ", ") (map f (drop (i + 1) xs)) v.1)) o)) (sym e)
 
-  pub all_read : (between : List ℕ) (xs : List X) (i : ℕ) (rest : List ℕ) (front : List ℕ) → length xs ≤ i → put_before front (from_name between xs i rest) ≡ cond (bytes_eq rest (codes "\n")) (Some front) None
+  pub all_read : (between : List ℕ) (xs : List X) (i : ℕ) (rest : List ℕ) (front : List ℕ) → length xs ≤ i
+      → put_before front (from_name between xs i rest) ≡ cond (bytes_eq rest (codes "\n")) (Some front) None
   all_read between xs i rest front l =
       ap (λ ys. put_before front (values_in between (map f ys) rest)) (drop_all i xs l) ∙ by (bytes_eq rest (codes "\n"))
     where
@@ -80,7 +83,8 @@ values_count between [] bytes ks e = by (bytes_eq bytes (codes "\n")) e where
   by true e = ap (λ (ns : List ℕ). length ns) (sym (same_Some [] ks e))
   by false e = absurd (cc (e))
 values_count between (n ∷ ns) bytes ks e = by (value_in between n bytes) e (λ v vs f. values_count (codes ", ") ns v.1 vs f) where
-  last : (v : ℕ × List ℕ) (o : Option (List ℕ)) → values_in (codes ", ") ns v.1 ≡ o → option_map (λ vs. v.0 ∷ vs) o ≡ Some ks → ((vs : List ℕ) → values_in (codes ", ") ns v.1 ≡ Some vs → length vs ≡ length ns) → length ks ≡ suc (length ns)
+  last : (v : ℕ × List ℕ) (o : Option (List ℕ)) → values_in (codes ", ") ns v.1 ≡ o → option_map (λ vs. v.0 ∷ vs) o ≡ Some ks
+      → ((vs : List ℕ) → values_in (codes ", ") ns v.1 ≡ Some vs → length vs ≡ length ns) → length ks ≡ suc (length ns)
   last v None f e i = absurd (cc (e))
   last v (Some vs) f e i = ap (λ (ms : List ℕ). length ms) (sym (same_Some (v.0 ∷ vs) ks e)) ∙ ap suc (i vs f)
 
@@ -122,7 +126,8 @@ rows_err (ns ∷ nss) p = ap (behind_row ns) (rows_err nss p)
 pub each_judged : (q : Query) (ns : List Name) (at : ℕ) (ls : List (List ℕ)) → IsShownAll q ns → (r : Result (List (List ℕ)) ℕ) × AreAnswers INFINITY q at ls r
 each_judged q ns at [] h = (Err at, refl)
 each_judged q ns at (l ∷ ls) h = by (is_last_line l) refl (answer_in ns l) refl (each_judged q ns (at + length l) ls h) where
-  by : (b : Bool) → is_last_line l ≡ b → (o : Option (List ℕ)) → answer_in ns l ≡ o → (r : Result (List (List ℕ)) ℕ) × AreAnswers INFINITY q (at + length l) ls r → (r : Result (List (List ℕ)) ℕ) × AreAnswers INFINITY q at (l ∷ ls) r
+  by : (b : Bool) → is_last_line l ≡ b → (o : Option (List ℕ)) → answer_in ns l ≡ o
+      → (r : Result (List (List ℕ)) ℕ) × AreAnswers INFINITY q (at + length l) ls r → (r : Result (List (List ℕ)) ℕ) × AreAnswers INFINITY q at (l ∷ ls) r
   by true e o f later = (behind_last (at + length l) ls, inl (e, refl))
   by false e None f later = (Err at, inr (inr (e, no_answer q ns l h f, refl)))
   by false e (Some ks) f later = (behind_row ks later.0, inr (inl (e, (ks, answer_of q ns l ks h f, (later.0, later.1, refl)))))
@@ -138,7 +143,16 @@ pub record IsReadTo (q : Query) (from : ℕ) (input : List ℕ) (at : ℕ) (valu
   pub later : (r : Result (List (List ℕ)) ℕ) → AreAnswers INFINITY q at (lines_of (drop at input)) r → AreAnswers INFINITY q from (lines_of (drop from input)) (behind_rows rows r)
 
 pub none_read : (q : Query) (from : ℕ) (input : List ℕ) → IsReadTo q from input from [] 0
-none_read q from input = record { rows = []; kept = record { values_are = refl; count_is = refl; lengths = All-nil (λ ns. length ns ≡ q.variables); within = All-nil (All (λ k. k ≤ INFINITY)) }; later = λ r h. h }
+none_read q from input = record {
+  rows = [];
+  kept = record {
+    values_are = refl;
+    count_is = refl;
+    lengths = All-nil (λ ns. length ns ≡ q.variables);
+    within = All-nil (All (λ k. k ≤ INFINITY));
+  };
+  later = λ r h. h;
+}
 
 -- memory was wanting
 pub no_memory_rows : (q : Query) (ns : List Name) (from : ℕ) (input : List ℕ) → IsShownAll q ns → StopsRows q from (lines_of (drop from input)) NoMemory
@@ -178,7 +192,8 @@ module _ (q : Query) (ns : List Name) (from : ℕ) (input : List ℕ) (at : ℕ)
         → (rows : List (List ℕ)) × AreAnswers INFINITY q from (lines_of (drop from input)) (Ok rows) × ((variables ≡ q.variables) × AreRows q.variables rows values count)
     ends_well e m variables same = (
       r.rows,
-      subst (AreAnswers INFINITY q from (lines_of (drop from input))) (rows_ok r.rows) (by_lines (Ok []) (inl (e, sym (ap (λ bs. behind_last (at + length line) (lines_of bs)) (drop_all (at + length line) input m))))),
+      subst (AreAnswers INFINITY q from (lines_of (drop from input))) (rows_ok r.rows)
+          (by_lines (Ok []) (inl (e, sym (ap (λ bs. behind_last (at + length line) (lines_of bs)) (drop_all (at + length line) input m))))),
       (same, r.kept),
     )
 

@@ -1,5 +1,6 @@
 -- What may be evaluated under each assignment of numbers: accepted ranges without parameters and pointwise forms, and flat sides.
-use Rattle.std.proofs.Common.{◌≡◌, ℕ, zero, suc, ◌+◌, ◌*◌, ◌^◌, ◌-◌, ◌≤◌, Bool, true, false, cond, ◌&&◌, ◌||◌, ℤ, pos, ◌-ℤ◌, ◌≤ℤ◌, List, [], ◌∷◌, ◌++◌, refl, sym, subst, arith, true≢false}
+use Rattle.std.proofs.Common.{◌≡◌, ℕ, zero, suc, ◌+◌, ◌*◌, ◌^◌, ◌-◌, ◌≤◌, Bool, true, false, cond, ◌&&◌, ◌||◌, ℤ, pos, ◌-ℤ◌, ◌≤ℤ◌, List, [], ◌∷◌, ◌++◌, refl}
+use Rattle.std.proofs.Common.{sym, subst, arith, true≢false}
 use Rattle.std.specs.Prelude.{All, codes, nat_abs}
 use Rattle.std.specs.List.{list_all}
 use Rattle.std.specs.Str.{bytes_eq}
@@ -12,17 +13,18 @@ use Rattle.fd_language.specs.CheckLaws.{AreBounded}
 use Rattle.fd_language.specs.EvaluatedValues.{expr_values, expr_divisors, range_values, range_divisors}
 use Rattle.fd_language.specs.Family.{IsFamily}
 use Rattle.fd_language.specs.Needs.{meets, needs, meets_needs}
-use Rattle.fd_language.specs.Range.{Range, Span, One, Dom, Union, Inter, Outside, Plus, Minus, Times, Over, Expr, Number, Infinity, Param, Min, Max, Val, Add, Sub, Mul, DivDown, DivUp, expr_params, params, is_none_left}
+use Rattle.fd_language.specs.Range.{Range, Span, One, Dom, Union, Inter, Outside, Plus, Minus, Times, Over, Expr, Number, Infinity, Param, Min, Max, Val, Add}
+use Rattle.fd_language.specs.Range.{Sub, Mul, DivDown, DivUp, expr_params, params, is_none_left}
 use Rattle.fd_language.specs.RangeVerdict.{is_accepted}
 use Rattle.fd_language.specs.Term.{Term, Var, Int, Atom, Comp, no_terms, term}
 use Rattle.fd_language.proofs.Lemmas.{abs_add, abs_sub, abs_mul, sums, products, bounded_values, filled_as_is, first_nil, second_nil}
 use Rattle.fd_model.specs.FlatConstraints.{width, is_narrow, is_operator, is_flat}
-use Rattle.fd_model.specs.Satisfies.{Assignment, singles}
+use Rattle.fd_model.specs.Satisfaction.{Assignment, singles}
 use Rattle.answer_check.specs.AnswerLines.{assigned}
 use Rattle.answer_check.specs.Checks.{IsBounded}
 use Rattle.answer_check.specs.FlatForm.{is_plain}
 use Rattle.answer_check.specs.Sides.{expr_of}
-use Rattle.answer_check.specs.Work.{value_by, IsLimited, Fits, RangeFits}
+use Rattle.answer_check.specs.OperandStack.{value_by, IsLimited, Fits, RangeFits}
 use Rattle.answer_check.proofs.SideTerms.{flat_narrow}
 
 -- the values of an answer are numbers
@@ -166,7 +168,8 @@ module _ (a : Assignment) where
   made_fit x j w i f = (f (narrow_limited (nat_abs (value_by a x)) j w i), i)
 
   both_fit : (d e : Expr) (m n : ℕ) → Fits a d → Fits a e → nat_abs (value_by a d) ≤ m → nat_abs (value_by a e) ≤ n
-      → (p q : Bool) → is_narrow (cond (p || q) (m + n) (m * n)) ≡ true → (Fits a (cond p (Add d e) (cond q (Sub d e) (Mul d e)))) × (nat_abs (value_by a (cond p (Add d e) (cond q (Sub d e) (Mul d e)))) ≤ cond (p || q) (m + n) (m * n))
+      → (p q : Bool) → is_narrow (cond (p || q) (m + n) (m * n)) ≡ true → (Fits a (cond p (Add d e) (cond q (Sub d e) (Mul d e))))
+      × (nat_abs (value_by a (cond p (Add d e) (cond q (Sub d e) (Mul d e)))) ≤ cond (p || q) (m + n) (m * n))
   both_fit d e m n h g k l true q w = made_fit (Add d e) (m + n) w (sums _ _ _ _ _ (abs_add (value_by a d) (value_by a e)) k l) (λ x. (h, g, x))
   both_fit d e m n h g k l false true w = made_fit (Sub d e) (m + n) w (sums _ _ _ _ _ (abs_sub (value_by a d) (value_by a e)) k l) (λ x. (h, g, x))
   both_fit d e m n h g k l false false w = made_fit (Mul d e) (m * n) w (products _ _ _ _ _ (abs_mul (value_by a d) (value_by a e)) k l) (λ x. (h, g, x))
@@ -187,7 +190,8 @@ module _ (a : Assignment) where
       let sides = and_parts (is_flat INFINITY s) (is_flat INFINITY t) both.0 in
       let r = side_fit small s sides.0 in
       let q = side_fit small t sides.1 in
-      let k = both_fit (expr_of s) (expr_of t) (width INFINITY s) (width INFINITY t) r.fits q.fits r.low q.low (bytes_eq f (codes "+")) (bytes_eq f (codes "-")) (and_parts (is_operator f s t) (is_narrow (width INFINITY (Comp f (term s (term t no_terms))))) both.1).1 in
+      let k = both_fit (expr_of s) (expr_of t) (width INFINITY s) (width INFINITY t) r.fits q.fits r.low q.low (bytes_eq f (codes "+")) (bytes_eq f (codes "-"))
+      (and_parts (is_operator f s t) (is_narrow (width INFINITY (Comp f (term s (term t no_terms))))) both.1).1 in
       record { fits = k.0; low = k.1 }
   side_fit small (Comp f (term s (term t (term u us)))) h = absurd (true≢false (sym h))
 

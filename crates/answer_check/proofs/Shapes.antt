@@ -9,7 +9,7 @@ use Rattle.term_pool.specs.declared.TermId.{TermId}
 use Rattle.term_pool.specs.PlacedTerms.{parts_by}
 use Rattle.term_pool.proofs.Lemmas.{same_text}
 use Rattle.answer_check.specs.FlatForm.{conjuncts}
-use Rattle.answer_check.specs.Reading.{IsQueryForm}
+use Rattle.answer_check.specs.TermShapes.{IsQueryForm}
 
 pub count_parts : (by : TermId → PlacedTerm) (ts : List TermId) → part_count (parts_by by ts) ≡ length ts
 count_parts by [] = refl

@@ -1,5 +1,6 @@
 -- The sides of comparisons: what they are as terms of a range, and a turn of the walk that spells them.
-use Rattle.std.proofs.Common.{◌≡◌, ℕ, ◌+◌, ◌*◌, ◌<◌, ◌≤◌, Bool, true, false, cond, ◌&&◌, ◌||◌, ℤ, pos, neg_ℤ, ◌+ℤ◌, ◌-ℤ◌, ◌*ℤ◌, List, [], ◌∷◌, ◌++◌, length, Option, Some, None, refl, sym, ap, ◌∙◌, subst, arith, append-nil, zero-add, true≢false}
+use Rattle.std.proofs.Common.{◌≡◌, ℕ, ◌+◌, ◌*◌, ◌<◌, ◌≤◌, Bool, true, false, cond, ◌&&◌, ◌||◌, ℤ, pos, neg_ℤ, ◌+ℤ◌, ◌-ℤ◌, ◌*ℤ◌, List, [], ◌∷◌, ◌++◌, length}
+use Rattle.std.proofs.Common.{Option, Some, None, refl, sym, ap, ◌∙◌, subst, arith, append-nil, zero-add, true≢false}
 use Rattle.std.specs.Prelude.{All, codes, option_and_then, Result, Ok, Err, IfOk}
 use Rattle.std.specs.Str.{bytes_eq}
 use Rattle.std.proofs.Math.IntN.{+ℤ_idl}
@@ -15,7 +16,7 @@ use Rattle.fd_language.specs.Term.{Name, Term, Var, Int, Atom, Comp, no_terms, t
 use Rattle.fd_language.specs.Variables.{variables_of}
 use Rattle.fd_language.proofs.Lemmas.{two}
 use Rattle.fd_model.specs.FlatConstraints.{width, is_narrow, is_ground, is_operator, is_flat}
-use Rattle.fd_model.specs.Satisfies.{Assignment, worth, operation}
+use Rattle.fd_model.specs.Satisfaction.{Assignment, worth, operation}
 use Rattle.term_pool.specs.declared.TermId.{TermId}
 use Rattle.term_pool.specs.Contents.{Contents}
 use Rattle.term_pool.specs.Terms.{term_of, terms_by, size}
@@ -23,12 +24,14 @@ use Rattle.term_pool.proofs.Lemmas.{size_above_zero}
 use Rattle.answer_check.specs.declared.sides.Task.{Task}
 use Rattle.answer_check.specs.declared.sides.Task.TheVariants as task
 use Rattle.answer_check.specs.declared.sides.Spelling.{Spelling}
-use Rattle.answer_check.specs.Sides.{operation_by, expr_of, flat_side, operator_in, is_ground_expr, Holds, made_by, may_join, joined, alone, before, step, run, task_weight, load, IsOperator, IsOf, Applies, Does, IsDone, IsLeft, interval_in, sides_in}
-use Rattle.answer_check.specs.Work.{value_by}
+use Rattle.answer_check.specs.Sides.{operation_by, expr_of, flat_side, operator_in, is_ground_expr, Holds, made_by, may_join, joined, alone, before, step, run}
+use Rattle.answer_check.specs.Sides.{task_weight, load, IsOperator, IsOf, Applies, Does, IsDone, IsLeft, interval_in, sides_in}
+use Rattle.answer_check.specs.OperandStack.{value_by}
 
 -- ---- sides as terms of a range
 
-binary_bound : (f : Name) (d e : Expr) (m n : ℕ) → bound INFINITY d ≡ m → bound INFINITY e ≡ n → bound INFINITY (operation_by f d e) ≡ cond (bytes_eq f (codes "+") || bytes_eq f (codes "-")) (m + n) (m * n)
+binary_bound : (f : Name) (d e : Expr) (m n : ℕ) → bound INFINITY d ≡ m → bound INFINITY e ≡ n
+    → bound INFINITY (operation_by f d e) ≡ cond (bytes_eq f (codes "+") || bytes_eq f (codes "-")) (m + n) (m * n)
 binary_bound f d e m n h g = by (bytes_eq f (codes "+")) (bytes_eq f (codes "-")) where
   by : (p q : Bool) → bound INFINITY (cond p (Add d e) (cond q (Sub d e) (Mul d e))) ≡ cond (p || q) (m + n) (m * n)
   by true q = two (λ x y. x + y) h g
@@ -141,7 +144,8 @@ weight_positive c (task.Put n) = omega arith
 
 -- ---- what is done at once
 
-pub done_at_once : (c : Contents) (k : Task) (old new : Spelling) (ahead : List Task) (op : List Expr → Option (List Expr)) (b : Bool) → ((es : List Expr) → step c k es ≡ op es) → Applies op old new b → IsDone c k old ahead new ahead b
+pub done_at_once : (c : Contents) (k : Task) (old new : Spelling) (ahead : List Task) (op : List Expr → Option (List Expr)) (b : Bool)
+    → ((es : List Expr) → step c k es ≡ op es) → Applies op old new b → IsDone c k old ahead new ahead b
 done_at_once c k old new ahead op true same h = record {
   more = [];
   pushed = sym (append-nil ahead);
@@ -152,7 +156,8 @@ done_at_once c k old new ahead op true same h = record {
 done_at_once c k old new ahead op false same h = λ es g. same es ∙ h es g
 
 -- a variable or an integer
-pub done_alone : (c : Contents) (t : TermId) (e : Expr) (x : Term) → term_of c t ≡ x → is_flat INFINITY x ≡ is_narrow (bound INFINITY e) → expr_of x ≡ e → (es : List Expr) → step c (task.Spell t) es ≡ alone e es
+pub done_alone : (c : Contents) (t : TermId) (e : Expr) (x : Term) → term_of c t ≡ x → is_flat INFINITY x ≡ is_narrow (bound INFINITY e) → expr_of x ≡ e
+    → (es : List Expr) → step c (task.Spell t) es ≡ alone e es
 done_alone c t e x is narrow same es =
     ap (λ y. before (flat_side y) es) is
     ∙ ap (λ b. before (cond b (Some (expr_of x)) None) es) narrow
@@ -184,7 +189,8 @@ module _ (f : Name) (s t : Term) where
   product_test h g = two (λ x y. x && y) (two (λ x y. x || y) (ground_is s h) (ground_is t g)) (ap is_narrow (two (λ x y. x * y) (width_is s) (width_is t)))
 
   -- by the names of the operators
-  join_by : (n : RangeNode) (p q r : Bool) → bytes_eq f (codes "+") ≡ p → bytes_eq f (codes "-") ≡ q → bytes_eq f (codes "*") ≡ r → cond p (Some node.Add) (cond q (Some node.Sub) (cond r (Some node.Mul) None)) ≡ Some n → IsJoin n
+  join_by : (n : RangeNode) (p q r : Bool) → bytes_eq f (codes "+") ≡ p → bytes_eq f (codes "-") ≡ q → bytes_eq f (codes "*") ≡ r
+      → cond p (Some node.Add) (cond q (Some node.Sub) (cond r (Some node.Mul) None)) ≡ Some n → IsJoin n
   join_by n true q r e g h i = let is : node.Add ≡ n = cc in subst IsJoin is (record {
     operator = tt;
     test = λ x y. sum_test ∙ sym (rw e refl);
@@ -234,12 +240,14 @@ module _ (f : Name) (s t : Term) where
     last false false e = refl
 
     by : (p q : Bool) → is_flat INFINITY s ≡ p → is_flat INFINITY t ≡ q
-        → option_and_then (joined n) (option_and_then (λ fs. before (cond q (Some (expr_of t)) None) fs) (before (cond p (Some (expr_of s)) None) es)) ≡ before (cond ((p && q) && later) (Some (expr_of both)) None) es
+        → option_and_then (joined n) (option_and_then (λ fs. before (cond q (Some (expr_of t)) None) fs) (before (cond p (Some (expr_of s)) None) es)) ≡ before
+        (cond ((p && q) && later) (Some (expr_of both)) None) es
     by false q e g = refl
     by true false e g = refl
     by true true e g = last (may_join n (expr_of s) (expr_of t)) later (j.test e g)
 
-pub operator_done : (c : Contents) (t a b : TermId) (f : Name) (n : RangeNode) (old : Spelling) (ahead new_ahead : List Task) → term_of c t ≡ Comp f (term (term_of c a) (term (term_of c b) no_terms)) → a.number < length c.entries → b.number < length c.entries
+pub operator_done : (c : Contents) (t a b : TermId) (f : Name) (n : RangeNode) (old : Spelling) (ahead new_ahead : List Task)
+    → term_of c t ≡ Comp f (term (term_of c a) (term (term_of c b) no_terms)) → a.number < length c.entries → b.number < length c.entries
     → operator_in f ≡ Some n → new_ahead ≡ ahead ++ task.Put n ∷ task.Spell b ∷ task.Spell a ∷ [] → IsDone c (task.Spell t) old ahead old new_ahead true
 operator_done c t a b f n old ahead new_ahead is la lb op pushed =
     let j = join_is f (term_of c a) (term_of c b) n op in
@@ -247,8 +255,10 @@ operator_done c t a b f n old ahead new_ahead is la lb op pushed =
       more = task.Put n ∷ task.Spell b ∷ task.Spell a ∷ [];
       pushed = pushed;
       made = λ es h. (es, joined_is f (term_of c a) (term_of c b) n es j ∙ sym (ap (λ x. before (flat_side x) es) is), h);
-      lighter = (let l = load_three c (task.Put n) (task.Spell b) (task.Spell a) in let w : size (term_of c t) ≡ 1 + (size (term_of c a) + (size (term_of c b) + 0)) = ap size is in omega (arith, l, w));
-      within = All-cons (IsOf c) (task.Put n) (task.Spell b ∷ task.Spell a ∷ []) j.operator (All-cons (IsOf c) (task.Spell b) (task.Spell a ∷ []) lb (All-cons (IsOf c) (task.Spell a) [] la (All-nil (IsOf c))));
+      lighter = (let l = load_three c (task.Put n) (task.Spell b) (task.Spell a) in
+          let w : size (term_of c t) ≡ 1 + (size (term_of c a) + (size (term_of c b) + 0)) = ap size is in omega (arith, l, w));
+      within = All-cons (IsOf c) (task.Put n) (task.Spell b ∷ task.Spell a ∷ []) j.operator
+          (All-cons (IsOf c) (task.Spell b) (task.Spell a ∷ []) lb (All-cons (IsOf c) (task.Spell a) [] la (All-nil (IsOf c))));
     }
 
 pub none_done : (c : Contents) (t : TermId) (old new : Spelling) (ahead new_ahead : List Task) → is_flat INFINITY (term_of c t) ≡ false → IsDone c (task.Spell t) old ahead new new_ahead false
@@ -274,11 +284,13 @@ module _ (s : Term) where
     narrow : is_flat INFINITY s ≡ true → is_narrow (0 + bound INFINITY (expr_of s)) ≡ true
     narrow h = ap is_narrow (zero-add (bound INFINITY (expr_of s)) ∙ width_is s) ∙ flat_narrow s h
 
-    by : (p : Bool) → is_flat INFINITY s ≡ p → option_and_then (joined node.Sub) (before (cond p (Some (expr_of s)) None) (Number (pos 0) ∷ es)) ≡ before (cond p (Some (Sub (Number (pos 0)) (expr_of s))) None) es
+    by : (p : Bool) → is_flat INFINITY s ≡ p → option_and_then (joined node.Sub) (before (cond p (Some (expr_of s)) None) (Number (pos 0) ∷ es)) ≡ before
+        (cond p (Some (Sub (Number (pos 0)) (expr_of s))) None) es
     by false e = refl
     by true e = ap (λ b. cond b (Some (Sub (Number (pos 0)) (expr_of s) ∷ es)) None) (narrow e)
 
-pub minus_done : (c : Contents) (t a : TermId) (f : Name) (old new : Spelling) (ahead new_ahead : List Task) → term_of c t ≡ Comp f (term (term_of c a) no_terms) → a.number < length c.entries → f ≡ codes "-"
+pub minus_done : (c : Contents) (t a : TermId) (f : Name) (old new : Spelling) (ahead new_ahead : List Task)
+    → term_of c t ≡ Comp f (term (term_of c a) no_terms) → a.number < length c.entries → f ≡ codes "-"
     → new_ahead ≡ ahead ++ task.Put node.Sub ∷ task.Spell a ∷ [] → (b : Bool) → Applies (alone (Number (pos 0))) old new b → IsDone c (task.Spell t) old ahead new new_ahead b
 minus_done c t a f old new ahead new_ahead is la name pushed true h = record {
   more = task.Put node.Sub ∷ task.Spell a ∷ [];
@@ -306,7 +318,8 @@ smaller_load c k old new rest ahead d =
     let l = d.lighter in
     omega (arith, e, f, g, l)
 
-pub sides_start : (c : Contents) (left right : TermId) (made : Spelling) (ahead : List Task) → ahead ≡ task.Spell right ∷ task.Spell left ∷ [] → Holds made [] → left.number < length c.entries → right.number < length c.entries → IsLeft c (run c (task.Spell right ∷ task.Spell left ∷ []) []) made ahead
+pub sides_start : (c : Contents) (left right : TermId) (made : Spelling) (ahead : List Task) → ahead ≡ task.Spell right ∷ task.Spell left ∷ [] → Holds made []
+    → left.number < length c.entries → right.number < length c.entries → IsLeft c (run c (task.Spell right ∷ task.Spell left ∷ []) []) made ahead
 sides_start c left right made ahead e h l r = record {
   terms = [];
   is = ap (λ ks. run c ks []) e;
@@ -314,7 +327,8 @@ sides_start c left right made ahead e h l r = record {
   within = subst (All (IsOf c)) (sym e) (All-cons (IsOf c) (task.Spell right) (task.Spell left ∷ []) r (All-cons (IsOf c) (task.Spell left) [] l (All-nil (IsOf c))));
 }
 
-pub still_left : (c : Contents) (aim : Option (List Expr)) (k : Task) (old new : Spelling) (rest next : List Task) → Does c k old rest new next → IsLeft c aim old (rest ++ k ∷ []) → All (IsOf c) rest → IsLeft c aim new next
+pub still_left : (c : Contents) (aim : Option (List Expr)) (k : Task) (old new : Spelling) (rest next : List Task) → Does c k old rest new next
+    → IsLeft c aim old (rest ++ k ∷ []) → All (IsOf c) rest → IsLeft c aim new next
 still_left c aim k old new rest next d i w =
     let m = d.made i.terms i.holds in
     record {
@@ -325,11 +339,14 @@ still_left c aim k old new rest next d i w =
     }
 
 -- nothing comes of it
-pub none_left : (c : Contents) (aim : Option (List Expr)) (k : Task) (old : Spelling) (rest : List Task) → ((es : List Expr) → Holds old es → step c k es ≡ None) → IsLeft c aim old (rest ++ k ∷ []) → aim ≡ None
+pub none_left : (c : Contents) (aim : Option (List Expr)) (k : Task) (old : Spelling) (rest : List Task)
+    → ((es : List Expr) → Holds old es → step c k es ≡ None) → IsLeft c aim old (rest ++ k ∷ []) → aim ≡ None
 none_left c aim k old rest f i = sym i.is ∙ run-append c rest (k ∷ []) i.terms ∙ ap (option_and_then (run c rest)) (one_step c k i.terms ∙ f i.terms i.holds)
 
 -- both sides are spelled
-pub sides_made : (c : Contents) (left right : TermId) (es : List Expr) → run c (task.Spell right ∷ task.Spell left ∷ []) [] ≡ Some es → (es ≡ expr_of (term_of c right) ∷ expr_of (term_of c left) ∷ []) × (is_flat INFINITY (term_of c left) ≡ true) × (is_flat INFINITY (term_of c right) ≡ true)
+pub sides_made : (c : Contents) (left right : TermId) (es : List Expr) → run c (task.Spell right ∷ task.Spell left ∷ []) [] ≡ Some es
+    → (es ≡ expr_of (term_of c right) ∷ expr_of (term_of c left) ∷ []) × (is_flat INFINITY (term_of c left) ≡ true)
+    × (is_flat INFINITY (term_of c right) ≡ true)
 sides_made c left right es e = by (is_flat INFINITY (term_of c left)) (is_flat INFINITY (term_of c right)) refl refl e where
   d : Expr
   d = expr_of (term_of c left)
@@ -337,7 +354,9 @@ sides_made c left right es e = by (is_flat INFINITY (term_of c left)) (is_flat I
   r : Expr
   r = expr_of (term_of c right)
 
-  by : (p q : Bool) → is_flat INFINITY (term_of c left) ≡ p → is_flat INFINITY (term_of c right) ≡ q → option_and_then (λ fs. before (cond q (Some r) None) fs) (before (cond p (Some d) None) []) ≡ Some es → (es ≡ r ∷ d ∷ []) × (is_flat INFINITY (term_of c left) ≡ true) × (is_flat INFINITY (term_of c right) ≡ true)
+  by : (p q : Bool) → is_flat INFINITY (term_of c left) ≡ p → is_flat INFINITY (term_of c right) ≡ q
+      → option_and_then (λ fs. before (cond q (Some r) None) fs) (before (cond p (Some d) None) []) ≡ Some es
+      → (es ≡ r ∷ d ∷ []) × (is_flat INFINITY (term_of c left) ≡ true) × (is_flat INFINITY (term_of c right) ≡ true)
   by true true f g e = (sym (same_Some (r ∷ d ∷ []) es e), f, g)
   by true false f g e = absurd (cc (e))
   by false q f g e = absurd (cc (e))
@@ -351,7 +370,8 @@ sides_unmade c left right e = by (is_flat INFINITY (term_of c left)) (is_flat IN
   r : Expr
   r = expr_of (term_of c right)
 
-  by : (p q : Bool) → option_and_then (λ fs. before (cond q (Some r) None) fs) (before (cond p (Some d) None) []) ≡ None → None ≡ cond ((p && q) && is_narrow (width INFINITY (term_of c left) + width INFINITY (term_of c right))) (Some (Span d r)) None
+  by : (p q : Bool) → option_and_then (λ fs. before (cond q (Some r) None) fs) (before (cond p (Some d) None) []) ≡ None
+      → None ≡ cond ((p && q) && is_narrow (width INFINITY (term_of c left) + width INFINITY (term_of c right))) (Some (Span d r)) None
   by true true e = absurd (cc (e))
   by true false e = refl
   by false q e = refl

@@ -1,5 +1,6 @@
 -- A report that is written piece by piece.
-use Rattle.std.proofs.Common.{◌≡◌, ℕ, suc, ◌+◌, ◌<◌, ◌≤◌, Bool, true, ◌&&◌, List, [], ◌∷◌, ◌++◌, length, take, drop, get_or, Option, is_none, codes, refl, sym, ap, ◌∙◌, subst, arith, append_assoc, append-nil, take-append-drop}
+use Rattle.std.proofs.Common.{◌≡◌, ℕ, suc, ◌+◌, ◌<◌, ◌≤◌, Bool, true, ◌&&◌, List, [], ◌∷◌, ◌++◌, length, take, drop, get_or, Option, is_none, codes, refl, sym}
+use Rattle.std.proofs.Common.{ap, ◌∙◌, subst, arith, append_assoc, append-nil, take-append-drop}
 use Rattle.std.specs.Prelude.{All, Result, Ok, Err}
 use Rattle.std.specs.List.{list_all}
 use Rattle.fd_language.specs.declared.TheConstants.{INFINITY}
@@ -21,9 +22,9 @@ use Rattle.answer_check.specs.Goals.{EachSays}
 use Rattle.answer_check.specs.Judgement.{EachFirstBroken, OrderVerdict, IsOrderOf, answer_line, answer_lines, good_status, order_text}
 use Rattle.answer_check.specs.Reports.{Waits, CutBy, PutsLines, PutsOrder, PutsReport}
 use Rattle.answer_check.proofs.AnswerReports.{IsReported, none_missing, reported_more, reported_none}
-use Rattle.answer_check.proofs.Deciding.{each_breaks, has_order}
+use Rattle.answer_check.proofs.Decidability.{each_breaks, has_order}
 use Rattle.answer_check.proofs.Lists.{take_whole}
-use Rattle.answer_check.proofs.Rising.{all_drop}
+use Rattle.answer_check.proofs.AnswerOrder.{all_drop}
 
 -- ---- a text that waits
 
@@ -60,7 +61,8 @@ nothing_now s text = record { front = []; wrote = wrote_nothing s; is = refl }
 
 -- ---- the lines of all answers
 
-each_append : (gs : List Goal) (nss mss : List (List ℕ)) (vs ws : List (Option ℕ)) → EachFirstBroken INFINITY gs nss vs → EachFirstBroken INFINITY gs mss ws → EachFirstBroken INFINITY gs (nss ++ mss) (vs ++ ws)
+each_append : (gs : List Goal) (nss mss : List (List ℕ)) (vs ws : List (Option ℕ)) → EachFirstBroken INFINITY gs nss vs → EachFirstBroken INFINITY gs mss ws
+    → EachFirstBroken INFINITY gs (nss ++ mss) (vs ++ ws)
 each_append gs [] mss vs ws h g = subst (λ us. EachFirstBroken INFINITY gs mss (us ++ ws)) (sym h) g
 each_append gs (ns ∷ nss) mss [] ws h g = absurd h
 each_append gs (ns ∷ nss) mss (v ∷ vs) ws h g = (h.0, each_append gs nss mss vs ws h.1 g)
@@ -81,12 +83,15 @@ pub record IsStreamed (gs : List Goal) (nss : List (List ℕ)) (old now : SinkSt
 pub streamed_none : (gs : List Goal) (nss : List (List ℕ)) (s : SinkState) → IsStreamed gs nss s s 0 [] true
 streamed_none gs nss s = record { whole = []; reported = reported_none gs nss; waits = nothing_now s [] }
 
-module _ (gs : List Goal) (ks : List Constraint) (nss : List (List ℕ)) (says : EachSays gs ks) (small : All (All (λ k. k ≤ INFINITY)) nss) (old now : SinkState) (number : ℕ) (text : List ℕ) (are_good : Bool) (s : IsStreamed gs nss old now number text are_good) where
+module _ (gs : List Goal) (ks : List Constraint) (nss : List (List ℕ)) (says : EachSays gs ks) (small : All (All (λ k. k ≤ INFINITY)) nss) (old now : SinkState)
+    (number : ℕ) (text : List ℕ) (are_good : Bool) (s : IsStreamed gs nss old now number text are_good) where
   -- one answer more
-  pub streamed_more : (new : List ℕ) (row : List ℕ) (o : Option ℕ) → number < length nss → row ≡ get_or nss number [] → AreFirstBroken (assigned row) 1 ks o → new ≡ text ++ answer_line (number + 1) o → IsStreamed gs nss old now (number + 1) new (are_good && is_none o)
+  pub streamed_more : (new : List ℕ) (row : List ℕ) (o : Option ℕ) → number < length nss → row ≡ get_or nss number [] → AreFirstBroken (assigned row) 1 ks o
+      → new ≡ text ++ answer_line (number + 1) o → IsStreamed gs nss old now (number + 1) new (are_good && is_none o)
   streamed_more new row o l is first e = record {
     whole = s.whole ++ answer_line (number + 1) o;
-    reported = reported_more gs ks nss number s.whole (s.whole ++ answer_line (number + 1) o) are_good row o l says is (subst (All (λ (m : ℕ). m ≤ INFINITY)) (sym is) (small number [] l)) first refl s.reported;
+    reported = reported_more gs ks nss number s.whole (s.whole ++ answer_line (number + 1) o) are_good row o l says is
+        (subst (All (λ (m : ℕ). m ≤ INFINITY)) (sym is) (small number [] l)) first refl s.reported;
     waits = subst (Waits old now (s.whole ++ answer_line (number + 1) o)) (sym e) (waits_more old now s.whole text s.waits (answer_line (number + 1) o));
   }
 
@@ -140,7 +145,12 @@ module _ (f : FlatQuery) (nss : List (List ℕ)) (old now : SinkState) where
     pub report_short : (result : Result CheckStatus Fault) → result ≡ Err fault.NoMemory → PutsReport f nss old now result
     report_short result is =
         let v = has_order f.order (open_ones f.members) nss in
-        subst (PutsReport f nss old now) (sym is) (p.0, v.0, record { each = p.1; rising = v.1 }, longer_part old now (answer_lines 1 p.0) (order_line v.0) (waits_short old now (answer_lines 1 p.0) l.text.items p.2))
+        subst (PutsReport f nss old now) (sym is) (
+          p.0,
+          v.0,
+          record { each = p.1; rising = v.1 },
+          longer_part old now (answer_lines 1 p.0) (order_line v.0) (waits_short old now (answer_lines 1 p.0) l.text.items p.2),
+        )
 
     module _ (order : Order) (xs : List ℕ) (same : order ≡ f.order) (labelled : xs ≡ open_ones f.members) (text : List ℕ) (b : Bool) (q : PutsOrder order xs nss l.text.items text b) where
       rising : IsOrderOf f.order (open_ones f.members) nss q.0
@@ -150,7 +160,12 @@ module _ (f : FlatQuery) (nss : List (List ℕ)) (old now : SinkState) where
       last_waits = subst (Waits old now (answer_lines 1 p.0 ++ order_line q.0)) (sym q.2) (waits_more old now (answer_lines 1 p.0) l.text.items p.2 (order_line q.0))
 
       pub report_failed : (new : SinkState) (result : Result CheckStatus Fault) → WroteFront now new text → result ≡ Err fault.WriteFault → PutsReport f nss old new result
-      report_failed new result h is = subst (PutsReport f nss old new) (sym is) (p.0, q.0, record { each = p.1; rising = rising }, waits_cut old now (answer_lines 1 p.0 ++ order_line q.0) text last_waits new h)
+      report_failed new result h is = subst (PutsReport f nss old new) (sym is) (
+        p.0,
+        q.0,
+        record { each = p.1; rising = rising },
+        waits_cut old now (answer_lines 1 p.0 ++ order_line q.0) text last_waits new h,
+      )
 
       pub report_written : (new : SinkState) (st : CheckStatus) → WroteAll now new text → st ≡ good_status (l.are_good && b) → PutsReport f nss old new (Ok st)
       report_written new st h is = (

@@ -5,8 +5,8 @@ use Rattle.std.specs.Str.{IsUtf8}
 use Rattle.fd_model.specs.Verdict.{max_text}
 use Rattle.fd_language.specs.declared.TheConstants.{INFINITY}
 use Rattle.fd_language.specs.Reading.{sentences, token_fault, syntax_fault, too_deep}
-use Rattle.answer_check.specs.declared.listed.Answers.{Answers}
-use Rattle.answer_check.specs.declared.listed.Listed.{Listed}
+use Rattle.answer_check.specs.declared.listed_answers.Answers.{Answers}
+use Rattle.answer_check.specs.declared.listed_answers.Listed.{Listed}
 use Rattle.byte_ports.specs.Ends.{SinkState}
 use Rattle.answer_check.specs.declared.outcome.CheckStatus.{CheckStatus}
 use Rattle.answer_check.specs.declared.outcome.Fault.{Fault}
@@ -24,7 +24,7 @@ use Rattle.answer_check.specs.Inputs.{JudgesText, JudgesInput, Lists, Stops, Can
 use Rattle.answer_check.specs.Judgement.{Judgement, refused, judged, JudgesAnswers, JudgesQuery, JudgesReading, JudgesParts, IsJudged}
 use Rattle.answer_check.specs.Lines.{lines_of}
 use Rattle.answer_check.specs.Parts.{query_line}
-use Rattle.answer_check.specs.Splitting.{IsSplitAt}
+use Rattle.answer_check.specs.InputSplit.{IsSplitAt}
 use Rattle.answer_check.specs.Queries.{IsQuery, ReadsQuery}
 use Rattle.answer_check.specs.Refusals.{reason_text}
 use Rattle.answer_check.specs.Rows.{FindsRows, StopsRows}
@@ -93,7 +93,8 @@ module _ (P Q : Judgement → Type 0) (to : (j : Judgement) → P j → Q j) whe
   reads_so (Ok l) h = lists_so l h
   reads_so (Err s) h = stops_so s h
 
-pub parts_judged : (input : List ℕ) (at : ℕ) → IsSplitAt input at → (j : Judgement) → JudgesText (take at input) (at + length query_line) (lines_of (drop (at + length query_line) input)) j → JudgesInput input j
+pub parts_judged : (input : List ℕ) (at : ℕ) → IsSplitAt input at → (j : Judgement)
+    → JudgesText (take at input) (at + length query_line) (lines_of (drop (at + length query_line) input)) j → JudgesInput input j
 parts_judged input at s j h =
     let w = s.within in
     let place : length (take at input) ≡ at = length-take-le at input (omega (arith, w)) in
@@ -114,7 +115,8 @@ can_tell input (Err s) h = tt
 -- ---- what is written of it
 
 module _ (input : List ℕ) (old new : SinkState) (result : CheckStatus) where
-  pub report_checks : (l : Listed) (r : Result CheckStatus Fault) (h : Lists (IsJudged INFINITY input) l) → PutsReport h.flat h.rows old new r → MatchResult r (λ st. result ≡ st) (λ e. result ≡ fault_status e) → Checks old new result input
+  pub report_checks : (l : Listed) (r : Result CheckStatus Fault) (h : Lists (IsJudged INFINITY input) l) → PutsReport h.flat h.rows old new r
+      → MatchResult r (λ st. result ≡ st) (λ e. result ≡ fault_status e) → Checks old new result input
   report_checks l (Ok st) h p e = inl (judged p.0 p.1, h.judges p.0 p.1 p.2.each p.2.rising, inl (e ∙ p.3, p.4))
   report_checks l (Err fault.WriteFault) h p e = inl (judged p.0 p.1, h.judges p.0 p.1 p.2.each p.2.rising, inr (inl (e, p.3)))
   report_checks l (Err fault.NoMemory) h p e = inl (judged p.0 p.1, h.judges p.0 p.1 p.2.each p.2.rising, inr (inr (e, p.3)))

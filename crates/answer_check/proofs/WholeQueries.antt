@@ -1,5 +1,6 @@
 -- The flat query that sentences are.
-use Rattle.std.proofs.Common.{◌≡◌, ℕ, zero, suc, get_or, not, ◌<◌, Bool, true, false, cond, ◌&&◌, List, [], ◌∷◌, ◌++◌, map, length, refl, sym, ap, ◌∙◌, subst, arith, true≢false}
+use Rattle.std.proofs.Common.{◌≡◌, ℕ, zero, suc, get_or, not, ◌<◌, Bool, true, false, cond, ◌&&◌, List, [], ◌∷◌, ◌++◌, map, length, refl, sym, ap, ◌∙◌, subst}
+use Rattle.std.proofs.Common.{arith, true≢false}
 use Rattle.std.specs.Prelude.{All, Result, Ok, Err, filter, MatchResult}
 use Rattle.std.specs.List.{list_all}
 use Rattle.std.proofs.lemmas.Bool.{and_parts}
@@ -10,7 +11,7 @@ use Rattle.fd_language.specs.Reading as model
 use Rattle.fd_language.specs.Reading.{Reading, sentences, token_fault, syntax_fault, too_deep, IsReading}
 use Rattle.fd_language.specs.Term.{Name}
 use Rattle.fd_model.specs.Queries.{is_shown, shown_from, query_of}
-use Rattle.fd_model.specs.Refusals.{Form, query, clause, directive, fact, form_of}
+use Rattle.fd_model.specs.Refusals.{SentenceKind, query, clause, directive, fact, form_of}
 use Rattle.term_pool.specs.declared.AtomId.{AtomId}
 use Rattle.term_pool.specs.Contents.{Contents, atom_name}
 use Rattle.term_reader.specs.declared.reader.Sentence.{Sentence}
@@ -23,30 +24,33 @@ use Rattle.answer_check.specs.declared.query.FlatQuery as code
 use Rattle.answer_check.specs.FlatForm.{FlatGoals, FlatQuery, conjuncts, flat_goals, first_hidden, with_goals, where_shown, flat_by, flat_query}
 use Rattle.answer_check.specs.Goals.{FindsGoals, StopsAt}
 use Rattle.answer_check.specs.Queries.{StopsReading, FindsFlat, IsQuery, FindsQuery, StopsAs, ReadsQuery, StopsQuery}
-use Rattle.answer_check.specs.Reading.{IsQueryForm}
+use Rattle.answer_check.specs.TermShapes.{IsQueryForm}
 use Rattle.answer_check.proofs.AnswerWords.{IsShownAll}
 
 -- ---- one sentence
 
 module _ (s : model.Sentence) where
-  pub not_asked : (f : Form) → (IsQueryForm f → ⊥) → flat_by INFINITY s f ≡ Err 0
+  pub not_asked : (f : SentenceKind) → (IsQueryForm f → ⊥) → flat_by INFINITY s f ≡ Err 0
   not_asked (query b) h = absurd (h tt)
   not_asked (clause a b) h = refl
   not_asked directive h = refl
   not_asked (fact t) h = refl
 
   -- the goals stop it
-  pub goals_stop : (f : Form) (b : PlacedTerm) (st : Stop) → f ≡ query b → StopsAt (flat_goals INFINITY (length s.names) (conjuncts b)) NotFlat st → StopsAt (flat_by INFINITY s f) NotFlat st
+  pub goals_stop : (f : SentenceKind) (b : PlacedTerm) (st : Stop) → f ≡ query b → StopsAt (flat_goals INFINITY (length s.names) (conjuncts b)) NotFlat st → StopsAt (flat_by INFINITY s f) NotFlat st
   goals_stop f b (Refused p r) e h = (ap (flat_by INFINITY s) e ∙ ap (where_shown s (query_of INFINITY s.names b)) h.0, h.1)
   goals_stop f b NoMemory e h = tt
 
   -- a name does
-  pub name_stops : (f : Form) (b : PlacedTerm) (g : Goals) (p : ℕ) → f ≡ query b → FindsGoals (flat_goals INFINITY (length s.names) (conjuncts b)) g → list_all is_shown s.names ≡ false → p ≡ first_hidden s → flat_by INFINITY s f ≡ Err p
+  pub name_stops : (f : SentenceKind) (b : PlacedTerm) (g : Goals) (p : ℕ) → f ≡ query b → FindsGoals (flat_goals INFINITY (length s.names) (conjuncts b)) g
+      → list_all is_shown s.names ≡ false → p ≡ first_hidden s → flat_by INFINITY s f ≡ Err p
   name_stops f b g p e h hidden is =
-      ap (flat_by INFINITY s) e ∙ ap (where_shown s (query_of INFINITY s.names b)) h.1 ∙ ap (λ t. cond t (Ok (with_goals (query_of INFINITY s.names b) h.0)) (Err (first_hidden s))) hidden ∙ ap (λ n. Err n) (sym is)
+      ap (flat_by INFINITY s) e ∙ ap (where_shown s (query_of INFINITY s.names b)) h.1
+      ∙ ap (λ t. cond t (Ok (with_goals (query_of INFINITY s.names b) h.0)) (Err (first_hidden s))) hidden ∙ ap (λ n. Err n) (sym is)
 
   -- or it is flat
-  pub sentence_found : (f : Form) (b : PlacedTerm) (g : Goals) → f ≡ query b → FindsGoals (flat_goals INFINITY (length s.names) (conjuncts b)) g → list_all is_shown s.names ≡ true → FindsFlat (flat_by INFINITY s f) g
+  pub sentence_found : (f : SentenceKind) (b : PlacedTerm) (g : Goals) → f ≡ query b → FindsGoals (flat_goals INFINITY (length s.names) (conjuncts b)) g
+      → list_all is_shown s.names ≡ true → FindsFlat (flat_by INFINITY s f) g
   sentence_found f b g e h shown = (
     with_goals (query_of INFINITY s.names b) h.0,
     ap (flat_by INFINITY s) e ∙ ap (where_shown s (query_of INFINITY s.names b)) h.1 ∙ ap (λ t. cond t (Ok (with_goals (query_of INFINITY s.names b) h.0)) (Err (first_hidden s))) shown,
@@ -60,7 +64,7 @@ module _ (s : model.Sentence) where
     numbers : f.query.shown ≡ shown_from 0 s.names
     variables : f.query.variables ≡ length s.names
 
-  has_names : (f : Form) (r : FlatQuery) → flat_by INFINITY s f ≡ Ok r → HasNames r
+  has_names : (f : SentenceKind) (r : FlatQuery) → flat_by INFINITY s f ≡ Ok r → HasNames r
   has_names (query b) r e = by (flat_goals INFINITY (length s.names) (conjuncts b)) e where
     by : (q : Result FlatGoals ℕ) → where_shown s (query_of INFINITY s.names b) q ≡ Ok r → HasNames r
     by (Err p) e = absurd (cc (e))
@@ -122,7 +126,8 @@ module _ (c : Contents) where
   pub one_sentence : (ss rest : List Sentence) (s : Sentence) → ss ≡ rest ++ s ∷ [] → rest ≡ [] → flat_query INFINITY (all ss) ≡ flat_by INFINITY (sentence_of c s) (form_of (sentence_of c s).term)
   one_sentence ss rest s e none = ap (λ xs. flat_query INFINITY (all xs)) (e ∙ ap (λ xs. xs ++ s ∷ []) none)
 
-  pub sentence_query : (s : Sentence) (found : Result FlatQuery ℕ) (q : code.FlatQuery) → found ≡ flat_by INFINITY (sentence_of c s) (form_of (sentence_of c s).term) → All (λ a. a.number < length c.names) s.names.items
+  pub sentence_query : (s : Sentence) (found : Result FlatQuery ℕ) (q : code.FlatQuery)
+      → found ≡ flat_by INFINITY (sentence_of c s) (form_of (sentence_of c s).term) → All (λ a. a.number < length c.names) s.names.items
       → FindsFlat (flat_by INFINITY (sentence_of c s) (form_of (sentence_of c s).term)) q.goals → q.pool ≡ c → q.names.items ≡ s.names.items → FindsQuery found q
   sentence_query s found q is within f pool names =
       let m = has_names (sentence_of c s) (form_of (sentence_of c s).term) f.0 f.1 in
@@ -150,7 +155,7 @@ stops_as (syntax_fault place) st h = h
 stops_as (too_deep place) st h = h
 
 -- a flat query shows all its variables
-pub shown_query : (s : model.Sentence) (f : Form) (r : FlatQuery) → flat_by INFINITY s f ≡ Ok r → (ns : List Name) × IsShownAll r.query ns
+pub shown_query : (s : model.Sentence) (f : SentenceKind) (r : FlatQuery) → flat_by INFINITY s f ≡ Ok r → (ns : List Name) × IsShownAll r.query ns
 shown_query s f r e =
     let m = has_names s f r e in (
       s.names,
@@ -161,6 +166,7 @@ shown_query s f r e =
       },
     )
 
-pub reads_text : (text : List ℕ) (ss : List model.Sentence) (r : Result code.FlatQuery Stop) → IsReading text (sentences ss) → MatchResult r (FindsQuery (flat_query INFINITY ss)) (StopsAt (flat_query INFINITY ss) NotFlat) → MatchResult r (ReadsQuery text) (StopsQuery text)
+pub reads_text : (text : List ℕ) (ss : List model.Sentence) (r : Result code.FlatQuery Stop) → IsReading text (sentences ss)
+    → MatchResult r (FindsQuery (flat_query INFINITY ss)) (StopsAt (flat_query INFINITY ss) NotFlat) → MatchResult r (ReadsQuery text) (StopsQuery text)
 reads_text text ss (Ok q) h m = (sentences ss, h, m)
 reads_text text ss (Err s) h m = (sentences ss, h, m)

@@ -4,7 +4,7 @@ use Rattle.std.specs.Str.{bytes_eq}
 use Rattle.fd_model.specs.FlatLines.{assigned_line}
 use Rattle.fd_model.specs.Goal.{Query}
 use Rattle.fd_model.specs.Lines.{line}
-use Rattle.fd_model.specs.Satisfies.{Assignment}
+use Rattle.fd_model.specs.Satisfaction.{Assignment}
 
 -- the assignment with these values, and 0 for each other variable
 abbrev pub assigned : List ℕ → Assignment
@@ -29,7 +29,8 @@ abbrev pub behind_row : List ℕ → Result (List (List ℕ)) ℕ → Result (Li
 behind_row ns (Ok nss) = Ok (ns ∷ nss)
 behind_row ns (Err p) = Err p
 
--- What the lines are, of which the first begins at a place: answers and then a last line, or the place of the first line that breaks this, or of the end where the last line is missing.
+-- What the lines are, of which the first begins at a place: answers and then a last line, or the place of the first line that breaks this, or of the end where
+-- the last line is missing.
 abbrev pub AreAnswers : ℕ → Query → ℕ → List (List ℕ) → Result (List (List ℕ)) ℕ → Type 0
 AreAnswers M q at [] r = r ≡ Err at
 AreAnswers M q at (l ∷ ls) r =

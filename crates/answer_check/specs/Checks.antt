@@ -3,12 +3,12 @@ use Rattle.std.specs.Prelude.{◌≡◌, ℕ, suc, ◌≤◌, ℤ, pos, ◌≤�
 use Rattle.fd_language.specs.declared.TheConstants.{INFINITY}
 use Rattle.fd_language.specs.Range.{Range, Span}
 use Rattle.fd_model.specs.declared.kinds.Relation.{Relation}
-use Rattle.fd_model.specs.Satisfies.{Assignment, Holds, IsNumber, AreNumbers, AreDifferent, IsElement, occurrences}
+use Rattle.fd_model.specs.Satisfaction.{Assignment, Holds, IsNumber, AreNumbers, AreDifferent, IsElement, occurrences}
 use Rattle.answer_check.specs.declared.goals.Constraint.{Constraint}
 use Rattle.answer_check.specs.declared.goals.Constraint.TheVariants.{Post, Compare, AllDifferent, Element, Atmost}
 use Rattle.answer_check.specs.declared.members.Member.{Member}
 use Rattle.answer_check.specs.Members.{worth_of, worths_of}
-use Rattle.answer_check.specs.Work.{value_by, is_in, RangeFits}
+use Rattle.answer_check.specs.OperandStack.{value_by, is_in, RangeFits}
 
 -- the integer is a number of the universe that lies in the range
 pub record IsInside (a : Assignment) (z : ℤ) (r : Range) : Type 0 where

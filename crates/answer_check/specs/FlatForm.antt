@@ -13,13 +13,13 @@ use Rattle.fd_model.specs.declared.kinds.ConstraintKind.TheVariants.{Compare, Al
 use Rattle.fd_model.specs.Builtins.{is_integer}
 use Rattle.fd_model.specs.declared.kinds.Order.{Order}
 use Rattle.fd_model.specs.declared.kinds.QueryFault.{QueryFault}
-use Rattle.fd_model.specs.Constraining.{arguments}
+use Rattle.fd_model.specs.ConstraintExpansion.{arguments}
 use Rattle.fd_model.specs.FlatConstraints.{is_place, is_list_of, is_flat_comparison}
 use Rattle.fd_model.specs.Goal.{Goal, Post, Constrain, Label, Query}
 use Rattle.fd_model.specs.Labelling.{read_list, open_ones}
 use Rattle.fd_model.specs.Members.{Member}
 use Rattle.fd_model.specs.Queries.{goal_of, is_shown, query_of}
-use Rattle.fd_model.specs.Refusals.{Form, query, form_of, range_refusal, second_part}
+use Rattle.fd_model.specs.Refusals.{SentenceKind, query, form_of, range_refusal, second_part}
 
 -- what is checked: the query, the constraints in front, and the labelling
 pub record FlatQuery : Type 0 where
@@ -125,11 +125,12 @@ abbrev pub where_shown : Sentence → Query → Result FlatGoals ℕ → Result 
 where_shown s q (Ok g) = if list_all is_shown s.names then Ok (with_goals q g) else Err (first_hidden s)
 where_shown s q (Err p) = Err p
 
-abbrev pub flat_by : ℕ → Sentence → Form → Result FlatQuery ℕ
+abbrev pub flat_by : ℕ → Sentence → SentenceKind → Result FlatQuery ℕ
 flat_by M s (query b) = where_shown s (query_of M s.names b) (flat_goals M (length s.names) (conjuncts b))
 flat_by M s _ = Err 0
 
--- The query that the sentences of a text are, where they are one of the flat form, or the place where they break it: the first goal that does, then the first variable whose name begins with `_`.
+-- The query that the sentences of a text are, where they are one of the flat form, or the place where they break it: the first goal that does, then the first
+-- variable whose name begins with `_`.
 abbrev pub flat_query : ℕ → List Sentence → Result FlatQuery ℕ
 flat_query M (s ∷ []) = flat_by M s (form_of s.term)
 flat_query M _ = Err 0

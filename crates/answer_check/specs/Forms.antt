@@ -3,11 +3,11 @@ use Rattle.std.specs.Prelude.{Option, Some, None}
 use Rattle.fd_model.specs.declared.kinds.ConstraintKind.{ConstraintKind}
 use Rattle.fd_model.specs.declared.kinds.ConstraintKind.TheVariants as kind
 use Rattle.fd_model.specs.Forms.{GoalForm, truth, failure, unification, posting, cutting, constraint, labelling, optimum, builtin}
-use Rattle.answer_check.specs.declared.forms.Form.{Form}
-use Rattle.answer_check.specs.declared.forms.Form.TheVariants.{Posting, Constraint, Labelling}
+use Rattle.answer_check.specs.declared.forms.GoalKind.{GoalKind}
+use Rattle.answer_check.specs.declared.forms.GoalKind.TheVariants.{Posting, Constraint, Labelling}
 
 -- the kinds that are checked: truth values are left out
-abbrev pub kind_form : ConstraintKind → Option Form
+abbrev pub kind_form : ConstraintKind → Option GoalKind
 kind_form (kind.Compare r) = Some (Constraint (kind.Compare r))
 kind_form kind.AllDifferent = Some (Constraint kind.AllDifferent)
 kind_form kind.Element = Some (Constraint kind.Element)
@@ -17,7 +17,7 @@ kind_form kind.Or = None
 kind_form kind.Not = None
 kind_form kind.Reified = None
 
-abbrev pub flat_form : Option GoalForm → Option Form
+abbrev pub flat_form : Option GoalForm → Option GoalKind
 flat_form None = None
 flat_form (Some truth) = None
 flat_form (Some failure) = None

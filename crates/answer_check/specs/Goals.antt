@@ -13,7 +13,7 @@ use Rattle.fd_model.specs.FlatQueries.{IsSatisfied}
 use Rattle.fd_model.specs.Goal.{Goal}
 use Rattle.fd_model.specs.Labelling.{read_list, open_ones}
 use Rattle.fd_model.specs.Members.{Member}
-use Rattle.fd_model.specs.Satisfies.{Assignment, Satisfies}
+use Rattle.fd_model.specs.Satisfaction.{Assignment, Satisfies}
 use Rattle.answer_check.specs.declared.goals.Labelling.{Labelling}
 use Rattle.answer_check.specs.declared.goals.Constraint.{Constraint}
 use Rattle.answer_check.specs.declared.goals.Goals.{Goals}

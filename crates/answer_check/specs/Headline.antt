@@ -53,7 +53,9 @@ pub record Headline (words : List (List ℕ)) (old new : Ends) (result : CheckSt
   -- a front of an output was written before a write fault
   pub cut : result ≡ WriteFault → (input out : List ℕ) × (st : CheckStatus) × IsInput words old.left new.left input × CheckOutput INFINITY words input out st × PutPart old.written new.written out
   -- where memory was wanting, nothing was written, or a front of an output
-  pub short : result ≡ NoMemory → Put old.written new.written [] ⊎ ((input out : List ℕ) × (st : CheckStatus) × IsInput words old.left new.left input × CheckOutput INFINITY words input out st × PutPart old.written new.written out)
+  pub short : result ≡ NoMemory → Put old.written new.written []
+      ⊎ ((input out : List ℕ) × (st : CheckStatus) × IsInput words old.left new.left input × CheckOutput INFINITY words input out st
+      × PutPart old.written new.written out)
   -- a read fault was counted, and nothing was written
   pub read_fault : result ≡ ReadFault → Rose old.source_faults new.source_faults × Put old.written new.written []
   -- and where a read fault was counted it is told

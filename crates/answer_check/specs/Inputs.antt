@@ -5,7 +5,7 @@ use Rattle.fd_language.specs.Reading.{Reading, IsReading}
 use Rattle.fd_model.specs.Labelling.{open_ones}
 use Rattle.fd_model.specs.Output.{refusal}
 use Rattle.byte_ports.specs.Ends.{SinkState}
-use Rattle.answer_check.specs.declared.listed.Listed.{Listed}
+use Rattle.answer_check.specs.declared.listed_answers.Listed.{Listed}
 use Rattle.answer_check.specs.declared.outcome.CheckStatus.{CheckStatus}
 use Rattle.answer_check.specs.declared.outcome.CheckStatus.TheVariants as status
 use Rattle.answer_check.specs.declared.outcome.Stop.{Stop}
@@ -13,7 +13,8 @@ use Rattle.answer_check.specs.declared.outcome.Stop.TheVariants.{Refused, NoMemo
 use Rattle.answer_check.specs.Checks.{CanCheck}
 use Rattle.answer_check.specs.FlatForm.{FlatQuery}
 use Rattle.answer_check.specs.Headline.{Ending}
-use Rattle.answer_check.specs.Judgement.{Judgement, refused, judged, OrderVerdict, EachFirstBroken, IsOrderOf, JudgesReading, JudgesParts, IsJudged, judgement_output, judgement_status}
+use Rattle.answer_check.specs.Judgement.{Judgement, refused, judged, OrderVerdict, EachFirstBroken, IsOrderOf, JudgesReading, JudgesParts, IsJudged}
+use Rattle.answer_check.specs.Judgement.{judgement_output, judgement_status}
 use Rattle.answer_check.specs.Parts.{parts_of}
 use Rattle.answer_check.specs.Queries.{IsQuery}
 use Rattle.answer_check.specs.Refusals.{reason_text}

@@ -1,5 +1,6 @@
 -- What is said of an input: that it is refused, or which goal each answer breaks first and whether the answers rise.
-use Rattle.std.specs.Prelude.{◌≡◌, ℕ, suc, ◌<◌, ◌≤◌, Bool, true, false, ◌&&◌, List, [], ◌∷◌, ◌++◌, length, map, Option, Some, None, is_none, Result, Ok, Err, codes, decimal, ◌⊎◌}
+use Rattle.std.specs.Prelude.{◌≡◌, ℕ, suc, ◌<◌, ◌≤◌, Bool, true, false, ◌&&◌, List, [], ◌∷◌, ◌++◌, length, map, Option, Some, None, is_none, Result, Ok, Err}
+use Rattle.std.specs.Prelude.{codes, decimal, ◌⊎◌}
 use Rattle.std.specs.List.{list_all}
 use Rattle.std.specs.Str.{IsUtf8}
 use Rattle.std.specs.Str.Lossy.{utf8_valid_len}
@@ -12,7 +13,7 @@ use Rattle.fd_model.specs.Goal.{Goal}
 use Rattle.fd_model.specs.Labelling.{open_ones}
 use Rattle.fd_model.specs.Lines.{line}
 use Rattle.fd_model.specs.Output.{refusal}
-use Rattle.fd_model.specs.Satisfies.{Assignment}
+use Rattle.fd_model.specs.Satisfaction.{Assignment}
 use Rattle.fd_model.specs.Verdict.{max_text, cause_name}
 use Rattle.answer_check.specs.declared.outcome.CheckStatus.{CheckStatus}
 use Rattle.answer_check.specs.declared.outcome.CheckStatus.TheVariants as status
@@ -92,7 +93,8 @@ abbrev pub JudgesParts : ℕ → ℕ → Option Parts → Judgement → Type 0
 JudgesParts M size None j = j ≡ refused size (codes "no answers")
 JudgesParts M size (Some p) j = (r : Reading) × IsReading p.text r × JudgesReading M (place_behind p) p.lines r j
 
--- The size decides first, then whether the bytes are UTF-8, then whether there is a second part, then the tokens and the grammar of the first, then the flat form, then the lines of the second.
+-- The size decides first, then whether the bytes are UTF-8, then whether there is a second part, then the tokens and the grammar of the first, then the flat
+-- form, then the lines of the second.
 abbrev pub IsJudged : ℕ → List ℕ → Judgement → Type 0
 IsJudged M input j =
     ((max_text < length input) × (j ≡ refused max_text (codes "too large")))

@@ -6,9 +6,9 @@ pub mod Judgement
 pub mod Headline
 pub mod Refusals
 pub mod Faults
-pub mod Splitting
+pub mod InputSplit
 pub mod Members
-pub mod Work
+pub mod OperandStack
 pub mod Checks
 pub mod Sides
 pub mod Forms
@@ -17,5 +17,5 @@ pub mod Queries
 pub mod Rows
 pub mod Reports
 pub mod Inputs
-pub mod Reading
+pub mod TermShapes
 pub mod Laws

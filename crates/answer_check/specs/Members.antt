@@ -3,7 +3,7 @@ use Rattle.std.specs.Prelude.{ℕ, ℤ, pos, Bool, true, false, List, [], ◌∷
 use Rattle.std.specs.Str.{bytes_eq}
 use Rattle.fd_language.specs.Term.{Term, Var, Int, Atom, Comp, no_terms, term}
 use Rattle.fd_model.specs.Members as model
-use Rattle.fd_model.specs.Satisfies.{Assignment}
+use Rattle.fd_model.specs.Satisfaction.{Assignment}
 use Rattle.answer_check.specs.declared.members.Member.{Member}
 use Rattle.answer_check.specs.declared.members.Member.TheVariants.{Open, Known}
 

@@ -13,7 +13,8 @@ use Rattle.answer_check.specs.declared.outcome.Fault.{Fault}
 use Rattle.answer_check.specs.declared.outcome.Fault.TheVariants as fault
 use Rattle.answer_check.specs.declared.report.Lines.{Lines}
 use Rattle.answer_check.specs.FlatForm.{FlatQuery}
-use Rattle.answer_check.specs.Judgement.{judged, OrderVerdict, IsFirstFalling, IsOrderOf, EachFirstBroken, answer_lines, order_text, is_in_order, judgement_output, judgement_status}
+use Rattle.answer_check.specs.Judgement.{judged, OrderVerdict, IsFirstFalling, IsOrderOf, EachFirstBroken, answer_lines, order_text, is_in_order}
+use Rattle.answer_check.specs.Judgement.{judgement_output, judgement_status}
 
 -- the number of the first answer that isn't behind the one before
 abbrev pub IsFalling : List ℕ → List (List ℕ) → Option ℕ → Type 0

@@ -1,5 +1,6 @@
 -- Answer lines read from the front, and the answers that are kept.
-use Rattle.std.specs.Prelude.{◌≡◌, ℕ, ◌≤◌, ◌&&◌, not, nat_le, nat_eq, Bool, true, false, List, [], ◌∷◌, ◌++◌, length, drop, All, Option, Some, None, option_map, option_and_then, Result, Ok, codes, decimal, if◌then◌else◌}
+use Rattle.std.specs.Prelude.{◌≡◌, ℕ, ◌≤◌, ◌&&◌, not, nat_le, nat_eq, Bool, true, false, List, [], ◌∷◌, ◌++◌, length, drop, All, Option, Some, None, option_map}
+use Rattle.std.specs.Prelude.{option_and_then, Result, Ok, codes, decimal, if◌then◌else◌}
 use Rattle.std.specs.List.{starts_with, before_first}
 use Rattle.std.specs.Char.{is_ascii_digit}
 use Rattle.std.specs.Str.{bytes_eq}
@@ -7,7 +8,7 @@ use Rattle.std.specs.Str.Parse.{digits_value}
 use Rattle.fd_language.specs.declared.TheConstants.{INFINITY}
 use Rattle.fd_language.specs.Term.{Name}
 use Rattle.fd_model.specs.Goal.{Query}
-use Rattle.answer_check.specs.declared.listed.Answers.{Answers}
+use Rattle.answer_check.specs.declared.listed_answers.Answers.{Answers}
 use Rattle.answer_check.specs.declared.outcome.Reason.TheVariants.{BadAnswer}
 use Rattle.answer_check.specs.declared.outcome.Stop.{Stop}
 use Rattle.answer_check.specs.AnswerLines.{AreAnswers}

@@ -1,10 +1,11 @@
 -- The sides of a comparison as terms of a range, and what is still to be spelled of them.
-use Rattle.std.specs.Prelude.{◌≡◌, ℕ, ◌+◌, ◌*◌, ◌<◌, pos, Bool, true, false, ◌&&◌, ◌||◌, if◌then◌else◌, List, [], ◌∷◌, ◌++◌, length, All, Option, Some, None, option_and_then, codes}
+use Rattle.std.specs.Prelude.{◌≡◌, ℕ, ◌+◌, ◌*◌, ◌<◌, pos, Bool, true, false, ◌&&◌, ◌||◌, if◌then◌else◌, List, [], ◌∷◌, ◌++◌, length, All, Option, Some, None}
+use Rattle.std.specs.Prelude.{option_and_then, codes}
 use Rattle.std.specs.Str.{bytes_eq}
 use Rattle.fd_language.specs.declared.TheConstants.{INFINITY}
 use Rattle.fd_language.specs.declared.range_node.RangeNode.{RangeNode}
 use Rattle.fd_language.specs.declared.range_node.RangeNode.TheVariants as node
-use Rattle.fd_language.specs.Flat.{expr_nodes}
+use Rattle.fd_language.specs.PostfixRanges.{expr_nodes}
 use Rattle.fd_language.specs.Range.{Range, Span, Expr, Number, Val, Add, Sub, Mul}
 use Rattle.fd_language.specs.RangeVerdict.{bound}
 use Rattle.fd_language.specs.Term.{Name, Term, Var, Int, Atom, Comp, no_terms, term}

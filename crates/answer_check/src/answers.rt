@@ -11,7 +11,7 @@ ghost use Rattle.answer_check.specs.Lines.{lines_of};
 ghost use Rattle.answer_check.specs.Queries.{IsQuery};
 ghost use Rattle.answer_check.specs.Rows.{answer_in, behind, digits_of, number_in, value_in, FindsRows, IsRead, StopsRows};
 
-use crate::listed::Answers;
+use crate::listed_answers::Answers;
 use crate::outcome::{Reason, Stop};
 use crate::parts::first_line;
 use crate::query::FlatQuery;

@@ -2,16 +2,16 @@
 
 ghost use Rattle.std.specs.Ordering.{int_eq};
 ghost use Rattle.std.specs.Prelude.{◌≤ℤ◌, ◌≡◌, ◌≤◌, ◌-◌, ◌↔◌, ℕ, ℤ, pos, Bool, true, All, IsTrue, IfOk, MatchOption, suc};
-ghost use Rattle.fd_language.specs.Flat.{nodes_of};
-ghost use Rattle.fd_model.specs.Satisfies.{AreDifferent, AreNumbers, Holds, IsElement, IsNumber, occurrences};
+ghost use Rattle.fd_language.specs.PostfixRanges.{nodes_of};
+ghost use Rattle.fd_model.specs.Satisfaction.{AreDifferent, AreNumbers, Holds, IsElement, IsNumber, occurrences};
 ghost use Rattle.answer_check.specs.AnswerLines.{assigned};
 ghost use Rattle.answer_check.specs.Checks.{AreAllDifferent, AreFirstBroken, CanCheck, EndsFit, EndsHold, HasAtMost, HasElement, IsInside, Meets};
 ghost use Rattle.answer_check.specs.Members.{worth_of, worths_of};
-ghost use Rattle.answer_check.specs.Work.{RangeFits};
+ghost use Rattle.answer_check.specs.OperandStack.{RangeFits};
 
 use crate::goals::Constraint;
 use crate::members::Member;
-use crate::work::Work;
+use crate::operand_stack::Work;
 use fd_language::{FlatRange, INFINITY, NoMemory};
 use fd_model::kinds::Relation;
 use indexmap::IndexSet;

@@ -8,7 +8,7 @@ use fd_model::kinds::{ConstraintKind, Order, Relation};
 
 /// What a goal of a flat query is.
 #[derive(Clone, Copy)]
-pub(crate) enum Form {
+pub(crate) enum GoalKind {
     /// `T in R`.
     Posting,
     /// A constraint by its kind.
@@ -17,44 +17,44 @@ pub(crate) enum Form {
     Labelling(Order),
 }
 
-fn unary(name: &str) -> Option<Form>
+fn unary(name: &str) -> Option<GoalKind>
     ensures { result ≡ flat_form (named name.now 1) }
 {
     match name {
-        "fd_all_different" => Some(Form::Constraint(ConstraintKind::AllDifferent)),
-        "fd_labeling" => Some(Form::Labelling(Order::Leftmost)),
-        "fd_labelingff" => Some(Form::Labelling(Order::FirstFail)),
+        "fd_all_different" => Some(GoalKind::Constraint(ConstraintKind::AllDifferent)),
+        "fd_labeling" => Some(GoalKind::Labelling(Order::Leftmost)),
+        "fd_labelingff" => Some(GoalKind::Labelling(Order::FirstFail)),
         _ => None,
     }
 }
 
-fn binary(name: &str) -> Option<Form>
+fn binary(name: &str) -> Option<GoalKind>
     ensures { result ≡ flat_form (named name.now 2) }
 {
     match name {
-        "in" => Some(Form::Posting),
-        "#=" => Some(Form::Constraint(ConstraintKind::Compare(Relation::Equal))),
-        "#\\=" => Some(Form::Constraint(ConstraintKind::Compare(Relation::Differ))),
-        "#<" => Some(Form::Constraint(ConstraintKind::Compare(Relation::Less))),
-        "#=<" => Some(Form::Constraint(ConstraintKind::Compare(Relation::AtMost))),
-        "#>" => Some(Form::Constraint(ConstraintKind::Compare(Relation::Greater))),
-        "#>=" => Some(Form::Constraint(ConstraintKind::Compare(Relation::AtLeast))),
+        "in" => Some(GoalKind::Posting),
+        "#=" => Some(GoalKind::Constraint(ConstraintKind::Compare(Relation::Equal))),
+        "#\\=" => Some(GoalKind::Constraint(ConstraintKind::Compare(Relation::Differ))),
+        "#<" => Some(GoalKind::Constraint(ConstraintKind::Compare(Relation::Less))),
+        "#=<" => Some(GoalKind::Constraint(ConstraintKind::Compare(Relation::AtMost))),
+        "#>" => Some(GoalKind::Constraint(ConstraintKind::Compare(Relation::Greater))),
+        "#>=" => Some(GoalKind::Constraint(ConstraintKind::Compare(Relation::AtLeast))),
         _ => None,
     }
 }
 
-fn ternary(name: &str) -> Option<Form>
+fn ternary(name: &str) -> Option<GoalKind>
     ensures { result ≡ flat_form (named name.now 3) }
 {
     match name {
-        "fd_element" => Some(Form::Constraint(ConstraintKind::Element)),
-        "fd_atmost" => Some(Form::Constraint(ConstraintKind::Atmost)),
+        "fd_element" => Some(GoalKind::Constraint(ConstraintKind::Element)),
+        "fd_atmost" => Some(GoalKind::Constraint(ConstraintKind::Atmost)),
         _ => None,
     }
 }
 
 /// The form of the goals with the name and so many arguments, if a flat query may have them.
-pub(crate) fn form_named(name: &str, arity: usize) -> Option<Form>
+pub(crate) fn form_named(name: &str, arity: usize) -> Option<GoalKind>
     ensures { result ≡ flat_form (named name.now arity) }
 {
     match arity {

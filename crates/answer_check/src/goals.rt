@@ -8,7 +8,7 @@ ghost use Rattle.fd_language.specs.Spelling.{read_range as reading_of};
 ghost use Rattle.fd_model.specs.FlatConstraints.{is_place};
 ghost use Rattle.fd_model.specs.FlatQueries.{IsSatisfied};
 ghost use Rattle.fd_model.specs.Queries.{goal_of};
-ghost use Rattle.fd_model.specs.Satisfies.{InRange};
+ghost use Rattle.fd_model.specs.Satisfaction.{InRange};
 ghost use Rattle.term_pool.specs.PlacedTerms.{placed_of};
 ghost use Rattle.term_pool.specs.Terms.{term_of, terms_by};
 ghost use Rattle.answer_check.specs.FlatForm.{conjuncts, flat_goals, is_flat_goal, is_flat_range};
@@ -17,7 +17,7 @@ ghost use Rattle.answer_check.specs.Members.{is_known, known_in, open_in};
 ghost use Rattle.answer_check.specs.declared.outcome.Reason.TheVariants as reason;
 ghost use Rattle.answer_check.specs.declared.outcome.Stop.TheVariants as stop;
 
-use crate::forms::{Form, form_named};
+use crate::forms::{GoalKind, form_named};
 use crate::members::{Member, member_of, members_of};
 use crate::outcome::{Reason, Stop};
 use crate::sides::sides_of;
@@ -259,12 +259,12 @@ fn constraint_of(alloc: Global, pool: &Pool, t: TermId) -> Result<Option<Constra
         return Ok(None);
     };
     match form_named(pool.name_of(name), parts.len()) {
-        Some(Form::Posting) => match parts {
+        Some(GoalKind::Posting) => match parts {
             &[target, range] => posting(alloc, pool, target, range),
             _ => Ok(None),
         },
-        Some(Form::Constraint(kind)) => constraint_by(alloc, pool, kind, parts),
-        Some(Form::Labelling(_)) => Ok(None),
+        Some(GoalKind::Constraint(kind)) => constraint_by(alloc, pool, kind, parts),
+        Some(GoalKind::Labelling(_)) => Ok(None),
         None => Ok(None),
     }
 }
@@ -347,12 +347,12 @@ fn labelling_of(
         return Ok(None);
     };
     match form_named(pool.name_of(name), parts.len()) {
-        Some(Form::Labelling(order)) => match parts {
+        Some(GoalKind::Labelling(order)) => match parts {
             &[list] => labelling_by(alloc, pool, order, list, count),
             _ => Ok(None),
         },
-        Some(Form::Posting) => Ok(None),
-        Some(Form::Constraint(_)) => Ok(None),
+        Some(GoalKind::Posting) => Ok(None),
+        Some(GoalKind::Constraint(_)) => Ok(None),
         None => Ok(None),
     }
 }

@@ -3,7 +3,7 @@
 ghost use Rattle.std.specs.Prelude.{◌≡◌, ◌<◌, length, None, IfOk, MatchOption, option_map};
 ghost use Rattle.answer_check.specs.AnswerLines.{assigned};
 ghost use Rattle.answer_check.specs.Members.{cell_in, is_known, is_nil, member_in, members_in, worth_of};
-ghost use Rattle.answer_check.specs.Reading.{IsCell};
+ghost use Rattle.answer_check.specs.TermShapes.{IsCell};
 ghost use Rattle.term_pool.specs.Terms.{term_of};
 
 use fd_language::NoMemory;

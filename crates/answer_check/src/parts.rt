@@ -3,7 +3,7 @@
 ghost use Rattle.std.specs.Prelude.{◌≡◌, None, MatchOption};
 ghost use Rattle.answer_check.specs.Lines.{first_line, lines_of};
 ghost use Rattle.answer_check.specs.Parts.{parts_of};
-ghost use Rattle.answer_check.specs.Splitting.{IsSplitAt};
+ghost use Rattle.answer_check.specs.InputSplit.{IsSplitAt};
 
 use memchr::memchr;
 

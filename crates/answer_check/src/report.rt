@@ -12,7 +12,7 @@ ghost use Rattle.answer_check.specs.Reports.{Flushes, IsFalling, PutsLines, Puts
 ghost use Rattle.answer_check.specs.Rows.{AreRows, Keeps};
 
 use crate::checks::Scratch;
-use crate::listed::Answers;
+use crate::listed_answers::Answers;
 use crate::members::value;
 use crate::outcome::{CheckStatus, Fault};
 use crate::query::FlatQuery;

@@ -1,7 +1,7 @@
 //! The sides of comparisons, as nodes in postfix order.
 
 ghost use Rattle.std.specs.Prelude.{◌≡◌, ◌<◌, [], ◌∷◌, length, IfOk};
-ghost use Rattle.fd_language.specs.Flat.{expr_nodes};
+ghost use Rattle.fd_language.specs.PostfixRanges.{expr_nodes};
 ghost use Rattle.fd_language.specs.Range.{Expr};
 ghost use Rattle.term_pool.specs.Terms.{term_of};
 ghost use Rattle.answer_check.specs.declared.sides.Task.TheVariants as task;

@@ -3,8 +3,8 @@
 ghost use Rattle.std.specs.Prelude.{◌≡◌, ◌<◌, length, MatchOption};
 ghost use Rattle.term_pool.specs.PlacedTerms.{placed_of};
 ghost use Rattle.term_pool.specs.Terms.{term_of, shape_term};
-ghost use Rattle.term_pool.specs.Valid.{shape_of, IsPool, IsWithin};
-ghost use Rattle.answer_check.specs.Reading.{AreSides, IsAlone, IsBody, IsSeen};
+ghost use Rattle.term_pool.specs.PoolInvariant.{shape_of, IsPool, IsWithin};
+ghost use Rattle.answer_check.specs.TermShapes.{AreSides, IsAlone, IsBody, IsSeen};
 
 use term_pool::{Node, Pool, TermId};
 

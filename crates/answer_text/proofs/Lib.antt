@@ -1,6 +1,6 @@
-mod Joining
-mod Numbering
-mod Walking
+mod JoinedTexts
+mod VariableNumbers
+mod PendingVariables
 mod Sets
 mod Texts
 mod Summaries

@@ -1,11 +1,12 @@
 -- Variables with their texts.
-use Rattle.std.proofs.Common.{◌≡◌, ℕ, ◌+◌, ◌<◌, Bool, true, false, cond, ◌==◌, ◌||◌, Option, length, take, slice_index_or, subst, append_assoc, List, [], ◌∷◌, ◌++◌, refl, sym, ap, ◌∙◌, inl, inr, ◌⊎◌}
+use Rattle.std.proofs.Common.{◌≡◌, ℕ, ◌+◌, ◌<◌, Bool, true, false, cond, ◌==◌, ◌||◌, Option, length, take, slice_index_or, subst, append_assoc, List, [], ◌∷◌}
+use Rattle.std.proofs.Common.{◌++◌, refl, sym, ap, ◌∙◌, inl, inr, ◌⊎◌}
 use Rattle.std.specs.Prelude.{◌≢◌}
 use Rattle.std.proofs.lemmas.Bool.{true≢false}
 use Rattle.std.proofs.lemmas.Bool.Decides.{eqb_tells}
 use Rattle.fd_language.specs.Family.{has}
 use Rattle.fd_language.specs.Term.{Term, Var}
-use Rattle.fd_language.specs.Writing.{Mode, TermText, term_text}
+use Rattle.fd_language.specs.TermTexts.{Mode, TermText, term_text}
 use Rattle.fd_model.proofs.Lemmas.{spelled_same}
 use Rattle.term_writer.specs.declared.VarText.{VarText}
 use Rattle.term_writer.specs.Views.{text_of}
@@ -15,7 +16,7 @@ use Rattle.fd_language.proofs.Lemmas.{apply_vars}
 use Rattle.fd_model.specs.Lines.{open_part, place_in}
 use Rattle.answer_text.specs.Pieces.{with_number}
 use Rattle.answer_text.specs.Variables.{AreTexts, GiveTexts, open_by}
-use Rattle.answer_text.proofs.Numbering.{inserted_front, place_of}
+use Rattle.answer_text.proofs.VariableNumbers.{inserted_front, place_of}
 
 -- one variable more
 pub texts_push : (f : ℕ → List ℕ) (ys : List ℕ) (ts : List VarText) (y : ℕ) (t : VarText) → AreTexts f ys ts → t.var ≡ y → t.text.items ≡ f y → AreTexts f (ys ++ y ∷ []) (ts ++ t ∷ [])

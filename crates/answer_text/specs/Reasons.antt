@@ -3,7 +3,9 @@ use Rattle.std.specs.Prelude.{ℕ, ◌<◌, List, ◌++◌, length, codes}
 use Rattle.fd_model.specs.Refusals.{functor, functor_name}
 use Rattle.term_pool.specs.Contents.{Contents, atom_name}
 use Rattle.answer_text.specs.declared.reason.Reason.{Reason}
-use Rattle.answer_text.specs.declared.reason.Reason.TheVariants.{TooLarge, NotUtf8, BadCharacter, OpenQuote, OpenComment, BadEscape, IntegerTooWide, FloatOut, StringOut, Syntax, TooDeep, BadHead, BadGoal, ArityOver255, Unknown, Redefines, NotARange, NotMonotone, NotNatural, BadDivisor, TooWide}
+use Rattle.answer_text.specs.declared.reason.Reason.TheVariants.{TooLarge, NotUtf8, BadCharacter, OpenQuote, OpenComment, BadEscape, IntegerTooWide, FloatOut}
+use Rattle.answer_text.specs.declared.reason.Reason.TheVariants.{StringOut, Syntax, TooDeep, BadHead, BadGoal, ArityOver255, Unknown, Redefines, NotARange}
+use Rattle.answer_text.specs.declared.reason.Reason.TheVariants.{NotMonotone, NotNatural, BadDivisor, TooWide}
 
 -- the name that the reason tells is of the pool
 abbrev pub IsReasonIn : Contents → Reason → Type 0

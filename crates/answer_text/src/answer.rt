@@ -5,7 +5,7 @@ ghost use Rattle.fd_language.specs.Term.{as_terms};
 ghost use Rattle.fd_model.specs.Lines.{equals_text, joined, line};
 ghost use Rattle.machine_events.specs.Events.{ShowsTerms, shown_line, terms_in, variable_text, written_term};
 ghost use Rattle.fd_language.specs.Variables.{variables_of, distinct};
-ghost use Rattle.fd_language.specs.Writing.{Plain, Quoted, term_text};
+ghost use Rattle.fd_language.specs.TermTexts.{Plain, Quoted, term_text};
 ghost use Rattle.term_pool.specs.Contents.{atom_name};
 ghost use Rattle.term_pool.specs.Terms.{term_of};
 ghost use Rattle.answer_text.specs.Pieces.{inserted, separator_at};

@@ -1,9 +1,9 @@
 mod Numbers
 mod PostedValues
 mod Nodes
-mod Picking
+mod PickedMembers
 mod Values
 mod Steps
-mod Falling
-mod Walking
-mod FittingMembers
+mod Work
+mod SearchSteps
+mod MemberChecks

@@ -8,10 +8,10 @@ use Rattle.fd_language.proofs.Lemmas.{least_in}
 use Rattle.fd_model.specs.Members as seen
 use Rattle.fd_model.specs.PostedLeaves.{AreLeft, open_unless, seen_in}
 use Rattle.fd_model.specs.BestPosted.{Costs}
-use Rattle.fd_model.specs.Seen.{IsConsistent}
+use Rattle.fd_model.specs.BranchViews.{IsConsistent}
 use Rattle.fd_model.proofs.Lemmas.{consistent_by, left_once, some_only}
 use Rattle.range_code.specs.Frames.{family_of}
-use Rattle.propagate_queue.specs.Running.{AreDomains}
+use Rattle.propagate_queue.specs.PropagationInvariant.{AreDomains}
 use Rattle.bound_search.specs.Members.{bound}
 
 module _ (ps : List Indexical) (sets : List (List ℕ)) (d : AreDomains ps sets) where

@@ -1,5 +1,6 @@
 -- The numbers of a rising list from one on.
-use Rattle.std.proofs.Common.{◌≡◌, ℕ, suc, ◌+◌, ◌≤◌, Bool, true, false, ◌==◌, nat_le, List, [], ◌∷◌, length, filter, refl, ap, sym, ◌∙◌, arith, inl, inr, eqb-true, Option, Some, None, MatchOption, IfSome, IsTrue}
+use Rattle.std.proofs.Common.{◌≡◌, ℕ, suc, ◌+◌, ◌≤◌, Bool, true, false, ◌==◌, nat_le, List, [], ◌∷◌, length, filter, refl, ap, sym, ◌∙◌, arith, inl, inr}
+use Rattle.std.proofs.Common.{eqb-true, Option, Some, None, MatchOption, IfSome, IsTrue}
 use Rattle.fd_language.specs.declared.TheConstants.{INFINITY}
 use Rattle.fd_language.proofs.Lemmas.{has_high}
 use Rattle.std.proofs.lemmas.Bool.{le-leb, lt-leb, leb-true, leb-false, or_cases, cases_Bool}
@@ -24,7 +25,8 @@ rising_length low high [] r l = omega (arith, l)
 rising_length low high (x ∷ xs) r l = (let a = r.0 in let b = r.1 in let h = rising_length (suc x) high xs r.2 (omega (arith, b)) in omega (arith, a, b, h))
 
 -- the least number from n on, and those behind it
-pub values_step : (low high n m : ℕ) (xs : List ℕ) → IsRising low high xs → has xs m ≡ true → n ≤ m → m ≡ least (filter (λ k. nat_le n k) xs) → filter (λ k. nat_le n k) xs ≡ m ∷ filter (λ k. nat_le (m + 1) k) xs
+pub values_step : (low high n m : ℕ) (xs : List ℕ) → IsRising low high xs → has xs m ≡ true → n ≤ m → m ≡ least (filter (λ k. nat_le n k) xs)
+    → filter (λ k. nat_le n k) xs ≡ m ∷ filter (λ k. nat_le (m + 1) k) xs
 values_step low high n m [] r h l e = grind arith
 values_step low high n m (x ∷ xs) r h l e = elim (cases_Bool (nat_le n x)) [
   | inl y ↦
@@ -42,7 +44,9 @@ values_step low high n m (x ∷ xs) r h l e = elim (cases_Bool (nat_le n x)) [
 ]
 
 -- the same of the least number from n on, where there is one
-pub next_some : (xs : List ℕ) (n : ℕ) (r : Option ℕ) → MatchOption r (filter (λ k. nat_le n k) xs ≡ []) (λ m. m ≡ least (filter (λ k. nat_le n k) xs)) → IfSome r (λ m. n ≤ m) → IfSome r (λ m. IsTrue (has xs m)) → IsRising 0 INFINITY xs → IfSome r (λ v. filter (λ k. nat_le n k) xs ≡ v ∷ filter (λ k. nat_le (v + 1) k) xs)
+pub next_some : (xs : List ℕ) (n : ℕ) (r : Option ℕ) → MatchOption r (filter (λ k. nat_le n k) xs ≡ []) (λ m. m ≡ least (filter (λ k. nat_le n k) xs))
+    → IfSome r (λ m. n ≤ m) → IfSome r (λ m. IsTrue (has xs m)) → IsRising 0 INFINITY xs
+    → IfSome r (λ v. filter (λ k. nat_le n k) xs ≡ v ∷ filter (λ k. nat_le (v + 1) k) xs)
 next_some xs n None a b c d = tt
 next_some xs n (Some v) a b c d = values_step 0 INFINITY n v xs d c b a
 

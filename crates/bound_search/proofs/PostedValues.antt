@@ -2,15 +2,15 @@
 use Rattle.std.proofs.Common.{◌≡◌, ℕ, ℤ, pos, List, [], ◌∷◌, ◌++◌, ◌∙◌, Option, Some, None, MatchOption, IsSome, refl, ap}
 use Rattle.fd_language.specs.declared.TheConstants.{INFINITY}
 use Rattle.fd_language.specs.declared.range_node.RangeNode.{RangeNode}
-use Rattle.fd_language.specs.Flat.{IsSpelled}
+use Rattle.fd_language.specs.PostfixRanges.{IsSpelled}
 use Rattle.fd_language.specs.Range.{Range, Indexical}
 use Rattle.fd_model.specs.PostedLeaves.{with_value}
-use Rattle.fd_model.specs.Seen.{IsConsistent}
+use Rattle.fd_model.specs.BranchViews.{IsConsistent}
 use Rattle.fd_model.proofs.Lemmas.{inconsistent_by}
 use Rattle.range_code.specs.declared.frame.Arg.TheVariants.{Int}
 use Rattle.propagate_queue.specs.Instances.{posting_of}
 use Rattle.propagate_queue.specs.Postings.{ranged}
-use Rattle.propagate_queue.specs.Running.{HasNone}
+use Rattle.propagate_queue.specs.PropagationInvariant.{HasNone}
 use Rattle.bound_search.specs.Posting.{exact_range}
 
 -- nodes that spell a range give it

@@ -1,5 +1,5 @@
 pub mod Members
 pub mod Posting
-pub mod Searching
+pub mod SearchStates
 pub mod Work
-pub mod Wants
+pub mod Objectives

@@ -7,7 +7,7 @@ use Rattle.fd_model.specs.Members as seen
 use Rattle.fd_model.specs.PostedLeaves.{seen_in}
 use Rattle.range_code.specs.Frames.{family_of}
 use Rattle.bound_search.specs.declared.search.Node.{Node}
-use Rattle.bound_search.specs.Searching.{values_left}
+use Rattle.bound_search.specs.SearchStates.{values_left}
 
 -- how many members are seen as open ones on the level
 abbrev pub open_count : List seen.Member → Level → ℕ

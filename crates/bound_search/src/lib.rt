@@ -6,12 +6,12 @@ ghost use Rattle.fd_language.specs.declared.TheConstants.{INFINITY};
 ghost use Rattle.fd_model.specs.BestPosted.{IsCostOf, SoughtValues};
 ghost use Rattle.bound_search.specs.Members.{AreOwn, member_of, members_of};
 
-mod fitting;
+mod best_leaf;
+mod member_checks;
 mod posting;
 mod search;
-mod so_far;
 
-pub use crate::fitting::may_search;
+pub use crate::member_checks::may_search;
 use crate::search::{Aim, search};
 use fd_language::NoMemory;
 use fd_model::kinds::Order;

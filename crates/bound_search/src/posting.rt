@@ -3,9 +3,9 @@
 ghost use Rattle.std.specs.Prelude.{◌≡◌, ◌<◌, [], true, false, length, IfOk, OnOk};
 ghost use Rattle.fd_language.specs.declared.TheConstants.{INFINITY};
 ghost use Rattle.fd_model.specs.PostedLeaves.{with_value};
-ghost use Rattle.fd_model.specs.Seen.{IsConsistent};
+ghost use Rattle.fd_model.specs.BranchViews.{IsConsistent};
 ghost use Rattle.bound_search.specs.Posting.{exact_range};
-ghost use Rattle.bound_search.specs.Searching.{IsNode};
+ghost use Rattle.bound_search.specs.SearchStates.{IsNode};
 
 use fd_language::{FlatRange, NoMemory, RangeNode};
 use monotone_check::Checked;

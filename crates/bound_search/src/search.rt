@@ -8,8 +8,8 @@ ghost use Rattle.range_code.specs.Frames.{family_of};
 ghost use Rattle.bound_search.specs.Members.{IsNoBetter, bound, member_of, members_of};
 ghost use Rattle.bound_search.specs.Posting.{exact_range};
 
+use crate::best_leaf::{SoFar, bound_of, improves, keep_leaf};
 use crate::posting::{exact_code, post_value};
-use crate::so_far::{SoFar, bound_of, improves, keep_leaf};
 use fd_language::{INFINITY, NoMemory};
 use fd_model::kinds::Order;
 use label_search::{Member, pick};
@@ -33,8 +33,8 @@ pub(crate) struct Node {
     pub(crate) from: u32,
 }
 
-ghost use Rattle.bound_search.specs.Searching.{Continues, IsNode, IsOpen, all_levels, progress, values_left};
-ghost use Rattle.bound_search.specs.Wants.{AreWanted, wanted};
+ghost use Rattle.bound_search.specs.SearchStates.{Continues, IsNode, IsOpen, all_levels, progress, values_left};
+ghost use Rattle.bound_search.specs.Objectives.{AreWanted, wanted};
 ghost use Rattle.bound_search.specs.Work.{node_work, open_count, tree_size, work};
 
 /// The variable at a place of the list.

@@ -12,7 +12,7 @@ use Rattle.heap_cells.specs.declared.Cell.{Cell}
 use Rattle.heap_cells.specs.declared.Cell.TheVariants as cell
 use Rattle.heap_cells.specs.Terms.{Naming, term_of}
 use Rattle.heap_cells.proofs.Lemmas.{term-Int, term-Atom}
-use Rattle.machine_frames.proofs.Lemmas.{grown_both, grown_same}
+use Rattle.branch_lemmas.proofs.Lemmas.{grown_both, grown_same}
 use Rattle.branch_state.specs.Compounds.{IsMade}
 use Rattle.branch_state.specs.States.{State, IsSound, with_heap}
 use Rattle.branch_goals.specs.Domains.{AreSpans, AreSpansOf, IsSpanList, IsSpanNaming, span_of, spans_term}

@@ -1,5 +1,6 @@
 -- What built-in goals come to.
-use Rattle.std.proofs.Common.{◌≡◌, ℕ, Bool, true, false, ◌&&◌, ◌||◌, eq-eqb, eqb-true, ℤ, pos, List, [], ◌∷◌, length, Option, Some, None, Ok, Err, inl, inr, refl, ap, sym, ◌∙◌, subst}
+use Rattle.std.proofs.Common.{◌≡◌, ℕ, Bool, true, false, ◌&&◌, ◌||◌, eq-eqb, eqb-true, ℤ, pos, List, [], ◌∷◌, length, Option, Some, None, Ok, Err, inl, inr}
+use Rattle.std.proofs.Common.{refl, ap, sym, ◌∙◌, subst}
 use Rattle.std.specs.Prelude.{MatchOption}
 use Rattle.std.specs.Option.{unwrap_or}
 use Rattle.std.specs.Str.{bytes_eq}
@@ -11,7 +12,8 @@ use Rattle.fd_language.specs.Range.{greatest as greatest_of}
 use Rattle.fd_language.specs.Term.{Term, Terms, Var, Int, Atom, Comp, no_terms, term}
 use Rattle.fd_language.proofs.Lemmas.{two}
 use Rattle.fd_model.specs.Arithmetic.{Value, value_of}
-use Rattle.fd_model.specs.Builtins.{decided, equated, evaluated, checked_value, compared, found, is_same, are_same, is_integer, is_atom, is_atomic, those, numbers_of, equals_number, equals_value, greatest_number, last_of, set_numbers}
+use Rattle.fd_model.specs.Builtins.{decided, equated, evaluated, checked_value, compared, found, is_same, are_same, is_integer, is_atom, is_atomic, those}
+use Rattle.fd_model.specs.Builtins.{numbers_of, equals_number, equals_value, greatest_number, last_of, set_numbers}
 use Rattle.fd_model.specs.Levels.{Levels}
 use Rattle.fd_model.specs.declared.kinds.BuiltinKind.{BuiltinKind}
 use Rattle.fd_model.specs.declared.kinds.BuiltinKind.TheVariants as kind
@@ -21,32 +23,35 @@ use Rattle.heap_cells.specs.declared.Cell.{Cell}
 use Rattle.heap_cells.specs.declared.Cell.TheVariants as cell
 use Rattle.heap_cells.specs.Cells.{Cells, Heaps, free, linked, slot_at, compound_at}
 use Rattle.heap_cells.specs.Terms.{Naming, IsOneToOne, Same, term_of}
-use Rattle.heap_cells.specs.Valid.{IsHeap}
+use Rattle.heap_cells.specs.HeapInvariant.{IsHeap}
 use Rattle.heap_cells.proofs.Lemmas.{shown_atom, shown_compound, shown_free, shown_int, shown_linked, term-Int}
 use Rattle.range_code.specs.Frames.{family_of}
 use Rattle.builtin_calls.specs.Outcomes.{IsFault}
 use Rattle.builtin_calls.specs.declared.evaluation.EvalFault.{EvalFault}
 use Rattle.builtin_calls.specs.declared.evaluation.EvalFault.TheVariants as eval
-use Rattle.builtin_calls.specs.Identical.{TellsIdentical}
+use Rattle.builtin_calls.specs.Identity.{TellsIdentical}
 use Rattle.fd_language.specs.SingleValues.{value_in}
-use Rattle.machine_relation.specs.HeldBranches.{link_at}
-use Rattle.machine_relation.specs.HeldBranches as held
-use Rattle.machine_relation.specs.AnswerTexts.{cell_set}
-use Rattle.machine_frames.specs.Frames.{link_of, link_in}
+use Rattle.branch_meaning.specs.HeldBranches.{link_at}
+use Rattle.branch_meaning.specs.HeldBranches as held
+use Rattle.branch_meaning.specs.AnswerTexts.{cell_set}
+use Rattle.branch_lemmas.specs.Frames.{link_of, link_in}
 use Rattle.branch_state.specs.States.{State, IsCell, IsSound}
-use Rattle.branch_goals.specs.declared.finding.Found.TheVariants.{Fault, Decided, Equal}
-use Rattle.branch_goals.specs.declared.finding.Numbers.{Numbers as Held}
-use Rattle.branch_goals.specs.declared.finding.Numbers.TheVariants.{One}
+use Rattle.branch_goals.specs.declared.builtin_findings.Found.TheVariants.{Fault, Decided, Equal}
+use Rattle.branch_goals.specs.declared.builtin_findings.Numbers.{Numbers as Held}
+use Rattle.branch_goals.specs.declared.builtin_findings.Numbers.TheVariants.{One}
 use Rattle.heap_cells.specs.SeenTerms.{HasLinksBelow, seen_term}
-use Rattle.branch_goals.specs.Findings.{Finds, IsValueAt, AreValuesAt, AreNumbersAt, IsComparison, IsQuestion, fault_is, holds_by, seen_at, the_numbers, told_by, numbers_in_set}
+use Rattle.branch_goals.specs.Findings.{Finds, IsValueAt, AreValuesAt, AreNumbersAt, IsComparison, IsQuestion, fault_is, holds_by, seen_at, the_numbers}
+use Rattle.branch_goals.specs.Findings.{told_by, numbers_in_set}
 use Rattle.term_pool.specs.declared.AtomId.{AtomId}
 
 pub links_below : (s : State) → IsSound s → (hs : Heaps) (ls : Levels) → hs ≡ s.heaps → ls ≡ s.levels → HasLinksBelow (length ls.current.sets) hs.now
-links_below s sound hs ls e f = subst (λ (l : Levels). HasLinksBelow (length l.current.sets) hs.now) (sym f) (subst (λ (h : Heaps). HasLinksBelow (length s.levels.current.sets) h.now) (sym e) sound.now.linked)
+links_below s sound hs ls e f = subst (λ (l : Levels). HasLinksBelow (length l.current.sets) hs.now) (sym f)
+    (subst (λ (h : Heaps). HasLinksBelow (length s.levels.current.sets) h.now) (sym e) sound.now.linked)
 
 -- ---- values
 
-pub value_by : (name : Naming) (s : State) (hs : Heaps) (ls : Levels) → hs ≡ s.heaps → ls ≡ s.levels → (c : Cell) (P : Value → Type 0) → P (value_of (seen_term name hs.now (family_of ls.current.sets) c)) → P (value_of (seen_at name s c))
+pub value_by : (name : Naming) (s : State) (hs : Heaps) (ls : Levels) → hs ≡ s.heaps → ls ≡ s.levels → (c : Cell) (P : Value → Type 0)
+    → P (value_of (seen_term name hs.now (family_of ls.current.sets) c)) → P (value_of (seen_at name s c))
 value_by name s hs ls e f c P p =
     subst (λ (l : Levels). P (value_of (seen_term name s.heaps.now (family_of l.current.sets) c))) f (subst (λ (h : Heaps). P (value_of (seen_term name h.now (family_of ls.current.sets) c))) e p)
 
@@ -204,7 +209,8 @@ mutual
   are_one no_terms (term u us) e = absurd (cc)
   are_one (term t ts) no_terms e = absurd (cc)
 
-pub told_identical : (name : Naming) → IsOneToOne name → (s : State) (a b : Cell) (r : Bool) → TellsIdentical s.heaps.now (family_of s.levels.current.sets) a b r → r ≡ is_same (seen_at name s a) (seen_at name s b)
+pub told_identical : (name : Naming) → IsOneToOne name → (s : State) (a b : Cell) (r : Bool)
+    → TellsIdentical s.heaps.now (family_of s.levels.current.sets) a b r → r ≡ is_same (seen_at name s a) (seen_at name s b)
 told_identical name n s a b true t =
     sym (ap (is_same (seen_at name s a)) (sym (t name)) ∙ same_self (seen_at name s a))
 told_identical name n s a b false t = elim (cases_Bool (is_same (seen_at name s a) (seen_at name s b))) [

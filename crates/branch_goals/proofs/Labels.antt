@@ -15,23 +15,23 @@ use Rattle.heap_cells.specs.SeenCells.{IsSeen}
 use Rattle.heap_cells.specs.declared.Seen.{Seen}
 use Rattle.heap_cells.specs.declared.Seen.TheVariants as looks
 use Rattle.heap_cells.specs.Terms.{Naming, Same, term_of, terms_by}
-use Rattle.heap_cells.specs.Valid.{IsHeap}
+use Rattle.heap_cells.specs.HeapInvariant.{IsHeap}
 use Rattle.heap_cells.proofs.Lemmas.{unbound_term, term-Int, term-Atom, term-Struct}
 use Rattle.range_code.specs.Frames.{family_of}
-use Rattle.machine_relation.specs.HeldBranches.{link_at, fixed_frame}
-use Rattle.machine_relation.specs.HeldBranches as held
-use Rattle.machine_relation.specs.Labelling.{labels, by_listing, by_picked}
-use Rattle.machine_relation.specs.AnswerTexts.{cell_set}
-use Rattle.machine_frames.specs.Frames.{frame_of, link_in}
-use Rattle.machine_frames.proofs.Lemmas.{unsettled}
+use Rattle.branch_meaning.specs.HeldBranches.{link_at, fixed_held}
+use Rattle.branch_meaning.specs.HeldBranches as held
+use Rattle.branch_meaning.specs.Labelling.{labels, by_listing, by_picked}
+use Rattle.branch_meaning.specs.AnswerTexts.{cell_set}
+use Rattle.branch_lemmas.specs.Frames.{held_of, link_in}
+use Rattle.branch_lemmas.proofs.Lemmas.{unsettled}
 use Rattle.label_search.specs.declared.Member.{Member}
 use Rattle.label_search.specs.declared.Member.TheVariants as member
 use Rattle.branch_state.specs.States.{State}
 use Rattle.branch_goals.specs.declared.labelling.Labelling.TheVariants.{Done, Takes, Fault}
-use Rattle.branch_goals.specs.declared.taking.Taken.{Taken}
+use Rattle.branch_goals.specs.declared.variable_selection.Taken.{Taken}
 use Rattle.heap_cells.specs.SeenTerms.{seen_term}
 use Rattle.branch_goals.specs.Lists.{IsListNaming, IsSeenMember}
-use Rattle.branch_goals.specs.Taking.{HaveCounts, IsFound, IsTakenOf}
+use Rattle.branch_goals.specs.VariableSelection.{HaveCounts, IsFound, IsTakenOf}
 use Rattle.branch_goals.specs.Labels.{Labels, IsVariableOf, labelled_in, values_of}
 
 -- the variable of a cell that comes to one
@@ -43,7 +43,8 @@ variable_is name h valid c i low open_now s j e =
     (g, low, own)
 
 -- and a cell that comes to something else is no variable
-pub no_variable : (name : Naming) (h : Cells) → IsHeap h → (c : Cell) (v : Seen) → IsSeen h c v → ((i : ℕ) → v ≡ looks.Open i → ⊥) → ((i k : ℕ) → v ≡ looks.Constrained i k → ⊥) → (n : ℕ) → IsVariableOf name h c n
+pub no_variable : (name : Naming) (h : Cells) → IsHeap h → (c : Cell) (v : Seen) → IsSeen h c v → ((i : ℕ) → v ≡ looks.Open i → ⊥)
+    → ((i k : ℕ) → v ≡ looks.Constrained i k → ⊥) → (n : ℕ) → IsVariableOf name h c n
 no_variable name h valid c (looks.Open i) s a b n j e = absurd (a i refl)
 no_variable name h valid c (looks.Constrained i k) s a b n j e = absurd (b i k refl)
 no_variable name h valid c (looks.Int z) s a b n j e = let f : Int z ≡ Var j = sym (s name ∙ term-Int name h valid z) ∙ e in absurd (cc)
@@ -70,7 +71,7 @@ module _ (name : Naming) (s : State) (o : Order) (c : Cell) where
 
   -- as the labelling has them
   abbrev values : ℕ → List ℕ
-  values d = values_by s.infinity (cell_set G ((fixed_frame (frame_of name h s.levels.current.posted) G).link d))
+  values d = values_by s.infinity (cell_set G ((fixed_held (held_of name h s.levels.current.posted) G).link d))
 
   kept_link : (xs : List ℕ) (k : ℕ) → 1 < length xs → held.open_link xs k ≡ Some k
   kept_link [] k l = absurd (omega (arith, l))
@@ -125,7 +126,8 @@ module _ (name : Naming) (s : State) (o : Order) (c : Cell) where
 
 -- ---- what was found by the branch's heaps and levels
 
-pub found_by : (s : State) (n : ℕ) → n ≡ s.infinity → (hs : Heaps) (ls : Levels) → hs ≡ s.heaps → ls ≡ s.levels → (o : Order) (c : Cell) (r : Result (Option Taken) QueryFault) → ((name : Naming) → IsListNaming name → IsFound n name hs.now ls.current.sets o c r)
+pub found_by : (s : State) (n : ℕ) → n ≡ s.infinity → (hs : Heaps) (ls : Levels) → hs ≡ s.heaps → ls ≡ s.levels
+    → (o : Order) (c : Cell) (r : Result (Option Taken) QueryFault) → ((name : Naming) → IsListNaming name → IsFound n name hs.now ls.current.sets o c r)
     → (x : Result (Option Taken) QueryFault) → r ≡ x → (name : Naming) → IsListNaming name → IsFound s.infinity name s.heaps.now s.levels.current.sets o c x
 found_by s n m hs ls e f o c r found x g name names =
     subst (λ y. IsFound s.infinity name s.heaps.now s.levels.current.sets o c y) g

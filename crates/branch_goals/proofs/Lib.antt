@@ -1,7 +1,7 @@
 mod DomainLists
 mod Findings
 mod Labels
-mod Listing
-mod Naming
-mod Seeking
-mod TakenMembers
+mod ListNodes
+mod SearchMembers
+mod BestLeafSearch
+mod VariableSelection

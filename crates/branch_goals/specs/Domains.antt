@@ -6,7 +6,7 @@ use Rattle.fd_model.specs.Lines.{Interval, intervals}
 use Rattle.term_pool.specs.declared.TheConstants.{NIL, CONS, SPAN}
 use Rattle.heap_cells.specs.declared.Cell.{Cell}
 use Rattle.heap_cells.specs.Terms.{Naming, term_of}
-use Rattle.machine_frames.specs.Frames.{IsGrown}
+use Rattle.branch_lemmas.specs.Frames.{IsGrown}
 use Rattle.branch_state.specs.States.{State, IsCell, IsSound, with_heap}
 use Rattle.branch_goals.specs.Lists.{IsListNaming}
 

@@ -3,7 +3,8 @@ use Rattle.std.specs.Prelude.{◌≡◌, ℕ, Bool, not, ℤ, pos, int_le, List,
 use Rattle.std.specs.Ordering.{int_eq}
 use Rattle.fd_language.specs.Term.{Name, Term}
 use Rattle.fd_model.specs.Arithmetic.{query_fault, unbound, not_a_number, overflow, zero_divisor}
-use Rattle.fd_model.specs.Builtins.{Finding, faulted, decided, equated, evaluated, compared, Numbers, one, those, numbers_of, least_number, greatest_number, number_count, is_open, is_integer, is_atom, is_atomic, is_compound}
+use Rattle.fd_model.specs.Builtins.{Finding, faulted, decided, equated, evaluated, compared, Numbers, one, those, numbers_of, least_number, greatest_number}
+use Rattle.fd_model.specs.Builtins.{number_count, is_open, is_integer, is_atom, is_atomic, is_compound}
 use Rattle.fd_model.specs.declared.kinds.BuiltinKind.{BuiltinKind}
 use Rattle.fd_model.specs.declared.kinds.BuiltinKind.TheVariants as kind
 use Rattle.fd_model.specs.declared.kinds.QueryFault.{QueryFault}
@@ -14,15 +15,15 @@ use Rattle.builtin_calls.specs.declared.evaluation.EvalFault.{EvalFault}
 use Rattle.builtin_calls.specs.declared.evaluation.EvalFault.TheVariants as eval
 use Rattle.builtin_calls.specs.Outcomes.{IsNamedBy}
 use Rattle.range_code.specs.Frames.{family_of}
-use Rattle.machine_relation.specs.HeldBranches.{link_at}
-use Rattle.machine_relation.specs.AnswerTexts.{cell_set}
-use Rattle.machine_frames.specs.Frames.{link_in}
-use Rattle.machine_frames.specs.SeenHeap.{heap_finding}
+use Rattle.branch_meaning.specs.HeldBranches.{link_at}
+use Rattle.branch_meaning.specs.AnswerTexts.{cell_set}
+use Rattle.branch_lemmas.specs.Frames.{link_in}
+use Rattle.branch_lemmas.specs.SeenHeap.{heap_finding}
 use Rattle.branch_state.specs.States.{State, IsCell}
-use Rattle.branch_goals.specs.declared.finding.Found.{Found}
-use Rattle.branch_goals.specs.declared.finding.Found.TheVariants.{Fault, Decided, Equal}
-use Rattle.branch_goals.specs.declared.finding.Numbers.{Numbers as Held}
-use Rattle.branch_goals.specs.declared.finding.Numbers.TheVariants.{One, Those}
+use Rattle.branch_goals.specs.declared.builtin_findings.Found.{Found}
+use Rattle.branch_goals.specs.declared.builtin_findings.Found.TheVariants.{Fault, Decided, Equal}
+use Rattle.branch_goals.specs.declared.builtin_findings.Numbers.{Numbers as Held}
+use Rattle.branch_goals.specs.declared.builtin_findings.Numbers.TheVariants.{One, Those}
 use Rattle.heap_cells.specs.SeenTerms.{seen_term}
 
 -- the pool's names, and no two atoms have one name

@@ -8,12 +8,12 @@ use Rattle.heap_cells.specs.declared.Cell.{Cell}
 use Rattle.heap_cells.specs.declared.Cell.TheVariants as cell
 use Rattle.heap_cells.specs.Cells.{Cells}
 use Rattle.heap_cells.specs.Terms.{Naming, term_of}
-use Rattle.machine_relation.specs.Labelling.{Labelled, labels, done, faults}
-use Rattle.machine_relation.specs.AnswerTexts.{cell_set}
+use Rattle.branch_meaning.specs.Labelling.{Labelled, labels, done, faults}
+use Rattle.branch_meaning.specs.AnswerTexts.{cell_set}
 use Rattle.range_code.specs.Frames.{family_of}
-use Rattle.machine_frames.specs.Frames.{link_in}
+use Rattle.branch_lemmas.specs.Frames.{link_in}
 use Rattle.heap_cells.specs.SeenTerms.{seen_term}
-use Rattle.machine_frames.specs.SeenHeap.{heap_label}
+use Rattle.branch_lemmas.specs.SeenHeap.{heap_label}
 use Rattle.branch_goals.specs.declared.labelling.Labelling.{Labelling}
 use Rattle.branch_goals.specs.declared.labelling.Labelling.TheVariants.{Done, Takes, Fault}
 use Rattle.branch_state.specs.States.{State}

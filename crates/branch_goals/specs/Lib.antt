@@ -3,4 +3,4 @@ pub mod Findings
 pub mod Labels
 pub mod Lists
 pub mod Searches
-pub mod Taking
+pub mod VariableSelection

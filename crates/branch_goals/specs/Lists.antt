@@ -15,7 +15,7 @@ use Rattle.heap_cells.specs.Terms.{Naming, IsOneToOne, terms_by}
 use Rattle.range_code.specs.Frames.{family_of}
 use Rattle.fd_language.specs.SingleValues.{value_in}
 use Rattle.heap_cells.specs.SeenTerms.{seen_term}
-use Rattle.machine_frames.specs.Frames.{link_in}
+use Rattle.branch_lemmas.specs.Frames.{link_in}
 use Rattle.label_search.specs.declared.Member.{Member}
 use Rattle.label_search.specs.declared.Member.TheVariants.{Fixed, Var, Free}
 use Rattle.label_search.specs.Picks.{AreThere}

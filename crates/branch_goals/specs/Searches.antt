@@ -1,5 +1,6 @@
 -- What a search for the best leaf of a labelling comes to, by a branch's heap and sets.
-use Rattle.std.specs.Prelude.{◌≡◌, ◌⊎◌, ℕ, suc, ◌<◌, ◌≤◌, ◌==◌, Bool, true, false, if◌then◌else◌, List, [], ◌∷◌, map, length, Option, Some, None, Result, Ok, Err}
+use Rattle.std.specs.Prelude.{◌≡◌, ◌⊎◌, ℕ, suc, ◌<◌, ◌≤◌, ◌==◌, Bool, true, false, if◌then◌else◌, List, [], ◌∷◌, map, length, Option, Some, None, Result, Ok}
+use Rattle.std.specs.Prelude.{Err}
 use Rattle.fd_language.specs.declared.TheConstants.{INFINITY}
 use Rattle.fd_language.specs.Family.{has}
 use Rattle.fd_language.specs.Monotonicity.{IsMonotone}
@@ -10,7 +11,7 @@ use Rattle.fd_model.specs.declared.kinds.Order.{Order}
 use Rattle.fd_model.specs.declared.kinds.QueryFault.{QueryFault}
 use Rattle.fd_model.specs.BestPosted.{IsCostOf, SoughtValues}
 use Rattle.fd_model.specs.Children.{cost_fault}
-use Rattle.fd_model.specs.Closed.{AllPosted}
+use Rattle.fd_model.specs.ClosedFamilies.{AllPosted}
 use Rattle.fd_model.specs.Labelling.{read_list, open_ones}
 use Rattle.fd_model.specs.Members as seen
 use Rattle.fd_model.specs.Members.{as_member}
@@ -20,9 +21,9 @@ use Rattle.heap_cells.specs.Cells.{Cells}
 use Rattle.heap_cells.specs.Terms.{Naming, term_of}
 use Rattle.heap_cells.specs.SeenTerms.{seen_term}
 use Rattle.range_code.specs.Frames.{family_of}
-use Rattle.machine_frames.specs.Frames.{link_in}
-pub use Rattle.sought_leaves.specs.Seeking.{search_fault}
-use Rattle.sought_leaves.specs.Seeking.{owned, AreOwned, IsBegun}
+use Rattle.branch_lemmas.specs.Frames.{link_in}
+pub use Rattle.sought_leaves.specs.LeafSearch.{search_fault}
+use Rattle.sought_leaves.specs.LeafSearch.{owned, AreOwned, IsBegun}
 use Rattle.bound_search.specs.Members.{AreOwn, member_of, members_of}
 use Rattle.label_search.specs.declared.Member.{Member}
 use Rattle.label_search.specs.declared.Member.TheVariants.{Fixed, Var, Free}
@@ -36,7 +37,8 @@ use Rattle.branch_goals.specs.declared.searches.Sought.TheVariants.{Nothing, Lea
 abbrev pub IsOpenCell : Naming → Cells → ℕ → Type 0
 IsOpenCell name h c = (c < length h.slots) × (term_of name h (cell.Ref c) ≡ language.Var c)
 
--- The list in a cell has the members ms, and the cost in another one is c, an integer or an open member. own gives each open member a variable of the store. The search begins with the ranges ls.
+-- The list in a cell has the members ms, and the cost in another one is c, an integer or an open member. own gives each open member a variable of the store.
+-- The search begins with the ranges ls.
 pub record IsSearch (name : Naming) (s : State) (list cost : Cell) (ms : List seen.Member)
     (c : seen.Member) (own : ℕ → ℕ) (ls : List Indexical) : Type 0 where
   pub members : read_list (seen_term name s.heaps.now (family_of s.levels.current.sets) list)
@@ -80,7 +82,8 @@ abbrev pub own_by : List (ℕ × ℕ) → ℕ → ℕ
 own_by [] c = 0
 own_by (p ∷ ps) c = if p.0 == c then p.1 else own_by ps c
 
--- The members ms as the store has them for a search, where n variables are its own: each open one has a variable of the store, which is a new one where the heap's isn't linked, and the next new one is the last of these numbers.
+-- The members ms as the store has them for a search, where n variables are its own: each open one has a variable of the store, which is a new one where the
+-- heap's isn't linked, and the next new one is the last of these numbers.
 pub record AreNamed (name : Naming) (h : Cells) (n : ℕ) (ms : List seen.Member)
     (list : List Member) (ps : List (ℕ × ℕ)) (next : ℕ) : Type 0 where
   pub open_are : firsts ps ≡ open_ones ms

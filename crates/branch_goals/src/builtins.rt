@@ -2,12 +2,12 @@
 
 ghost use Rattle.std.specs.Prelude.{◌≡◌, length, IfOk, OnOk};
 ghost use Rattle.heap_cells.specs.Terms.{Naming};
-ghost use Rattle.machine_frames.specs.Frames.{IsGrown};
+ghost use Rattle.branch_lemmas.specs.Frames.{IsGrown};
 ghost use Rattle.branch_state.specs.States.{with_heap, IsSound, IsCell};
 ghost use Rattle.branch_goals.specs.Findings.{Finds, IsNaming};
 
+use crate::builtin_findings::{Found, find_told};
 use crate::domains::find_domain;
-use crate::finding::{Found, find_told};
 use branch_state::BranchState;
 use fd_language::NoMemory;
 use fd_model::kinds::BuiltinKind;

@@ -3,12 +3,12 @@
 ghost use Rattle.std.specs.Prelude.{◌≡◌, ◌<◌, IfOk, OnOk};
 ghost use Rattle.fd_model.specs.declared.kinds.BuiltinKind.TheVariants.{FdDom};
 ghost use Rattle.heap_cells.specs.Terms.{Naming};
-ghost use Rattle.machine_frames.specs.Frames.{IsGrown};
+ghost use Rattle.branch_lemmas.specs.Frames.{IsGrown};
 ghost use Rattle.branch_state.specs.States.{with_heap, IsSound, IsCell};
 ghost use Rattle.branch_goals.specs.Domains.{AreSpans, AreSpansOf, IsSpanList, IsSpanNaming};
 ghost use Rattle.branch_goals.specs.Findings.{Finds, the_numbers};
 
-use crate::finding::{Found, Numbers, numbers_at};
+use crate::builtin_findings::{Found, Numbers, numbers_at};
 use branch_state::BranchState;
 use domain_ranges::Domain;
 use fd_language::NoMemory;

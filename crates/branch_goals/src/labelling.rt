@@ -7,7 +7,7 @@ ghost use Rattle.branch_state.specs.States.{IsSound, IsCell};
 ghost use Rattle.branch_goals.specs.Lists.{IsListNaming};
 ghost use Rattle.branch_goals.specs.Labels.{Labels, IsVariableOf};
 
-use crate::taking::find_member;
+use crate::variable_selection::find_member;
 use branch_state::BranchState;
 use fd_language::NoMemory;
 use fd_model::kinds::{Order, QueryFault};

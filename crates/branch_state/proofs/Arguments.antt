@@ -1,5 +1,6 @@
 -- The arguments of a range, slot by slot, and the range that they make of it.
-use Rattle.std.proofs.Common.{◌≡◌, ℕ, zero, suc, ◌+◌, ◌<◌, Bool, true, false, cond, not, ◌||◌, ◌==◌, nat_eq, ℤ, List, [], ◌∷◌, length, map, get_or, Option, Some, None, refl, ap, sym, ◌∙◌, subst, inl, inr, arith, eqb-true, eq-eqb, IsTrue}
+use Rattle.std.proofs.Common.{◌≡◌, ℕ, zero, suc, ◌+◌, ◌<◌, Bool, true, false, cond, not, ◌||◌, ◌==◌, nat_eq, ℤ, List, [], ◌∷◌, length, map, get_or, Option}
+use Rattle.std.proofs.Common.{Some, None, refl, ap, sym, ◌∙◌, subst, inl, inr, arith, eqb-true, eq-eqb, IsTrue}
 use Rattle.std.specs.List.{position_or_len}
 use Rattle.std.proofs.lemmas.Bool.{cases_Bool, or_cases, or_left, or_right, true≢false}
 use Rattle.std.proofs.Math.Numerals.{one-add}
@@ -21,8 +22,8 @@ use Rattle.range_code.specs.Frames.{IsArg, AreArgs, arg_at, variable_of, arg_int
 use Rattle.range_code.proofs.Lemmas.{has_once}
 use Rattle.fd_model.specs.Posting.{or_later}
 use Rattle.fd_model.specs.Posting as seen
-use Rattle.branch_state.specs.CellNaming.{slots_open}
-use Rattle.branch_state.specs.Naming.{offence, first_in, StandsIn, AllStand}
+use Rattle.branch_state.specs.CellVariables.{slots_open}
+use Rattle.branch_state.specs.StoreVariables.{offence, first_in, StandsIn, AllStand}
 use Rattle.branch_state.proofs.Occurrences.{AreSettled, variables}
 
 pub none_both : (a b : Option QueryFault) → or_later a b ≡ None → (a ≡ None) × (b ≡ None)
@@ -62,7 +63,8 @@ first_place (x ∷ xs) y d h = elim (cases_Bool (nat_eq y x)) [
   later : (x y : ℕ) (xs : List ℕ) → nat_eq y x ≡ false → ((x == y) || has xs y) ≡ true → has xs y ≡ true
   later x y xs e h = elim (or_cases (x == y) (has xs y) h) [ inl i ↦ absurd (true≢false (sym (eq-eqb y x (sym (eqb-true x y i))) ∙ e)) | inr i ↦ i ]
 
-stands_at : (s : Substitution) (of : ℕ → ℕ) (need : ℕ → Option Need) (ys : List ℕ) (as' : List Arg) → AllStand s of ys (map need ys) as' → (i d : ℕ) → i < length ys → StandsIn s of (get_or ys i d) (need (get_or ys i d)) (arg_at as' i)
+stands_at : (s : Substitution) (of : ℕ → ℕ) (need : ℕ → Option Need) (ys : List ℕ) (as' : List Arg) → AllStand s of ys (map need ys) as' → (i d : ℕ)
+    → i < length ys → StandsIn s of (get_or ys i d) (need (get_or ys i d)) (arg_at as' i)
 stands_at s of need [] as' h i d l = absurd (omega (arith, l))
 stands_at s of need (y ∷ ys) [] h i d l = absurd h
 stands_at s of need (y ∷ ys) (a ∷ as') h zero d l = h.0
@@ -84,7 +86,8 @@ module _ (s : Substitution) (of : ℕ → ℕ) (r : Range) (as' : List Arg) (sta
       let k : StandsIn s of y None (arg_at as' (slot_of r y)) = subst (λ n. StandsIn s of y n (arg_at as' (slot_of r y))) (ap (λ b. cond b (Some (need_of r y)) None) h) t in
       ap variable_of k
 
-  each_agrees : (qs : List Occurrence) → AreSettled (params r) qs → ((y : ℕ) → has (variables qs) y ≡ true → has (slots_of r) y ≡ true) → Each (Agrees (λ y. slot_variable as' (slot_of r y)) of (λ y. slot_integer as' (slot_of r y)) (λ y. seen.integer_of (s y))) qs
+  each_agrees : (qs : List Occurrence) → AreSettled (params r) qs → ((y : ℕ) → has (variables qs) y ≡ true → has (slots_of r) y ≡ true)
+      → Each (Agrees (λ y. slot_variable as' (slot_of r y)) of (λ y. slot_integer as' (slot_of r y)) (λ y. seen.integer_of (s y))) qs
   each_agrees [] h k = tt
   each_agrees (x ∷ qs) h k = (
     (
@@ -98,18 +101,22 @@ module _ (s : Substitution) (of : ℕ → ℕ) (r : Range) (as' : List Arg) (sta
 
   -- the range that these arguments make
   pub posted_is : AreSettled (params r) (range_occurrences r) → posted r as' ≡ rename_range of (fill_range (λ y. seen.integer_of (s y)) r)
-  posted_is h = range_same (λ y. slot_variable as' (slot_of r y)) of (λ y. slot_integer as' (slot_of r y)) (λ y. seen.integer_of (s y)) r (each_agrees (range_occurrences r) h (λ y k. has_once (variables (range_occurrences r)) y ∙ k))
+  posted_is h = range_same (λ y. slot_variable as' (slot_of r y)) of (λ y. slot_integer as' (slot_of r y)) (λ y. seen.integer_of (s y)) r
+      (each_agrees (range_occurrences r) h (λ y k. has_once (variables (range_occurrences r)) y ∙ k))
 
 -- they are arguments of the range, where no parameter offends
-pub are_args : (count : ℕ) (s : Substitution) (of : ℕ → ℕ) (ys : List ℕ) (ns : List (Option Need)) (as' : List Arg) → AllStand s of ys ns as' → first_in s ys ns ≡ None → ((y : ℕ) → has (slots_open ys ns) y ≡ true → offence None (s y) ≡ None → of y < count) → AreArgs count ns as'
+pub are_args : (count : ℕ) (s : Substitution) (of : ℕ → ℕ) (ys : List ℕ) (ns : List (Option Need)) (as' : List Arg) → AllStand s of ys ns as'
+    → first_in s ys ns ≡ None → ((y : ℕ) → has (slots_open ys ns) y ≡ true → offence None (s y) ≡ None → of y < count) → AreArgs count ns as'
 are_args count s of [] [] [] h e l = tt
 are_args count s of [] [] (a ∷ as') h e l = absurd h
 are_args count s of [] (n ∷ ns) as' h e l = absurd h
 are_args count s of (y ∷ ys) [] as' h e l = absurd h
 are_args count s of (y ∷ ys) (n ∷ ns) [] h e l = absurd h
 are_args count s of (y ∷ ys) (None ∷ ns) (a ∷ as') h e l =
-    let t = none_both (offence None (s y)) (first_in s ys ns) e in
-    (subst (IsArg count None) (sym h.0) (l y (or_left (y == y) (has (slots_open ys ns) y) (eq-eqb y y refl)) t.0), are_args count s of ys ns as' h.1 t.1 (λ z k. l z (or_right (y == z) (has (slots_open ys ns) z) k)))
+    let t = none_both (offence None (s y)) (first_in s ys ns) e in (
+      subst (IsArg count None) (sym h.0) (l y (or_left (y == y) (has (slots_open ys ns) y) (eq-eqb y y refl)) t.0),
+      are_args count s of ys ns as' h.1 t.1 (λ z k. l z (or_right (y == z) (has (slots_open ys ns) z) k)),
+    )
 are_args count s of (y ∷ ys) (Some need ∷ ns) (a ∷ as') h e l =
     let t = none_both (offence (Some need) (s y)) (first_in s ys ns) e in
     (subst (IsArg count (Some need)) (sym h.0.2) (meets_it need h.0.0 (meets need h.0.0) refl (sym (ap (offence (Some need)) h.0.1) ∙ t.0)), are_args count s of ys ns as' h.1 t.1 l)

@@ -1,5 +1,6 @@
 -- A goal's range whose cells are made ready: how it is linked, and that it may be posted.
-use Rattle.std.proofs.Common.{◌≡◌, ℕ, ◌-◌, ◌<◌, ◌≤◌, Bool, true, false, cond, ℤ, List, [], ◌∷◌, ◌++◌, length, map, filter, Option, Some, None, Ok, refl, ap, sym, ◌∙◌, subst, inl, inr, arith, append_assoc}
+use Rattle.std.proofs.Common.{◌≡◌, ℕ, ◌-◌, ◌<◌, ◌≤◌, Bool, true, false, cond, ℤ, List, [], ◌∷◌, ◌++◌, length, map, filter, Option, Some, None, Ok, refl, ap}
+use Rattle.std.proofs.Common.{sym, ◌∙◌, subst, inl, inr, arith, append_assoc}
 use Rattle.std.proofs.lemmas.Bool.{cases_Bool}
 use Rattle.std.proofs.lemmas.List.Elements.{All-nil, All-cons}
 use Rattle.std.specs.Prelude.{All}
@@ -13,7 +14,7 @@ use Rattle.fd_language.specs.RangeVerdict.{is_accepted, has_one_use}
 use Rattle.fd_language.specs.Term.{Term, Var, Int, Atom, Comp, Substitution}
 use Rattle.fd_language.specs.Unifier.{Unifies}
 use Rattle.fd_language.proofs.Lemmas.{two}
-use Rattle.fd_model.specs.Closed.{constrained}
+use Rattle.fd_model.specs.ClosedFamilies.{constrained}
 use Rattle.fd_model.specs.Levels.{Level, Levels}
 use Rattle.fd_model.proofs.Lemmas.{constrained_either}
 use Rattle.fd_model.specs.Posting.{integer_of, or_later}
@@ -29,22 +30,23 @@ use Rattle.range_code.proofs.Lemmas.{has_once, one_use}
 use Rattle.unify_core.specs.declared.Touch.{Touch}
 use Rattle.unify_core.specs.declared.Touch.TheVariants as touch
 use Rattle.unify_core.specs.Outcome.{IfTrue, IfFalse}
-use Rattle.machine_relation.specs.Store.{posts, touched}
-use Rattle.machine_relation.proofs.Lemmas.{plain, range_plain}
-use Rattle.machine_frames.specs.CellRanges.{target_offence, cells_offence, filled, cells_range, Names, AreNumbers, IsTermsLinked}
-use Rattle.machine_frames.specs.Frames.{link_in, store_touches}
-use Rattle.branch_state.specs.declared.look.Look.{Look}
-use Rattle.branch_state.specs.Bounding.{new_bounds}
-use Rattle.branch_state.specs.CellNaming.{shown_slots, slots_offence, IsFineGoal, slots_open, NamedBy, slot_in, AreTold, IsTold, IsTermNaming, AreCellsReady, IsPrepared}
+use Rattle.branch_meaning.specs.Store.{posts, touched}
+use Rattle.branch_meaning.proofs.Lemmas.{plain, range_plain}
+use Rattle.branch_lemmas.specs.CellRanges.{target_offence, cells_offence, filled, cells_range, Names, AreNumbers, IsTermsLinked}
+use Rattle.branch_lemmas.specs.Frames.{link_in, store_touches}
+use Rattle.branch_state.specs.declared.cell_looks.Look.{Look}
+use Rattle.branch_state.specs.VariableBounds.{new_bounds}
+use Rattle.branch_state.specs.CellVariables.{shown_slots, slots_offence, IsFineGoal, slots_open, NamedBy, slot_in, AreTold, IsTold, IsTermNaming, AreCellsReady}
+use Rattle.branch_state.specs.CellVariables.{IsPrepared}
 use Rattle.branch_state.specs.CellPosts.{term_in, slots_in, IsCellsPosted, PostsNamed}
-use Rattle.branch_state.specs.Naming.{LooksAs, IsKind, offence, first_in, goal_ranges, or_zero, with_level_sets}
+use Rattle.branch_state.specs.StoreVariables.{LooksAs, IsKind, offence, first_in, goal_ranges, or_zero, with_level_sets}
 use Rattle.branch_state.specs.Ranges.{kept_step}
 use Rattle.branch_state.specs.States.{State, HasBounds, IsGreatest, IsPair, ArePairs, IsSound, IsSettled, HasNoModel, IsCell}
 use Rattle.branch_state.specs.Steps.{IsTouchBelow, AreTouchesBelow}
-use Rattle.branch_state.proofs.Bounding.{level_bounded, level_settled, new_low, none_before}
+use Rattle.branch_state.proofs.VariableBounds.{level_bounded, level_settled, new_low, none_before}
 use Rattle.branch_state.proofs.Arguments.{posted_is, are_args, none_both}
-use Rattle.branch_state.proofs.Gathering.{is_open, plain_slots, offence_of_range}
-use Rattle.branch_state.proofs.Looking.{look_kind}
+use Rattle.branch_state.proofs.SlotOccurrences.{is_open, plain_slots, offence_of_range}
+use Rattle.branch_state.proofs.CellLooks.{look_kind}
 use Rattle.branch_state.proofs.Occurrences.{settled}
 use Rattle.branch_state.proofs.Touches.{goal_low}
 
@@ -65,7 +67,8 @@ offence_is t see r a = two or_later (target_offends t) (offence_of_range see r (
 open_slots : (need : ℕ → Option Need) (ys : List ℕ) → slots_open ys (map need ys) ≡ filter (λ y. is_open (need y)) ys
 open_slots need [] = refl
 open_slots need (y ∷ ys) = by_need (need y) (open_slots need ys) where
-  by_need : (o : Option Need) → slots_open ys (map need ys) ≡ filter (λ y. is_open (need y)) ys → slots_open (y ∷ ys) (o ∷ map need ys) ≡ cond (is_open o) (y ∷ filter (λ y. is_open (need y)) ys) (filter (λ y. is_open (need y)) ys)
+  by_need : (o : Option Need) → slots_open ys (map need ys) ≡ filter (λ y. is_open (need y)) ys
+      → slots_open (y ∷ ys) (o ∷ map need ys) ≡ cond (is_open o) (y ∷ filter (λ y. is_open (need y)) ys) (filter (λ y. is_open (need y)) ys)
   by_need None e = ap (λ l. y ∷ l) e
   by_need (Some n) e = e
 
@@ -84,7 +87,8 @@ touches_unify u k z (touch.Value j w ∷ fs) i h = elim i [ inl a ↦ same a | i
   same e = let f : j ≡ k = cc in let g : w ≡ z = cc in ap u (sym f) ∙ h.0 ∙ ap Int g
 touches_unify u k z (touch.Same i j ∷ fs) m h = elim m [ inl a ↦ absurd (cc) | inr a ↦ touches_unify u k z fs a h.1 ]
 
-module _ (name : Naming) (old : State) (pair : IsPair old.atoms old.infinity old.heaps.now old.levels.current) (target : Cell) (cells : List Cell) (r : Range) (accepted : is_accepted INFINITY r ≡ true) where
+module _ (name : Naming) (old : State) (pair : IsPair old.atoms old.infinity old.heaps.now old.levels.current) (target : Cell) (cells : List Cell) (r : Range)
+    (accepted : is_accepted INFINITY r ≡ true) where
   abbrev h : Cells
   h = old.heaps.now
 
@@ -213,7 +217,8 @@ module _ (name : Naming) (old : State) (pair : IsPair old.atoms old.infinity old
     abbrev After : List Indexical
     After = qs ++ goal_ranges r k as' fs
 
-    cells_pair : IsGreatest I → (next : Level) → length next.sets ≡ length S → next.posted ≡ After ++ new_bounds I (length sets) (length S - length sets) → (next.failed ≡ false) × IsSettled INFINITY next → IsPair old.atoms I now next
+    cells_pair : IsGreatest I → (next : Level) → length next.sets ≡ length S → next.posted ≡ After ++ new_bounds I (length sets) (length S - length sets)
+        → (next.failed ≡ false) × IsSettled INFINITY next → IsPair old.atoms I now next
     cells_pair g next e f v = record {
       valid = w.links.valid;
       names = w.atoms old.atoms pair.names;
@@ -240,8 +245,11 @@ module _ (name : Naming) (old : State) (pair : IsPair old.atoms old.infinity old
         ∙ ap (λ n. After ++ new_bounds I n (length S - n)) start
 
     -- whether all has a model then
-    pub cells_step : IsSound old → (hs : Heaps) → hs.now ≡ now → hs.below ≡ old.heaps.below → (st ls : Levels) → st ≡ with_level_sets old.levels S → ls.below ≡ st.below → ls.spent ≡ false → length ls.current.sets ≡ length st.current.sets → (first : ℕ) → first ≡ length sets → (kept : Bool)
-        → IfTrue {E = NoMemory} (Ok kept) (ls.current.posted ≡ (st.current.posted ++ goal_ranges r k as' fs) ++ new_bounds I first (length st.current.sets - first)) → IfTrue {E = NoMemory} (Ok kept) ((ls.current.failed ≡ false) × IsSettled INFINITY ls.current)
+    pub cells_step : IsSound old → (hs : Heaps) → hs.now ≡ now → hs.below ≡ old.heaps.below → (st ls : Levels) → st ≡ with_level_sets old.levels S
+        → ls.below ≡ st.below → ls.spent ≡ false → length ls.current.sets ≡ length st.current.sets → (first : ℕ) → first ≡ length sets → (kept : Bool)
+        → IfTrue {E = NoMemory} (Ok kept) (ls.current.posted ≡ (st.current.posted ++ goal_ranges r k as' fs)
+        ++ new_bounds I first (length st.current.sets - first))
+        → IfTrue {E = NoMemory} (Ok kept) ((ls.current.failed ≡ false) × IsSettled INFINITY ls.current)
         → IfFalse {E = NoMemory} (Ok kept) (HasNoModel INFINITY ((st.current.posted ++ goal_ranges r k as' fs) ++ new_bounds I first (length st.current.sets - first)))
         → PostsNamed name old target cells r (record { atoms = old.atoms; infinity = old.infinity; heaps = hs; levels = ls }) (kept_step kept)
     cells_step o hs e f st ls g b u len first start true p v none =
@@ -255,7 +263,8 @@ module _ (name : Naming) (old : State) (pair : IsPair old.atoms old.infinity old
             greatest = o.greatest;
             unspent = u;
             marked = subst (λ (l : List Cells). 0 < length l) (sym f) o.marked;
-            below = subst (λ (l : List Level). ArePairs old.atoms I hs.below l) (sym (b ∙ ap (λ (l : Levels). l.below) g)) (subst (λ (l : List Cells). ArePairs old.atoms I l old.levels.below) (sym f) o.below);
+            below = subst (λ (l : List Level). ArePairs old.atoms I hs.below l) (sym (b ∙ ap (λ (l : Levels). l.below) g))
+                (subst (λ (l : List Cells). ArePairs old.atoms I l old.levels.below) (sym f) o.below);
             now = subst (λ (c : Cells). IsPair old.atoms I c ls.current) (sym e) (cells_pair o.greatest ls.current (len ∙ ap (λ (l : Levels). length l.current.sets) g) q v);
           },
         )
@@ -269,7 +278,8 @@ module _ (name : Naming) (old : State) (pair : IsPair old.atoms old.infinity old
         greatest = o.greatest;
         unspent = u;
         marked = subst (λ (l : List Cells). 0 < length l) (sym f) o.marked;
-        below = subst (λ (l : List Level). ArePairs old.atoms I hs.below l) (sym (b ∙ ap (λ (l : Levels). l.below) g)) (subst (λ (l : List Cells). ArePairs old.atoms I l old.levels.below) (sym f) o.below);
+        below = subst (λ (l : List Level). ArePairs old.atoms I hs.below l) (sym (b ∙ ap (λ (l : Levels). l.below) g))
+            (subst (λ (l : List Cells). ArePairs old.atoms I l old.levels.below) (sym f) o.below);
       },
     )
 
@@ -288,11 +298,14 @@ is_none None h = refl
 is_none (Some f) h = absurd (h f refl)
 
 -- there is none
-pub goal_fine : (h : Cells) (sets : List (List ℕ)) (q r : Range) (l : Look) (cells : List Cell) (o : Option QueryFault) → q ≡ r → IsFound h sets q l cells o → ((f : QueryFault) → o ≡ Some f → ⊥) → IsFineGoal h sets r l cells
+pub goal_fine : (h : Cells) (sets : List (List ℕ)) (q r : Range) (l : Look) (cells : List Cell) (o : Option QueryFault) → q ≡ r → IsFound h sets q l cells o
+    → ((f : QueryFault) → o ≡ Some f → ⊥) → IsFineGoal h sets r l cells
 goal_fine h sets q r l cells o e is none name t k = sym (ap (λ p. slots_offence t (shown_slots name h sets p cells) p) e) ∙ sym (is name t (look_kind h t l k)) ∙ is_none o none
 
 -- it is the fault
-pub goal_fault : (name : Naming) (old : State) (target : Cell) (cells : List Cell) (q r : Range) → is_accepted INFINITY r ≡ true → (l : Look) → LooksAs old.heaps.now (term_in name old target) l → (o : Option QueryFault) → q ≡ r → IsFound old.heaps.now old.levels.current.sets q l cells o → (f : QueryFault) → o ≡ Some f
+pub goal_fault : (name : Naming) (old : State) (target : Cell) (cells : List Cell) (q r : Range) → is_accepted INFINITY r ≡ true → (l : Look)
+    → LooksAs old.heaps.now (term_in name old target) l → (o : Option QueryFault) → q ≡ r → IsFound old.heaps.now old.levels.current.sets q l cells o
+    → (f : QueryFault) → o ≡ Some f
     → cells_offence (term_in name old target) (slots_in name old r cells) r ≡ Some f
 goal_fault name old target cells q r accepted l k o e is f i =
     let t = term_in name old target in

@@ -10,20 +10,21 @@ use Rattle.heap_cells.specs.declared.Cell.TheVariants as cell
 use Rattle.heap_cells.specs.Atoms.{IsAtomBelow, HasAtomsBelow}
 use Rattle.heap_cells.specs.Cells.{Cells, Slot, free, bound, Compound, Heaps, IsOf, slot_at, with_slot, compound_at, with_compound, AddsCompound}
 use Rattle.heap_cells.specs.Terms.{term_of, compound_term, KeepsTerms, IsAbsent, occurs}
-use Rattle.heap_cells.specs.Valid.{IsHeap}
+use Rattle.heap_cells.specs.HeapInvariant.{IsHeap}
 use Rattle.heap_cells.proofs.Lemmas.{compound_below, terms_agree, term-Struct}
-use Rattle.machine_frames.specs.Frames.{link_of}
+use Rattle.branch_lemmas.specs.Frames.{link_of}
 use Rattle.unify_core.specs.declared.Touch.{Touch}
-use Rattle.unify_core.specs.Occurs.{IsAbsentAmong}
+use Rattle.unify_core.specs.OccursCheck.{IsAbsentAmong}
 use Rattle.unify_core.specs.Outcome.{IfTrue, IfFalse}
 use Rattle.unify_core.specs.Unifications.{CannotUnify, IsEqualled}
-use Rattle.machine_frames.proofs.Lemmas.{of_grown}
+use Rattle.branch_lemmas.proofs.Lemmas.{of_grown}
 use Rattle.unify_core.proofs.Lemmas.{IsBehind, left_bound}
 use Rattle.branch_state.specs.Compounds.{IsMade, IsCompoundOf, BindsCompound}
 use Rattle.branch_state.specs.States.{State, IsSound, IsCell, with_heap}
-use Rattle.branch_state.proofs.Sound.{heaps_sound, pair_fewer}
+use Rattle.branch_state.proofs.States.{heaps_sound, pair_fewer}
 
-module _ (s : State) (o : IsSound s) (f : AtomId) (args : List Cell) (low : f.number < s.atoms) (cells : All (IsCell s) args) (h : Heaps) (added : AddsCompound f args s.heaps h) (kept : KeepsTerms s.heaps.now h.now) (valid : IsHeap h.now) where
+module _ (s : State) (o : IsSound s) (f : AtomId) (args : List Cell) (low : f.number < s.atoms) (cells : All (IsCell s) args) (h : Heaps)
+    (added : AddsCompound f args s.heaps h) (kept : KeepsTerms s.heaps.now h.now) (valid : IsHeap h.now) where
   abbrev old : Cells
   old = s.heaps.now
 
@@ -79,7 +80,8 @@ pub compound_absent : (h : Cells) (var : ℕ) (args : List Cell) (c : Cell) → 
 compound_absent h var args c made absent name = ap (occurs var) (made name).1 ∙ absent name
 
 -- It is bound to the term.
-pub compound_bound : (h now : Cells) → IsHeap h → (var : ℕ) → var < length h.slots → slot_at h var ≡ free → (args : List Cell) (c : Cell) → IsOf h c → IsCompoundOf h args c → IsAbsentAmong h var args → now ≡ with_slot h var (bound c) → (ts : List Touch) → IsBehind h (cell.Ref var) c now [] ts ts
+pub compound_bound : (h now : Cells) → IsHeap h → (var : ℕ) → var < length h.slots → slot_at h var ≡ free → (args : List Cell) (c : Cell) → IsOf h c
+    → IsCompoundOf h args c → IsAbsentAmong h var args → now ≡ with_slot h var (bound c) → (ts : List Touch) → IsBehind h (cell.Ref var) c now [] ts ts
 compound_bound h now valid var there open_now args c own made absent is ts =
     left_bound h now valid (cell.Ref var) c c var ts there own there open_now (λ name. refl) own (λ name. refl) (record { bound = is; absent = compound_absent h var args c made absent })
 
@@ -94,8 +96,10 @@ cells_stay s f args now c own m heap = λ k d l.
     (of_grown s.heaps.now now.heaps.now m.grown (get_or args k d) (own k d l).0, subst (λ n. IsAtomBelow n (get_or args k d)) (sym (ap (λ (t : State). t.atoms) heap)) (own k d l).1)
 
 -- A compound term is made, and then an open variable is made equal to it.
-pub binds : (f : AtomId) (args : List Cell) (var : ℕ) (s middle : State) (built : Cell) → IsMade f args s middle built → middle ≡ with_heap s middle.heaps.now → IsSound middle → (now : State) (before after : List Touch) {E : Type 0} → (r : Result Bool E)
-    → IfTrue r (IsEqualled middle.heaps.now (cell.Ref var) built now.heaps.now before after) → IfFalse r (CannotUnify middle.heaps.now (cell.Ref var) built) → IfOk r (BindsCompound f args var s now before after)
+pub binds : (f : AtomId) (args : List Cell) (var : ℕ) (s middle : State) (built : Cell) → IsMade f args s middle built → middle ≡ with_heap s middle.heaps.now
+    → IsSound middle → (now : State) (before after : List Touch) {E : Type 0} → (r : Result Bool E)
+    → IfTrue r (IsEqualled middle.heaps.now (cell.Ref var) built now.heaps.now before after) → IfFalse r (CannotUnify middle.heaps.now (cell.Ref var) built)
+    → IfOk r (BindsCompound f args var s now before after)
 binds f args var s middle built made heap sound now before after (Ok true) e n = record { middle = middle; built = built; made = made; heap = heap; sound = sound; equals = e }
 binds f args var s middle built made heap sound now before after (Ok false) e n = record { middle = middle; built = built; made = made; heap = heap; sound = sound; equals = n }
 binds f args var s middle built made heap sound now before after (Err x) e n = tt

@@ -6,14 +6,14 @@ use Rattle.fd_language.specs.Family.{Family, has, universe, IsFamily, IsRising, 
 use Rattle.fd_language.specs.Range.{Indexical, is_none_left}
 use Rattle.fd_language.specs.Term.{Var}
 use Rattle.fd_language.proofs.Lemmas.{universe_rising, in_universe, identity}
-use Rattle.fd_model.specs.Closed.{constrained}
+use Rattle.fd_model.specs.ClosedFamilies.{constrained}
 use Rattle.fd_model.specs.Domains.{Domains}
 use Rattle.fd_model.specs.Models.{IsModel}
 use Rattle.fd_model.proofs.Lemmas.{whole}
-use Rattle.machine_relation.proofs.Lemmas.{holds_agree}
+use Rattle.branch_meaning.proofs.Lemmas.{holds_agree}
 use Rattle.range_code.specs.Frames.{family_of}
 use Rattle.fd_model.specs.Levels.{Level}
-use Rattle.propagate_queue.specs.Running.{AreDomains, HasNone}
+use Rattle.propagate_queue.specs.PropagationInvariant.{AreDomains, HasNone}
 use Rattle.propagate_queue.specs.StoreFields.{IsPosted}
 use Rattle.propagate_queue.specs.declared.store.Posted.TheVariants.{Kept, Failed}
 use Rattle.branch_state.specs.States.{IsSettled, HasNoModel}
@@ -56,7 +56,8 @@ module _ (M : ℕ) (ps : List Indexical) (x : ℕ) (T : Family) (m : IsModel M M
       unifier = Var;
       general = identity;
       family = full_at;
-      closed = whole M ps full_at full_rising (holds_agree M full_at T ps (λ v c. ap (λ b. cond b (universe M) (T v)) (ne_eqb v x (λ e. true≢false (sym c ∙ ap (has (constrained ps)) e ∙ h)))) m.closed.posted);
+      closed = whole M ps full_at full_rising (holds_agree M full_at T ps
+          (λ v c. ap (λ b. cond b (universe M) (T v)) (ne_eqb v x (λ e. true≢false (sym c ∙ ap (has (constrained ps)) e ∙ h)))) m.closed.posted);
       member = ap (λ b. has (cond b (universe M) (T x)) 0) (eq-eqb x x refl) ∙ in_universe M 0 (omega arith);
     },
   )

@@ -8,7 +8,8 @@ use Rattle.fd_language.specs.Needs.{once}
 filter_twice : (p q : ℕ → Bool) (xs : List ℕ) → filter p (filter q xs) ≡ filter (λ x. q x && p x) xs
 filter_twice p q [] = refl
 filter_twice p q (x ∷ xs) = by_test (q x) (filter_twice p q xs) where
-  by_test : (b : Bool) → filter p (filter q xs) ≡ filter (λ x. q x && p x) xs → filter p (cond b (x ∷ filter q xs) (filter q xs)) ≡ cond (b && p x) (x ∷ filter (λ x. q x && p x) xs) (filter (λ x. q x && p x) xs)
+  by_test : (b : Bool) → filter p (filter q xs) ≡ filter (λ x. q x && p x) xs
+      → filter p (cond b (x ∷ filter q xs) (filter q xs)) ≡ cond (b && p x) (x ∷ filter (λ x. q x && p x) xs) (filter (λ x. q x && p x) xs)
   by_test true e = ap (λ l. cond (p x) (x ∷ l) l) e
   by_test false e = e
 
@@ -22,6 +23,8 @@ filter_without p x xs h = filter_twice p (λ y. not (y == x)) xs ∙ filter_agre
 pub once_filter : (p : ℕ → Bool) (xs : List ℕ) → filter p (once xs) ≡ once (filter p xs)
 once_filter p [] = refl
 once_filter p (x ∷ xs) = elim (cases_Bool (p x)) [
-  | inl e ↦ rw e (ap (λ l. x ∷ l) (filter_twice p (λ y. not (y == x)) (once xs) ∙ filter_agree (λ y. not (y == x) && p y) (λ y. p y && not (y == x)) (λ y. and_comm (not (y == x)) (p y)) (once xs) ∙ sym (filter_twice (λ y. not (y == x)) p (once xs)) ∙ ap (filter (λ y. not (y == x))) (once_filter p xs)))
+  | inl e ↦ rw e (ap (λ l. x ∷ l) (filter_twice p (λ y. not (y == x)) (once xs)
+      ∙ filter_agree (λ y. not (y == x) && p y) (λ y. p y && not (y == x)) (λ y. and_comm (not (y == x)) (p y)) (once xs)
+      ∙ sym (filter_twice (λ y. not (y == x)) p (once xs)) ∙ ap (filter (λ y. not (y == x))) (once_filter p xs)))
   | inr e ↦ rw e (filter_without p x (once xs) e ∙ once_filter p xs)
 ]

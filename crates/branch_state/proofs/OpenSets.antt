@@ -5,11 +5,11 @@ use Rattle.fd_language.specs.declared.TheConstants.{INFINITY}
 use Rattle.fd_language.specs.Family.{universe}
 use Rattle.fd_language.specs.Range.{Indexical}
 use Rattle.fd_model.specs.Levels.{Levels}
-use Rattle.branch_state.specs.Bounding.{new_bounds}
-use Rattle.branch_state.specs.Naming.{with_level_sets}
+use Rattle.branch_state.specs.VariableBounds.{new_bounds}
+use Rattle.branch_state.specs.StoreVariables.{with_level_sets}
 use Rattle.branch_state.specs.OpenSets.{with_open_sets}
 use Rattle.branch_state.specs.States.{State, HasNoModel, IsSound}
-use Rattle.branch_state.proofs.Bounding.{none_before}
+use Rattle.branch_state.proofs.VariableBounds.{none_before}
 
 -- how many there are
 pub length-open : (n : ℕ) (sets : List (List ℕ)) → length (with_open_sets n sets) ≡ length sets + n

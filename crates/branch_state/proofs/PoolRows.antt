@@ -1,5 +1,6 @@
 -- Rows of constraints on terms of a pool: their fresh numbers and integers have 64 bits.
-use Rattle.std.proofs.Common.{◌≡◌, ℕ, zero, suc, ◌<◌, ◌≤◌, ◌^◌, List, [], ◌∷◌, length, get_or, Option, Some, None, Result, Ok, Err, refl, ap, sym, ◌∙◌, subst, arith}
+use Rattle.std.proofs.Common.{◌≡◌, ℕ, zero, suc, ◌<◌, ◌≤◌, ◌^◌, List, [], ◌∷◌, length, get_or, Option, Some, None, Result, Ok, Err, refl, ap, sym, ◌∙◌, subst}
+use Rattle.std.proofs.Common.{arith}
 use Rattle.std.specs.Prelude.{slice_get, option_map, All, IfOk}
 use Rattle.std.proofs.lemmas.Option.{slice_get-get_or, none-some}
 use Rattle.fd_language.specs.declared.TheConstants.{INFINITY}
@@ -7,18 +8,18 @@ use Rattle.fd_language.specs.Term.{Comp}
 use Rattle.fd_model.specs.declared.kinds.ConstraintKind.{ConstraintKind}
 use Rattle.fd_model.specs.declared.kinds.QueryFault.{QueryFault}
 use Rattle.fd_model.specs.ConstraintLaws.{cells}
-use Rattle.fd_model.specs.Constraining.{expand}
+use Rattle.fd_model.specs.ConstraintExpansion.{expand}
 use Rattle.fd_model.specs.LinearRows.{Expansion}
 use Rattle.term_pool.specs.declared.TermId.{TermId}
 use Rattle.term_pool.specs.Contents.{Contents, Entry, Shape, var, int, atom, comp, name_in}
 use Rattle.term_pool.specs.Terms.{term_of, terms_by, shape_term}
-use Rattle.term_pool.specs.Valid.{IsPool, IsWithin, AreStorable}
+use Rattle.term_pool.specs.PoolInvariant.{IsPool, IsWithin, AreStorable}
 use Rattle.term_pool.proofs.Lemmas.{term_of_shape, term_is_storable}
 use Rattle.constraint_expand.specs.declared.faults.ExpandFault.{ExpandFault}
 use Rattle.constraint_expand.specs.Views.{Expands}
 use Rattle.heap_cells.proofs.Lemmas.{head_of, tail_of}
 use Rattle.branch_state.specs.Constraints.{AreWords}
-use Rattle.branch_state.proofs.ConstrainingRows.{AllShort}
+use Rattle.branch_state.proofs.ConstraintRows.{AllShort}
 use Rattle.branch_state.proofs.SplitRows.{row_end, equated_words}
 
 module _ (c : Contents) (pool : IsPool c) where
@@ -60,7 +61,8 @@ module _ (c : Contents) (pool : IsPool c) where
   )
 
   -- A row's fresh variables have numbers of 64 bits where neither the fresh numbers nor the terms are many.
-  pub row_ends : (kind : ConstraintKind) (ts : List TermId) (n m : ℕ) → n < 2 ^ 60 → m < 2 ^ 60 → All (λ t. t.number < length c.entries) ts → All (λ t. t.number < m) ts → IfOk (expand INFINITY kind (terms_by (term_of c) ts) n) (λ x. x.fresh < 2 ^ 64)
+  pub row_ends : (kind : ConstraintKind) (ts : List TermId) (n m : ℕ) → n < 2 ^ 60 → m < 2 ^ 60 → All (λ t. t.number < length c.entries) ts
+      → All (λ t. t.number < m) ts → IfOk (expand INFINITY kind (terms_by (term_of c) ts) n) (λ x. x.fresh < 2 ^ 64)
   row_ends kind ts n m few small own low = by_row (expand INFINITY kind (terms_by (term_of c) ts) n) refl where
     by_row : (r : Result Expansion QueryFault) → expand INFINITY kind (terms_by (term_of c) ts) n ≡ r → IfOk r (λ x. x.fresh < 2 ^ 64)
     by_row (Ok x) e = let l = row_end m INFINITY kind (terms_by (term_of c) ts) n x (all_short m ts own low) e in omega (arith, l, few, small)
@@ -71,6 +73,8 @@ pub all_storable : (c : Contents) → IsPool c → (ts : List TermId) → All (�
 all_storable c pool [] own = tt
 all_storable c pool (t ∷ ts) own = (term_is_storable c pool t (head_of (λ t. t.number < length c.entries) t ts own), all_storable c pool ts (tail_of (λ t. t.number < length c.entries) t ts own))
 
-pub answer_words : (c : Contents) → IsPool c → (ts : List TermId) → All (λ t. t.number < length c.entries) ts → (kind : ConstraintKind) (n : ℕ) (r : Result Expansion ExpandFault) → Expands (expand INFINITY kind (terms_by (term_of c) ts) n) r → IfOk r (λ x. AreWords x.equated)
+pub answer_words : (c : Contents) → IsPool c → (ts : List TermId) → All (λ t. t.number < length c.entries) ts
+    → (kind : ConstraintKind) (n : ℕ) (r : Result Expansion ExpandFault) → Expands (expand INFINITY kind (terms_by (term_of c) ts) n) r
+    → IfOk r (λ x. AreWords x.equated)
 answer_words c pool ts own kind n (Ok x) e = equated_words INFINITY kind (terms_by (term_of c) ts) n x (all_storable c pool ts own) e
 answer_words c pool ts own kind n (Err f) e = tt

@@ -1,5 +1,6 @@
 -- The ranges of a constraint that are listed as they are posted, one after the other.
-use Rattle.std.proofs.Common.{◌≡◌, ℕ, zero, suc, ◌+◌, ◌<◌, true, ◌==◌, List, [], ◌∷◌, ◌++◌, length, map, take, get_or, refl, ap, sym, ◌∙◌, subst, arith, append-nil, append_assoc, eq-eqb}
+use Rattle.std.proofs.Common.{◌≡◌, ℕ, zero, suc, ◌+◌, ◌<◌, true, ◌==◌, List, [], ◌∷◌, ◌++◌, length, map, take, get_or, refl, ap, sym, ◌∙◌, subst, arith}
+use Rattle.std.proofs.Common.{append-nil, append_assoc, eq-eqb}
 use Rattle.std.specs.Prelude.{All}
 use Rattle.std.proofs.lemmas.Bool.{or_left, or_right}
 use Rattle.std.proofs.lemmas.List.{take_more, map-append}
@@ -18,10 +19,10 @@ use Rattle.propagate_queue.specs.declared.instance.Instance.{Instance}
 use Rattle.propagate_queue.specs.Instances.{posting, IsInstance}
 use Rattle.propagate_queue.specs.Postings.{Posting, ranged, IsPosting}
 use Rattle.branch_state.specs.Constraints.{variables_in, store_variable, row_posting, AreUnbound, AreLinked}
-use Rattle.branch_state.specs.Listing.{IsSamePosting, AreSamePostings, AreListed, LinksMore}
-use Rattle.branch_state.specs.Naming.{or_zero, IsNaming, OwnLinks}
-use Rattle.branch_state.proofs.ConstrainingLinks.{links_none, links_both, links_named, links_unbound, links_keep}
-use Rattle.branch_state.proofs.ConstrainingSteps.{of_pair, indexicals_map}
+use Rattle.branch_state.specs.PostingLists.{IsSamePosting, AreSamePostings, AreListed, LinksMore}
+use Rattle.branch_state.specs.StoreVariables.{or_zero, IsNaming, OwnLinks}
+use Rattle.branch_state.proofs.ConstraintLinks.{links_none, links_both, links_named, links_unbound, links_keep}
+use Rattle.branch_state.proofs.ConstraintSteps.{of_pair, indexicals_map}
 use Rattle.branch_state.proofs.Touches.{EachPosting, all_instances}
 
 -- ---- postings that are the same
@@ -76,20 +77,25 @@ args_moved of to (y ∷ ys) e =
 rows_moved : (of to : ℕ → ℕ) (ps : List Indexical) → ((x : ℕ) → has (variables_in ps) x ≡ true → of x ≡ to x) → map (row_posting of) ps ≡ map (row_posting to) ps
 rows_moved of to [] e = refl
 rows_moved of to (p ∷ ps) e =
-    let target : of p.target ≡ to p.target = e p.target (in_left (p.target ∷ slots_of p.range) (variables_in ps) p.target (or_left (p.target == p.target) (has (slots_of p.range) p.target) (eq-eqb p.target p.target refl))) in
+    let target : of p.target ≡ to p.target = e p.target
+    (in_left (p.target ∷ slots_of p.range) (variables_in ps) p.target
+    (or_left (p.target == p.target) (has (slots_of p.range) p.target) (eq-eqb p.target p.target refl))) in
     let args = args_moved of to (slots_of p.range) (λ x i. e x (in_left (p.target ∷ slots_of p.range) (variables_in ps) x (or_right (p.target == x) (has (slots_of p.range) x) i))) in
-    two (λ (q : Posting) (l : List Posting). q ∷ l) (two (λ (t : ℕ) (as' : List Arg). record { range = p.range; target = t; args = as' }) target args) (rows_moved of to ps (λ x i. e x (in_right (p.target ∷ slots_of p.range) (variables_in ps) x i)))
+    two (λ (q : Posting) (l : List Posting). q ∷ l) (two (λ (t : ℕ) (as' : List Arg). record { range = p.range; target = t; args = as' }) target args)
+    (rows_moved of to ps (λ x i. e x (in_right (p.target ∷ slots_of p.range) (variables_in ps) x i)))
 
 -- ---- lists
 
 pub none_listed : (h : Cells) (list : List Instance) → AreListed h [] list list
 none_listed h list = record { more = []; behind = sym (append-nil list); same = tt }
 
-pub one_listed : (h : Cells) (p q : Indexical) (old new : List Instance) (i : Instance) → IsSamePosting (posting i) (row_posting (store_variable h) q) → q ≡ p → new ≡ old ++ i ∷ [] → AreListed h (p ∷ []) old new
+pub one_listed : (h : Cells) (p q : Indexical) (old new : List Instance) (i : Instance) → IsSamePosting (posting i) (row_posting (store_variable h) q) → q ≡ p
+    → new ≡ old ++ i ∷ [] → AreListed h (p ∷ []) old new
 one_listed h p q old new i s e n = record { more = i ∷ []; behind = n; same = (subst (λ r. IsSamePosting (posting i) (row_posting (store_variable h) r)) e s, tt) }
 
 -- More are listed, and more variables are linked.
-pub both_listed : (first : Cells) (sets : List (List ℕ)) → OwnLinks (length sets) first → (ps qs : List Indexical) (middle now : Cells) (S T : List (List ℕ)) → LinksMore first sets (variables_in ps) middle S → OwnLinks (length S) middle → LinksMore middle S (variables_in qs) now T
+pub both_listed : (first : Cells) (sets : List (List ℕ)) → OwnLinks (length sets) first → (ps qs : List Indexical) (middle now : Cells) (S T : List (List ℕ))
+    → LinksMore first sets (variables_in ps) middle S → OwnLinks (length S) middle → LinksMore middle S (variables_in qs) now T
     → (old next new : List Instance) → AreListed middle ps old next → AreListed now qs next new → AreListed now (ps ++ qs) old new
 both_listed first sets own ps qs middle now S T a links b old next new x y = record {
   more = x.more ++ y.more;
@@ -122,14 +128,16 @@ range_linked h sets own xs now S m x i = (links_named h sets own xs now S m).nam
 -- ---- a piece
 
 piece_next : (ps : List (ℕ × Range)) (i : ℕ) (d : ℕ × Range) → i < length ps → indexicals (take (i + 1) ps) ≡ indexicals (take i ps) ++ of_pair (get_or ps i d) ∷ []
-piece_next ps i d l = ap indexicals (take_more ps i d l) ∙ indexicals_map (take i ps ++ get_or ps i d ∷ []) ∙ map-append of_pair (take i ps) (get_or ps i d ∷ []) ∙ ap (λ l. l ++ of_pair (get_or ps i d) ∷ []) (sym (indexicals_map (take i ps)))
+piece_next ps i d l = ap indexicals (take_more ps i d l) ∙ indexicals_map (take i ps ++ get_or ps i d ∷ [])
+    ∙ map-append of_pair (take i ps) (get_or ps i d ∷ []) ∙ ap (λ l. l ++ of_pair (get_or ps i d) ∷ []) (sym (indexicals_map (take i ps)))
 
 piece_has : (ps : List (ℕ × Range)) (i : ℕ) (d : ℕ × Range) → i < length ps → (x : ℕ) → has (variables_in (of_pair (get_or ps i d) ∷ [])) x ≡ true → has (variables_in (indexicals ps)) x ≡ true
 piece_has [] i d l x e = absurd (omega (arith, l))
 piece_has (p ∷ ps) zero d l x e = in_left (p.0 ∷ slots_of p.1) (variables_in (indexicals ps)) x (subst (λ l. has l x ≡ true) (variables_one (of_pair p)) e)
 piece_has (p ∷ ps) (suc i) d l x e = in_right (p.0 ∷ slots_of p.1) (variables_in (indexicals ps)) x (piece_has ps i d (omega (arith, l)) x e)
 
-module _ (h : Cells) (sets : List (List ℕ)) (own : OwnLinks (length sets) h) (piece : List (ℕ × Range)) (i : ℕ) (d : ℕ × Range) (l : i < length piece) (middle : Cells) (S : List (List ℕ)) (a : LinksMore h sets (variables_in (indexicals (take i piece))) middle S) where
+module _ (h : Cells) (sets : List (List ℕ)) (own : OwnLinks (length sets) h) (piece : List (ℕ × Range)) (i : ℕ) (d : ℕ × Range) (l : i < length piece)
+    (middle : Cells) (S : List (List ℕ)) (a : LinksMore h sets (variables_in (indexicals (take i piece))) middle S) where
   pub piece_unbound : AreUnbound h (variables_in (indexicals piece)) → AreUnbound middle (variables_in (of_pair (get_or piece i d) ∷ []))
   piece_unbound u x e = links_unbound h sets own (variables_in (indexicals (take i piece))) middle S a x (u x (piece_has piece i d l x e))
 
@@ -139,7 +147,8 @@ module _ (h : Cells) (sets : List (List ℕ)) (own : OwnLinks (length sets) h) (
         subst (λ xs. LinksMore h sets xs now T) (sym (ap variables_in (piece_next piece i d l) ∙ variables_both (indexicals (take i piece)) (of_pair (get_or piece i d) ∷ [])))
         (links_both h sets (variables_in (indexicals (take i piece))) (variables_in (of_pair (get_or piece i d) ∷ [])) middle now S T a b)
 
-    pub piece_listed : OwnLinks (length S) middle → (old next new : List Instance) → AreListed middle (indexicals (take i piece)) old next → AreListed now (of_pair (get_or piece i d) ∷ []) next new → AreListed now (indexicals (take (i + 1) piece)) old new
+    pub piece_listed : OwnLinks (length S) middle → (old next new : List Instance) → AreListed middle (indexicals (take i piece)) old next
+        → AreListed now (of_pair (get_or piece i d) ∷ []) next new → AreListed now (indexicals (take (i + 1) piece)) old new
     piece_listed links old next new x y =
         subst (λ ps. AreListed now ps old new) (sym (piece_next piece i d l))
         (both_listed h sets own (indexicals (take i piece)) (of_pair (get_or piece i d) ∷ []) middle now S T a links b old next new x y)
@@ -156,18 +165,23 @@ pub record AreGiven (h : Cells) (sets : List (List ℕ)) (all left : List Indexi
 pub none_given : (h : Cells) (sets : List (List ℕ)) (all : List Indexical) (list : List Instance) → list ≡ [] → AreGiven h sets all all h sets list
 none_given h sets all list e = record { done = []; parts = refl; linked = links_none h sets; listed = record { more = []; behind = e; same = tt } }
 
-module _ (h : Cells) (sets : List (List ℕ)) (own : OwnLinks (length sets) h) (all left : List Indexical) (middle : Cells) (S : List (List ℕ)) (next : List Instance) (g : AreGiven h sets all left middle S next) where
+module _ (h : Cells) (sets : List (List ℕ)) (own : OwnLinks (length sets) h) (all left : List Indexical) (middle : Cells) (S : List (List ℕ))
+    (next : List Instance) (g : AreGiven h sets all left middle S next) where
   pub given_unbound : (rest : List Indexical) (piece : List (ℕ × Range)) → IsPiece left rest piece → AreUnbound h (variables_in all) → AreUnbound middle (variables_in (indexicals piece))
   given_unbound rest piece p u x e =
       links_unbound h sets own (variables_in g.done) middle S g.linked x
       (u x (subst (λ l. has l x ≡ true) (sym (ap variables_in (g.parts ∙ ap (λ l. g.done ++ l) p.ranges) ∙ variables_both g.done (indexicals piece ++ rest)))
-      (in_right (variables_in g.done) (variables_in (indexicals piece ++ rest)) x (subst (λ l. has l x ≡ true) (sym (variables_both (indexicals piece) rest)) (in_left (variables_in (indexicals piece)) (variables_in rest) x e)))))
+      (in_right (variables_in g.done) (variables_in (indexicals piece ++ rest)) x
+      (subst (λ l. has l x ≡ true) (sym (variables_both (indexicals piece) rest)) (in_left (variables_in (indexicals piece)) (variables_in rest) x e)))))
 
-  pub given_more : (rest : List Indexical) (piece : List (ℕ × Range)) → IsPiece left rest piece → OwnLinks (length S) middle → (now : Cells) (T : List (List ℕ)) → LinksMore middle S (variables_in (indexicals piece)) now T → (new : List Instance) → AreListed now (indexicals piece) next new → AreGiven h sets all rest now T new
+  pub given_more : (rest : List Indexical) (piece : List (ℕ × Range)) → IsPiece left rest piece → OwnLinks (length S) middle → (now : Cells) (T : List (List ℕ))
+      → LinksMore middle S (variables_in (indexicals piece)) now T → (new : List Instance) → AreListed now (indexicals piece) next new
+      → AreGiven h sets all rest now T new
   given_more rest piece p links now T b new y = record {
     done = g.done ++ indexicals piece;
     parts = g.parts ∙ ap (λ l. g.done ++ l) p.ranges ∙ sym (append_assoc g.done (indexicals piece) rest);
-    linked = subst (λ xs. LinksMore h sets xs now T) (sym (variables_both g.done (indexicals piece))) (links_both h sets (variables_in g.done) (variables_in (indexicals piece)) middle now S T g.linked b);
+    linked = subst (λ xs. LinksMore h sets xs now T) (sym (variables_both g.done (indexicals piece)))
+        (links_both h sets (variables_in g.done) (variables_in (indexicals piece)) middle now S T g.linked b);
     listed = both_listed h sets own g.done (indexicals piece) middle now S T g.linked links b [] next new g.listed y;
   }
 
@@ -179,4 +193,5 @@ module _ (h : Cells) (sets : List (List ℕ)) (own : OwnLinks (length sets) h) (
     given_named = subst (λ ps. IsNaming Var h sets (variables_in ps) middle S [] []) all_done (links_named h sets own (variables_in g.done) middle S g.linked)
 
     pub given_same : AreSamePostings (map posting next) (map (row_posting (store_variable middle)) all)
-    given_same = subst (λ (l : List Instance). AreSamePostings (map posting l) (map (row_posting (store_variable middle)) all)) (sym g.listed.behind) (subst (λ ps. AreSamePostings (map posting g.listed.more) (map (row_posting (store_variable middle)) ps)) all_done g.listed.same)
+    given_same = subst (λ (l : List Instance). AreSamePostings (map posting l) (map (row_posting (store_variable middle)) all)) (sym g.listed.behind)
+        (subst (λ ps. AreSamePostings (map posting g.listed.more) (map (row_posting (store_variable middle)) ps)) all_done g.listed.same)

@@ -3,9 +3,11 @@ use Rattle.std.proofs.Common.{◌≡◌, ◌<◌, List, ◌∷◌, length, drop,
 use Rattle.fd_model.specs.Levels.{Level, Levels}
 use Rattle.heap_cells.specs.Cells.{Cells, Heaps}
 use Rattle.branch_state.specs.States.{State, ArePairs, IsPair, IsSound, IsSoundBelow, IsUndone, with_pair, without_pairs}
-use Rattle.branch_state.proofs.Sound.{dropped_sound}
+use Rattle.branch_state.proofs.States.{dropped_sound}
 
-module _ (s : State) (h : Heaps) (l : Levels) (o : IsSoundBelow s) (more : 1 < length s.heaps.below) (back : s.heaps.below ≡ h.now ∷ drop 1 s.heaps.below) (stays : h.below ≡ s.heaps.below) (given : s.levels.below ≡ l.current ∷ drop 1 s.levels.below) (left : l.below ≡ s.levels.below) (spent : l.spent ≡ s.levels.spent) where
+module _ (s : State) (h : Heaps) (l : Levels) (o : IsSoundBelow s) (more : 1 < length s.heaps.below) (back : s.heaps.below ≡ h.now ∷ drop 1 s.heaps.below)
+    (stays : h.below ≡ s.heaps.below) (given : s.levels.below ≡ l.current ∷ drop 1 s.levels.below) (left : l.below ≡ s.levels.below)
+    (spent : l.spent ≡ s.levels.spent) where
   abbrev next : State
   next = record { atoms = s.atoms; infinity = s.infinity; heaps = h; levels = l }
 
@@ -43,4 +45,10 @@ module _ (s : State) (h : Heaps) (l : Levels) (o : IsSoundBelow s) (more : 1 < l
   pub reset_pair : next ≡ with_pair (without_pairs next 1)
   reset_pair =
       ap (λ (hs : List Cells). let r : State = record { atoms = s.atoms; infinity = s.infinity; heaps = record { now = h.now; below = hs }; levels = l } in r) heaps_same
-      ∙ ap (λ (ls : List Level). let r : State = record { atoms = s.atoms; infinity = s.infinity; heaps = record { now = h.now; below = h.now ∷ drop 1 h.below }; levels = record { current = l.current; below = ls; spent = l.spent } } in r) levels_same
+      ∙ ap (λ (ls : List Level). let r : State = record {
+        atoms = s.atoms;
+        infinity = s.infinity;
+        heaps = record { now = h.now; below = h.now ∷ drop 1 h.below };
+        levels = record { current = l.current; below = ls; spent = l.spent };
+      } in
+      r) levels_same

@@ -9,7 +9,7 @@ use Rattle.fd_model.specs.declared.kinds.QueryFault.{QueryFault}
 use Rattle.fd_model.specs.declared.kinds.Relation.{Relation}
 use Rattle.fd_model.specs.declared.kinds.Relation.TheVariants.{Equal}
 use Rattle.fd_model.specs.BooleanRows.{and_ranges, or_ranges, not_ranges}
-use Rattle.fd_model.specs.Constraining.{basic, by_split, expand}
+use Rattle.fd_model.specs.ConstraintExpansion.{basic, by_split, expand}
 use Rattle.fd_model.specs.Linear.{Comparison, IsEqual, IsOther, IsAtMost}
 use Rattle.fd_model.specs.LinearRows.{Expansion}
 use Rattle.fd_model.specs.Members.{Member, Open, Known, after, equated_from}
@@ -17,9 +17,9 @@ use Rattle.fd_model.specs.ProductRows.{Product, factors, with_result, product_fo
 use Rattle.fd_model.specs.ReifiedRows.{reified_end}
 use Rattle.fd_model.specs.Splitting.{Split, joined, of_two, of_three, reified, split}
 use Rattle.fd_model.proofs.Lemmas.{three_ok, two_ok, product_ok, reified_ok, of_some}
-use Rattle.term_pool.specs.Valid.{IsStorable, AreStorable}
+use Rattle.term_pool.specs.PoolInvariant.{IsStorable, AreStorable}
 use Rattle.branch_state.specs.Constraints.{AreFrom, AreWords}
-use Rattle.branch_state.proofs.ConstrainingRows.{AllShort, AllFit, Fit, after_end, basic_end, basic_next, basic_words, member_fits, placed_from, words_from}
+use Rattle.branch_state.proofs.ConstraintRows.{AllShort, AllFit, Fit, after_end, basic_end, basic_next, basic_words, member_fits, placed_from, words_from}
 
 -- The equated variables are those of members, and few numbers are fresh.
 record HasMembers (ts : Terms) (n : ℕ) (s : Split) : Type 0 where
@@ -109,7 +109,8 @@ split_members M Reified (term b (term t no_terms)) n s h =
 split_members M _ _ n s h = absurd (cc)
 
 -- what holds of the rows that aren't split and of those that are
-each_row : (P : Expansion → Type 0) (M : ℕ) (kind : ConstraintKind) (ts : Terms) (n : ℕ) (x : Expansion) → (basic kind ts n ≡ Ok x → P x) → ((s : Split) → split M kind ts n ≡ Some (Ok s) → P (joined s)) → expand M kind ts n ≡ Ok x → P x
+each_row : (P : Expansion → Type 0) (M : ℕ) (kind : ConstraintKind) (ts : Terms) (n : ℕ) (x : Expansion) → (basic kind ts n ≡ Ok x → P x)
+    → ((s : Split) → split M kind ts n ≡ Some (Ok s) → P (joined s)) → expand M kind ts n ≡ Ok x → P x
 each_row P M kind ts n x plain parts h = by_option (split M kind ts n) refl h where
   by_option : (o : Option (Result Split QueryFault)) → split M kind ts n ≡ o → by_split o (basic kind ts n) ≡ Ok x → P x
   by_option None e k = plain k

@@ -1,5 +1,6 @@
 -- Variables of a clause that are named by variables of the store, one after the other.
-use Rattle.std.proofs.Common.{◌≡◌, ℕ, zero, suc, ◌+◌, ◌-◌, ◌<◌, ◌≤◌, ◌≢◌, Bool, true, false, cond, nat_lt, ◌||◌, ◌&&◌, ◌==◌, ℤ, List, [], ◌∷◌, ◌++◌, length, get_or, Option, Some, None, refl, ap, sym, ◌∙◌, subst, inl, inr, ◌⊎◌, arith, append-nil, length-append, eqb-true, eq-eqb, ne_eqb}
+use Rattle.std.proofs.Common.{◌≡◌, ℕ, zero, suc, ◌+◌, ◌-◌, ◌<◌, ◌≤◌, ◌≢◌, Bool, true, false, cond, nat_lt, ◌||◌, ◌&&◌, ◌==◌, ℤ, List, [], ◌∷◌, ◌++◌, length}
+use Rattle.std.proofs.Common.{get_or, Option, Some, None, refl, ap, sym, ◌∙◌, subst, inl, inr, ◌⊎◌, arith, append-nil, length-append, eqb-true, eq-eqb, ne_eqb}
 use Rattle.std.proofs.lemmas.Bool.{cases_Bool, cases_eq, or_cases, or_left, true≢false, and_parts, or_parts}
 use Rattle.std.proofs.lemmas.Bool.Decides.{nat_tests}
 use Rattle.std.proofs.lemmas.List.{get_or_append_left, get_or-append_right, get_or_past}
@@ -17,12 +18,12 @@ use Rattle.range_code.proofs.Lemmas.{has_kept}
 use Rattle.unify_core.specs.declared.Touch.{Touch}
 use Rattle.unify_core.specs.declared.Touch.TheVariants.{Value}
 use Rattle.fd_language.specs.SingleValues.{value_in, value_at}
-use Rattle.machine_frames.specs.Frames.{link_of, link_in}
-use Rattle.machine_frames.specs.Posting.{Listed, IsLinkedMore}
-use Rattle.machine_frames.proofs.Lemmas.{linked_none, linked_next}
-use Rattle.branch_state.specs.declared.look.Look.{Look}
-use Rattle.branch_state.specs.declared.look.Look.TheVariants.{Open, Linked, Number, Symbol}
-use Rattle.branch_state.specs.Naming.{LooksAs, integers, or_zero, linked_to, variable_of, values, Apart, IsNaming, NameStep, OwnLinks}
+use Rattle.branch_lemmas.specs.Frames.{link_of, link_in}
+use Rattle.branch_lemmas.specs.Posting.{Listed, IsLinkedMore}
+use Rattle.branch_lemmas.proofs.Lemmas.{linked_none, linked_next}
+use Rattle.branch_state.specs.declared.cell_looks.Look.{Look}
+use Rattle.branch_state.specs.declared.cell_looks.Look.TheVariants.{Open, Linked, Number, Symbol}
+use Rattle.branch_state.specs.StoreVariables.{LooksAs, integers, or_zero, linked_to, variable_of, values, Apart, IsNaming, NameStep, OwnLinks}
 
 -- ---- sets of a longer list
 
@@ -46,14 +47,16 @@ two_values (w ∷ []) c h g = absurd (let a = only_one w 0 h in let b = only_one
 two_values (w ∷ v ∷ ws) c h g = refl
 
 new_value : (sets : List (List ℕ)) (k c : ℕ) → length sets ≤ k → value_in (family_of sets k) c ≡ Var c
-new_value sets k c l = ap (λ xs. value_in xs c) (get_or_past sets k (universe INFINITY) l) ∙ two_values (universe INFINITY) c (in_universe INFINITY 0 (omega arith)) (in_universe INFINITY 1 (omega arith))
+new_value sets k c l = ap (λ xs. value_in xs c) (get_or_past sets k (universe INFINITY) l)
+    ∙ two_values (universe INFINITY) c (in_universe INFINITY 0 (omega arith)) (in_universe INFINITY 1 (omega arith))
 
 -- ---- lists of variables
 
 integers_more : (s : Substitution) (xs : List ℕ) (y : ℕ) → integers s (xs ++ y ∷ []) ≡ integers s xs ++ cond (is_integer (s y)) (y ∷ []) []
 integers_more s [] y = refl
 integers_more s (x ∷ xs) y = by_test (is_integer (s x)) (integers_more s xs y) where
-  by_test : (b : Bool) → integers s (xs ++ y ∷ []) ≡ integers s xs ++ cond (is_integer (s y)) (y ∷ []) [] → cond b (x ∷ integers s (xs ++ y ∷ [])) (integers s (xs ++ y ∷ [])) ≡ cond b (x ∷ integers s xs) (integers s xs) ++ cond (is_integer (s y)) (y ∷ []) []
+  by_test : (b : Bool) → integers s (xs ++ y ∷ []) ≡ integers s xs ++ cond (is_integer (s y)) (y ∷ []) []
+      → cond b (x ∷ integers s (xs ++ y ∷ [])) (integers s (xs ++ y ∷ [])) ≡ cond b (x ∷ integers s xs) (integers s xs) ++ cond (is_integer (s y)) (y ∷ []) []
   by_test true e = ap (λ l. x ∷ l) e
   by_test false e = e
 
@@ -121,7 +124,8 @@ naming_start s h sets o = record {
   apart = tt;
 }
 
-module _ (s : Substitution) (n : ℕ) (h : Cells) (sets : List (List ℕ)) (xs : List ℕ) (now : Cells) (S : List (List ℕ)) (ks : List ℕ) (fs : List Touch) (w : IsNaming s h sets xs now S ks fs) (y : ℕ) (new_one : has xs y ≡ false)
+module _ (s : Substitution) (n : ℕ) (h : Cells) (sets : List (List ℕ)) (xs : List ℕ) (now : Cells) (S : List (List ℕ)) (ks : List ℕ) (fs : List Touch)
+    (w : IsNaming s h sets xs now S ks fs) (y : ℕ) (new_one : has xs y ≡ false)
     (low : (z : ℕ) → has (xs ++ y ∷ []) z ≡ true → is_integer (s z) ≡ false → z < n) where
   abbrev zs : List ℕ
   zs = integers s xs
@@ -147,14 +151,17 @@ module _ (s : Substitution) (n : ℕ) (h : Cells) (sets : List (List ℕ)) (xs :
   of_high now' js z l = let t : nat_lt z n ≡ false = grind (arith, nat_tests) in ap (λ b. cond b (or_zero (linked_to now' (s z))) (get_or js (z - n) 0)) t
 
   -- what was named stays
-  stays : (now' : Cells) (more : List ℕ) → ((d k : ℕ) → link_in now d ≡ Some k → link_in now' d ≡ Some k) → ((z : ℕ) → has xs z ≡ true → slot n zs' z ≡ slot n zs z) → (z : ℕ) → has xs z ≡ true → variable_of s n now ks (slot n zs z) ≡ variable_of s n now' (ks ++ more) (slot n zs' z)
+  stays : (now' : Cells) (more : List ℕ) → ((d k : ℕ) → link_in now d ≡ Some k → link_in now' d ≡ Some k)
+      → ((z : ℕ) → has xs z ≡ true → slot n zs' z ≡ slot n zs z) → (z : ℕ) → has xs z ≡ true
+      → variable_of s n now ks (slot n zs z) ≡ variable_of s n now' (ks ++ more) (slot n zs' z)
   stays now' more keep same z i = elim (cases_Bool (is_integer (s z))) [
     | inl e ↦
         let m = integer_in s xs z i e in
         let l = slot_low n zs z m in
         let g = slot_high n zs z m in
         let c = w.count in
-        of_high now ks (slot n zs z) l ∙ sym (get_or_append_left ks more 0 (slot n zs z - n) (omega (arith, l, g, c))) ∙ sym (of_high now' (ks ++ more) (slot n zs z) l) ∙ ap (variable_of s n now' (ks ++ more)) (sym (same z i))
+        of_high now ks (slot n zs z) l ∙ sym (get_or_append_left ks more 0 (slot n zs z - n) (omega (arith, l, g, c)))
+        ∙ sym (of_high now' (ks ++ more) (slot n zs z) l) ∙ ap (variable_of s n now' (ks ++ more)) (sym (same z i))
     | inr e ↦
         let l = low z (in_left xs (y ∷ []) z i) e in
         let out = slot_out n zs z (integer_out s xs z (inr e)) in
@@ -164,7 +171,8 @@ module _ (s : Substitution) (n : ℕ) (h : Cells) (sets : List (List ℕ)) (xs :
     by_term z i (Var d) e = let k = w.named z d i e in ap or_zero (k.1 ∙ sym (keep d k.0 k.1))
     by_term z i t e = refl
 
-  still : (now' : Cells) → ((d k : ℕ) → link_in now d ≡ Some k → link_in now' d ≡ Some k) → ((z : ℕ) → has xs z ≡ true → slot n zs' z ≡ slot n zs z) → (z : ℕ) → has xs z ≡ true → variable_of s n now ks (slot n zs z) ≡ variable_of s n now' ks (slot n zs' z)
+  still : (now' : Cells) → ((d k : ℕ) → link_in now d ≡ Some k → link_in now' d ≡ Some k) → ((z : ℕ) → has xs z ≡ true → slot n zs' z ≡ slot n zs z) → (z : ℕ)
+      → has xs z ≡ true → variable_of s n now ks (slot n zs z) ≡ variable_of s n now' ks (slot n zs' z)
   still now' keep same z i = stays now' [] keep same z i ∙ ap (λ js. variable_of s n now' js (slot n zs' z)) (append-nil ks)
 
   -- y is no integer
@@ -276,7 +284,8 @@ module _ (s : Substitution) (n : ℕ) (h : Cells) (sets : List (List ℕ)) (xs :
       same = λ k. family_more S k ∙ w.same k;
       named = λ x c i f. elim (has_last xs y x i) [ inl a ↦ w.named x c a f | inr a ↦ absurd (int_var (sym is ∙ ap s (sym a) ∙ f)) ];
       count = length-append ks (K ∷ []) ∙ ap (λ i. i + 1) w.count ∙ sym (length-append zs (y ∷ [])) ∙ ap length (sym more_zs);
-      told = ap (λ (l : List Touch). l ++ Value K z ∷ []) w.told ∙ ap (λ i. values s ks zs ++ Value K i ∷ []) (sym (ap integer_of is)) ∙ sym (values_more s ks zs K y w.count) ∙ ap (values s (ks ++ K ∷ [])) (sym more_zs);
+      told = ap (λ (l : List Touch). l ++ Value K z ∷ []) w.told ∙ ap (λ i. values s ks zs ++ Value K i ∷ []) (sym (ap integer_of is))
+          ∙ sym (values_more s ks zs K y w.count) ∙ ap (values s (ks ++ K ∷ [])) (sym more_zs);
       fresh = λ k i. elim (has_last ks K k i) [
         | inl a ↦ (let f = w.fresh k a in (f.0, (let l = f.1 in let v = wide in omega (arith, l, v)), f.2))
         | inr a ↦ (
@@ -288,7 +297,8 @@ module _ (s : Substitution) (n : ℕ) (h : Cells) (sets : List (List ℕ)) (xs :
       apart = apart_more ks K w.apart no_K;
     };
     own = sym (ap (variable_of s n now (ks ++ K ∷ [])) last ∙ of_high now (ks ++ K ∷ []) (n + length zs) (omega arith)
-        ∙ get_or-append_right ks (K ∷ []) (length ks) (n + length zs - n) 0 refl (let c = w.count in omega (arith, c)) ∙ ap (λ i. get_or (K ∷ []) i 0) (let c = w.count in let e : n + length zs - n - length ks ≡ 0 = omega (arith, c) in e));
+        ∙ get_or-append_right ks (K ∷ []) (length ks) (n + length zs - n) 0 refl (let c = w.count in
+        omega (arith, c)) ∙ ap (λ i. get_or (K ∷ []) i 0) (let c = w.count in let e : n + length zs - n - length ks ≡ 0 = omega (arith, c) in e));
     others = λ x i. stays now (K ∷ []) (λ d k e. e) (λ x i. ap (λ l. slot n l x) more_zs ∙ slot_more n zs y x (λ e. true≢false (sym i ∙ ap (has xs) (sym e) ∙ new_one))) x i;
   } where
     K : ℕ
@@ -314,18 +324,25 @@ module _ (s : Substitution) (n : ℕ) (h : Cells) (sets : List (List ℕ)) (xs :
   naming_next (Open i) looks now' S' fs' k st =
       let e0 : k ≡ length S = st.0 in
       let e1 : now' ≡ with_slot now i (linked (length S)) = st.1 ∙ ap (λ j. with_slot now i (linked j)) e0 in
-      subst (IsNext now' S' fs') (sym e0) (subst (λ (f : List Touch). IsNext now' S' f (length S)) (sym st.3) (subst (λ (x : List (List ℕ)). IsNext now' x fs (length S)) (sym st.2) (subst (λ (x : Cells). IsNext x (S ++ U ∷ []) fs (length S)) (sym e1) (linked_now i looks.0 looks.1 looks.2))))
+      subst (IsNext now' S' fs') (sym e0) (subst (λ (f : List Touch). IsNext now' S' f (length S)) (sym st.3)
+      (subst (λ (x : List (List ℕ)). IsNext now' x fs (length S)) (sym st.2)
+      (subst (λ (x : Cells). IsNext x (S ++ U ∷ []) fs (length S)) (sym e1) (linked_now i looks.0 looks.1 looks.2))))
   naming_next (Linked j) looks now' S' fs' k st =
-      subst (IsNext now' S' fs') (sym st.0) (subst (λ (f : List Touch). IsNext now' S' f j) (sym st.3) (subst (λ (x : List (List ℕ)). IsNext now' x fs j) (sym st.2) (subst (λ (x : Cells). IsNext x S fs j) (sym st.1) (linked_before looks.0 looks.1 j looks.2))))
+      subst (IsNext now' S' fs') (sym st.0) (subst (λ (f : List Touch). IsNext now' S' f j) (sym st.3)
+      (subst (λ (x : List (List ℕ)). IsNext now' x fs j) (sym st.2)
+      (subst (λ (x : Cells). IsNext x S fs j) (sym st.1) (linked_before looks.0 looks.1 j looks.2))))
   naming_next (Number z) looks now' S' fs' k st =
       let e3 : fs' ≡ fs ++ Value (length S) z ∷ [] = st.3 ∙ ap (λ j. fs ++ Value j z ∷ []) st.0 in
-      subst (IsNext now' S' fs') (sym st.0) (subst (λ (f : List Touch). IsNext now' S' f (length S)) (sym e3) (subst (λ (x : List (List ℕ)). IsNext now' x (fs ++ Value (length S) z ∷ []) (length S)) (sym st.2) (subst (λ (x : Cells). IsNext x (S ++ U ∷ []) (fs ++ Value (length S) z ∷ []) (length S)) (sym st.1) (numbered_now z looks))))
+      subst (IsNext now' S' fs') (sym st.0) (subst (λ (f : List Touch). IsNext now' S' f (length S)) (sym e3)
+      (subst (λ (x : List (List ℕ)). IsNext now' x (fs ++ Value (length S) z ∷ []) (length S)) (sym st.2)
+      (subst (λ (x : Cells). IsNext x (S ++ U ∷ []) (fs ++ Value (length S) z ∷ []) (length S)) (sym st.1) (numbered_now z looks))))
   naming_next Symbol looks now' S' fs' k st = absurd st
 
 -- ---- what variables are seen as stays
 
 -- a heap's variables have the values that they had, where new ones of the store are linked
-pub still_valued : (h : Cells) (sets : List (List ℕ)) (now : Cells) (S : List (List ℕ)) (more : List (ℕ × ℕ)) → IsLinkedMore h now more → ((c k : ℕ) → Listed c k more → length sets ≤ k) → ((k : ℕ) → family_of S k ≡ family_of sets k)
+pub still_valued : (h : Cells) (sets : List (List ℕ)) (now : Cells) (S : List (List ℕ)) (more : List (ℕ × ℕ)) → IsLinkedMore h now more
+    → ((c k : ℕ) → Listed c k more → length sets ≤ k) → ((k : ℕ) → family_of S k ≡ family_of sets k)
     → (d : ℕ) → value_at (link_in now d) (family_of S) d ≡ value_at (link_in h d) (family_of sets) d
 still_valued h sets now S more links listed same d = by_old (link_in h d) refl where
   by_new : (o : Option ℕ) → link_in h d ≡ None → link_in now d ≡ o → value_at o (family_of S) d ≡ Var d

@@ -1,5 +1,6 @@
 -- What is posted for touches: the ranges, that they may be posted, and which variables they name.
-use Rattle.std.proofs.Common.{◌≡◌, ℕ, ◌+◌, ◌<◌, ◌≤◌, true, false, ◌==◌, ◌&&◌, ◌||◌, ℤ, pos, List, [], ◌∷◌, ◌++◌, length, map, take, get_or, IsTrue, refl, ap, sym, ◌∙◌, subst, inl, inr, arith, eqb-true}
+use Rattle.std.proofs.Common.{◌≡◌, ℕ, ◌+◌, ◌<◌, ◌≤◌, true, false, ◌==◌, ◌&&◌, ◌||◌, ℤ, pos, List, [], ◌∷◌, ◌++◌, length, map, take, get_or, IsTrue, refl, ap}
+use Rattle.std.proofs.Common.{sym, ◌∙◌, subst, inl, inr, arith, eqb-true}
 use Rattle.std.specs.Prelude.{All}
 use Rattle.std.specs.List.{list_all}
 use Rattle.std.proofs.lemmas.Bool.{or_cases, true≢false, and_parts}
@@ -18,7 +19,7 @@ use Rattle.range_code.specs.declared.frame.Arg.{Arg}
 use Rattle.range_code.specs.declared.frame.Arg.TheVariants as arg
 use Rattle.range_code.specs.Frames.{IsFrame, posted}
 use Rattle.range_code.proofs.Lemmas.{posted_below}
-use Rattle.fd_model.specs.Closed.{constrained}
+use Rattle.fd_model.specs.ClosedFamilies.{constrained}
 use Rattle.fd_model.proofs.Lemmas.{posted_right, constrained_either, named_right}
 use Rattle.heap_cells.proofs.Lemmas.{head_of, tail_of}
 use Rattle.unify_core.specs.declared.Touch.{Touch}
@@ -26,11 +27,11 @@ use Rattle.unify_core.specs.declared.Touch.TheVariants.{Value, Same}
 use Rattle.propagate_queue.specs.declared.instance.Instance.{Instance}
 use Rattle.propagate_queue.specs.Instances.{posting, posting_of, posted_by, IsInstance}
 use Rattle.propagate_queue.specs.Postings.{Posting, ranged, IsPosting}
-use Rattle.machine_relation.specs.Store.{posts, touched}
-use Rattle.machine_relation.proofs.Lemmas.{set_term, set_term_int, as_equations}
-use Rattle.machine_frames.specs.Frames.{store_touches}
+use Rattle.branch_meaning.specs.Store.{posts, touched}
+use Rattle.branch_meaning.proofs.Lemmas.{set_term, set_term_int, as_equations}
+use Rattle.branch_lemmas.specs.Frames.{store_touches}
 use Rattle.branch_state.specs.Codes.{exact_range}
-use Rattle.branch_state.specs.Naming.{goal_ranges}
+use Rattle.branch_state.specs.StoreVariables.{goal_ranges}
 use Rattle.branch_state.specs.Posting.{is_natural, touch_postings, postings}
 use Rattle.branch_state.specs.States.{HasNoModel}
 use Rattle.branch_state.specs.Steps.{IsTouchBelow, AreTouchesBelow}
@@ -62,7 +63,8 @@ EachPosting count (p ∷ ps) = IsPosting count p × EachPosting count ps
 pub all_instances : (count : ℕ) (is : List Instance) (ps : List Posting) → map posting is ≡ ps → EachPosting count ps → All (IsInstance count) is
 all_instances count [] ps e a = All-nil (IsInstance count)
 all_instances count (i ∷ is) [] e a = absurd (cc)
-all_instances count (i ∷ is) (p ∷ ps) e a = All-cons (IsInstance count) i is (subst (IsPosting count) (sym (cons_head (posting i) p (map posting is) ps e)) a.0) (all_instances count is ps (cons_tail (posting i) p (map posting is) ps e) a.1)
+all_instances count (i ∷ is) (p ∷ ps) e a = All-cons (IsInstance count) i is (subst (IsPosting count) (sym (cons_head (posting i) p (map posting is) ps e)) a.0)
+    (all_instances count is ps (cons_tail (posting i) p (map posting is) ps e) a.1)
 
 pub natural_whole : (z : ℤ) → meets Natural z ≡ true → IsTrue (meets Whole z)
 natural_whole z e = (and_parts _ _ e).0
@@ -114,7 +116,8 @@ touch_names count (Same i j ∷ ts) low k e =
       ]
     ]
 
-pub posted_low : (count : ℕ) (qs : List Indexical) (ts : List Touch) → ((k : ℕ) → has (constrained qs) k ≡ true → k < count) → AreTouchesBelow count ts → (k : ℕ) → has (constrained (qs ++ posts (store_touches ts))) k ≡ true → k < count
+pub posted_low : (count : ℕ) (qs : List Indexical) (ts : List Touch) → ((k : ℕ) → has (constrained qs) k ≡ true → k < count) → AreTouchesBelow count ts
+    → (k : ℕ) → has (constrained (qs ++ posts (store_touches ts))) k ≡ true → k < count
 posted_low count qs ts known low k e = elim (constrained_either qs (posts (store_touches ts)) k e) [ inl a ↦ known k a | inr a ↦ touch_names count ts low k a ]
 
 -- no family of numbers is a model with another integer
@@ -135,7 +138,8 @@ some_outside T rising (Same k j ∷ ts) e u = some_outside T rising ts e u.1
 pub outside_none : (qs : List Indexical) (ts : List Touch) → list_all is_natural ts ≡ false → HasNoModel INFINITY (qs ++ posts (store_touches ts))
 outside_none qs ts e T m =
     some_outside T m.closed.family.rising ts e
-    (as_equations INFINITY T m.closed.family (store_touches ts) (λ k c. m.full k (named_right qs (posts (store_touches ts)) k c)) (posted_right (λ p. IsSubset (T p.target) (set_of INFINITY T p.range)) qs (posts (store_touches ts)) m.closed.posted))
+    (as_equations INFINITY T m.closed.family (store_touches ts) (λ k c. m.full k (named_right qs (posts (store_touches ts)) k c))
+    (posted_right (λ p. IsSubset (T p.target) (set_of INFINITY T p.range)) qs (posts (store_touches ts)) m.closed.posted))
 
 -- one touch more
 postings_more : (ts : List Touch) (t : Touch) → postings (ts ++ t ∷ []) ≡ postings ts ++ touch_postings t
@@ -145,24 +149,34 @@ postings_more (u ∷ ts) t = ap (λ l. touch_postings u ++ l) (postings_more ts 
 pub postings_next : (ts : List Touch) (i : ℕ) (d : Touch) → i < length ts → postings (take i ts) ++ touch_postings (get_or ts i d) ≡ postings (take (i + 1) ts)
 postings_next ts i d l = sym (ap postings (take_more ts i d l) ∙ postings_more (take i ts) (get_or ts i d))
 
-pub postings_step : (first is new : List Instance) (ts : List Touch) (i : ℕ) (d : Touch) → i < length ts → map posting is ≡ map posting first ++ postings (take i ts) → map posting new ≡ map posting is ++ touch_postings (get_or ts i d) → map posting new ≡ map posting first ++ postings (take (i + 1) ts)
+pub postings_step : (first is new : List Instance) (ts : List Touch) (i : ℕ) (d : Touch) → i < length ts
+    → map posting is ≡ map posting first ++ postings (take i ts) → map posting new ≡ map posting is ++ touch_postings (get_or ts i d)
+    → map posting new ≡ map posting first ++ postings (take (i + 1) ts)
 postings_step first is new ts i d l e f =
-    f ∙ ap (λ (ps : List Posting). ps ++ touch_postings (get_or ts i d)) e ∙ append_assoc (map posting first) (postings (take i ts)) (touch_postings (get_or ts i d)) ∙ ap (λ (ps : List Posting). map posting first ++ ps) (postings_next ts i d l)
+    f ∙ ap (λ (ps : List Posting). ps ++ touch_postings (get_or ts i d)) e
+    ∙ append_assoc (map posting first) (postings (take i ts)) (touch_postings (get_or ts i d))
+    ∙ ap (λ (ps : List Posting). map posting first ++ ps) (postings_next ts i d l)
 
 -- ---- a goal's range before the touches
 
 -- the ranges
-pub goal_posted : (is : List Instance) (r : Range) (v : ℕ) (as' : List Arg) (ts : List Touch) → map posting is ≡ record { range = r; target = v; args = as' } ∷ postings ts → posted_by is ≡ goal_ranges r v as' ts
+pub goal_posted : (is : List Instance) (r : Range) (v : ℕ) (as' : List Arg) (ts : List Touch)
+    → map posting is ≡ record { range = r; target = v; args = as' } ∷ postings ts → posted_by is ≡ goal_ranges r v as' ts
 goal_posted is r v as' ts e = map_twice is ∙ ap (map ranged) e ∙ ap (λ (l : List Indexical). record { target = v; range = posted r as' } ∷ l) (ranges_are ts)
 
-pub goal_fits : (count : ℕ) (is : List Instance) (r : Range) (v : ℕ) (as' : List Arg) (ts : List Touch) → map posting is ≡ record { range = r; target = v; args = as' } ∷ postings ts → v < count → IsFrame count r as' → AreTouchesBelow count ts → list_all is_natural ts ≡ true → All (IsInstance count) is
+pub goal_fits : (count : ℕ) (is : List Instance) (r : Range) (v : ℕ) (as' : List Arg) (ts : List Touch)
+    → map posting is ≡ record { range = r; target = v; args = as' } ∷ postings ts → v < count → IsFrame count r as' → AreTouchesBelow count ts
+    → list_all is_natural ts ≡ true → All (IsInstance count) is
 goal_fits count is r v as' ts e low frame touches natural = all_instances count is (record { range = r; target = v; args = as' } ∷ postings ts) e ((low, frame), each_fits count ts touches natural)
 
 pub goal_outside : (qs : List Indexical) (r : Range) (v : ℕ) (as' : List Arg) (ts : List Touch) → list_all is_natural ts ≡ false → HasNoModel INFINITY (qs ++ goal_ranges r v as' ts)
-goal_outside qs r v as' ts e = subst (HasNoModel INFINITY) (append_assoc qs (record { target = v; range = posted r as' } ∷ []) (posts (store_touches ts))) (outside_none (qs ++ record { target = v; range = posted r as' } ∷ []) ts e)
+goal_outside qs r v as' ts e = subst (HasNoModel INFINITY) (append_assoc qs (record { target = v; range = posted r as' } ∷ []) (posts (store_touches ts)))
+    (outside_none (qs ++ record { target = v; range = posted r as' } ∷ []) ts e)
 
 -- and what they name
-pub goal_low : (count : ℕ) (qs : List Indexical) (r : Range) (v : ℕ) (as' : List Arg) (ts : List Touch) → ((k : ℕ) → has (constrained qs) k ≡ true → k < count) → v < count → is_accepted INFINITY r ≡ true → IsFrame count r as' → AreTouchesBelow count ts → (k : ℕ) → has (constrained (qs ++ goal_ranges r v as' ts)) k ≡ true → k < count
+pub goal_low : (count : ℕ) (qs : List Indexical) (r : Range) (v : ℕ) (as' : List Arg) (ts : List Touch) → ((k : ℕ) → has (constrained qs) k ≡ true → k < count)
+    → v < count → is_accepted INFINITY r ≡ true → IsFrame count r as' → AreTouchesBelow count ts → (k : ℕ)
+    → has (constrained (qs ++ goal_ranges r v as' ts)) k ≡ true → k < count
 goal_low count qs r v as' ts known low accepted frame touches k e = elim (constrained_either qs (goal_ranges r v as' ts) k e) [
   | inl a ↦ known k a
   | inr a ↦ elim (or_cases (v == k) (has (reads (posted r as') ++ constrained (posts (store_touches ts))) k) a) [
@@ -178,7 +192,8 @@ goal_low count qs r v as' ts known low accepted frame touches k e = elim (constr
 
 -- the ranges
 pub rows_posted : (is list : List Instance) (ts : List Touch) → map posting is ≡ map posting list ++ postings ts → posted_by is ≡ posted_by list ++ posts (store_touches ts)
-rows_posted is list ts e = map_twice is ∙ ap (map ranged) e ∙ map-append ranged (map posting list) (postings ts) ∙ ap (λ l. l ++ map ranged (postings ts)) (sym (map_twice list)) ∙ ap (λ l. posted_by list ++ l) (ranges_are ts)
+rows_posted is list ts e = map_twice is ∙ ap (map ranged) e ∙ map-append ranged (map posting list) (postings ts)
+    ∙ ap (λ l. l ++ map ranged (postings ts)) (sym (map_twice list)) ∙ ap (λ l. posted_by list ++ l) (ranges_are ts)
 
 pub each_both : (count : ℕ) (ps qs : List Posting) → EachPosting count ps → EachPosting count qs → EachPosting count (ps ++ qs)
 each_both count [] qs a b = b
@@ -188,5 +203,7 @@ pub each_listed : (count : ℕ) (is : List Instance) → All (IsInstance count) 
 each_listed count [] a = tt
 each_listed count (i ∷ is) a = (head_of (IsInstance count) i is a, each_listed count is (tail_of (IsInstance count) i is a))
 
-pub rows_fit : (count : ℕ) (is list : List Instance) (ts : List Touch) → map posting is ≡ map posting list ++ postings ts → All (IsInstance count) list → AreTouchesBelow count ts → list_all is_natural ts ≡ true → All (IsInstance count) is
-rows_fit count is list ts e fit touches natural = all_instances count is (map posting list ++ postings ts) e (each_both count (map posting list) (postings ts) (each_listed count list fit) (each_fits count ts touches natural))
+pub rows_fit : (count : ℕ) (is list : List Instance) (ts : List Touch) → map posting is ≡ map posting list ++ postings ts → All (IsInstance count) list
+    → AreTouchesBelow count ts → list_all is_natural ts ≡ true → All (IsInstance count) is
+rows_fit count is list ts e fit touches natural = all_instances count is (map posting list ++ postings ts) e
+    (each_both count (map posting list) (postings ts) (each_listed count list fit) (each_fits count ts touches natural))

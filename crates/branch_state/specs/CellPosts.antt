@@ -5,12 +5,12 @@ use Rattle.fd_language.specs.Term.{Term, Substitution}
 use Rattle.heap_cells.specs.declared.Cell.{Cell}
 use Rattle.heap_cells.specs.Cells.{Cells}
 use Rattle.heap_cells.specs.Terms.{Naming}
-use Rattle.machine_relation.specs.Store.{Touch, posts}
-use Rattle.machine_frames.specs.CellRanges.{cells_offence, cells_range, Names, IsTermsLinked}
+use Rattle.branch_meaning.specs.Store.{Touch, posts}
+use Rattle.branch_lemmas.specs.CellRanges.{cells_offence, cells_range, Names, IsTermsLinked}
 use Rattle.heap_cells.specs.SeenTerms.{seen_term}
 use Rattle.range_code.specs.Frames.{family_of}
-use Rattle.branch_state.specs.CellNaming.{shown_slots}
-use Rattle.branch_state.specs.Bounding.{PostsBounds}
+use Rattle.branch_state.specs.CellVariables.{shown_slots}
+use Rattle.branch_state.specs.VariableBounds.{PostsBounds}
 use Rattle.branch_state.specs.States.{State, HasNoModel, IsSound, IsSoundBelow}
 use Rattle.branch_state.specs.declared.step.Step.{Step}
 use Rattle.branch_state.specs.declared.step.Step.TheVariants.{Kept, Failed, Fault}

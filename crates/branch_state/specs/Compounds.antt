@@ -6,7 +6,7 @@ use Rattle.heap_cells.specs.declared.Cell.{Cell}
 use Rattle.heap_cells.specs.declared.Cell.TheVariants as cell
 use Rattle.heap_cells.specs.Cells.{Cells}
 use Rattle.heap_cells.specs.Terms.{Naming, term_of, terms_by}
-use Rattle.machine_frames.specs.Frames.{IsGrown}
+use Rattle.branch_lemmas.specs.Frames.{IsGrown}
 use Rattle.unify_core.specs.declared.Touch.{Touch}
 use Rattle.unify_core.specs.Unifications.{CannotUnify, IsEqualled}
 use Rattle.branch_state.specs.States.{State, IsCell, IsSound, with_heap}

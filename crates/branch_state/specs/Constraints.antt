@@ -1,5 +1,6 @@
 -- What a constraint does to a branch.
-use Rattle.std.specs.Prelude.{◌≡◌, ℕ, zero, suc, ◌+◌, ◌<◌, ◌≤◌, true, false, ℤ, List, [], ◌∷◌, ◌++◌, length, map, All, FitsSigned, Option, Some, ◌⊎◌, Result, Ok, Err}
+use Rattle.std.specs.Prelude.{◌≡◌, ℕ, zero, suc, ◌+◌, ◌<◌, ◌≤◌, true, false, ℤ, List, [], ◌∷◌, ◌++◌, length, map, All, FitsSigned, Option, Some, ◌⊎◌, Result}
+use Rattle.std.specs.Prelude.{Ok, Err}
 use Rattle.std.specs.Int.{w64}
 use Rattle.fd_language.specs.declared.TheConstants.{INFINITY}
 use Rattle.fd_language.specs.Family.{has}
@@ -7,29 +8,29 @@ use Rattle.fd_language.specs.Range.{Indexical, params}
 use Rattle.fd_language.specs.Term.{Name, Var, Substitution}
 use Rattle.fd_model.specs.declared.kinds.ConstraintKind.{ConstraintKind}
 use Rattle.fd_model.specs.declared.kinds.QueryFault.{QueryFault}
-use Rattle.fd_model.specs.Closed.{constrained, AllPosted}
+use Rattle.fd_model.specs.ClosedFamilies.{constrained, AllPosted}
 use Rattle.fd_model.specs.ConstraintLaws.{AllFresh}
 use Rattle.fd_model.specs.LinearRows.{Expansion}
 use Rattle.heap_cells.specs.declared.Cell.{Cell}
 use Rattle.heap_cells.specs.declared.Cell.TheVariants as cell
 use Rattle.heap_cells.specs.Cells.{Cells, bound, is_bound, slot_at, with_slot, with_new_slot}
 use Rattle.heap_cells.specs.Terms.{Naming, term_of}
-use Rattle.machine_relation.specs.Store as store
-use Rattle.machine_relation.specs.Store.{posts}
+use Rattle.branch_meaning.specs.Store as store
+use Rattle.branch_meaning.specs.Store.{posts}
 use Rattle.range_code.specs.declared.frame.Arg.TheVariants as arg
 use Rattle.range_code.specs.Frames.{family_of}
 use Rattle.range_code.specs.Slots.{slots_of}
 use Rattle.propagate_queue.specs.Postings.{Posting}
 use Rattle.unify_core.specs.declared.Touch.{Touch}
 use Rattle.unify_core.specs.declared.Touch.TheVariants.{Value}
-use Rattle.machine_frames.specs.Frames.{link_in}
-use Rattle.machine_frames.specs.Naming.{full}
-use Rattle.machine_frames.specs.Posting.{IsRowLinked}
-use Rattle.machine_frames.specs.SeenHeap.{heap_row}
+use Rattle.branch_lemmas.specs.Frames.{link_in}
+use Rattle.branch_lemmas.specs.AtomNames.{full}
+use Rattle.branch_lemmas.specs.Posting.{IsRowLinked}
+use Rattle.branch_lemmas.specs.SeenHeap.{heap_row}
 use Rattle.branch_state.specs.declared.step.Step.{Step}
 use Rattle.branch_state.specs.declared.step.Step.TheVariants.{Kept, Failed, Fault}
-use Rattle.branch_state.specs.Naming.{or_zero}
-use Rattle.branch_state.specs.Bounding.{PostsBounds}
+use Rattle.branch_state.specs.StoreVariables.{or_zero}
+use Rattle.branch_state.specs.VariableBounds.{PostsBounds}
 use Rattle.branch_state.specs.States.{State, HasNoModel, IsSound, IsSoundBelow}
 
 -- the row of the constraint, by the branch's heap and sets

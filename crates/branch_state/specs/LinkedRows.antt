@@ -7,8 +7,8 @@ use Rattle.propagate_queue.specs.declared.instance.Instance.{Instance}
 use Rattle.propagate_queue.specs.Instances.{posting}
 use Rattle.unify_core.specs.declared.Touch.{Touch}
 use Rattle.branch_state.specs.Constraints.{variables_in, store_variable, row_posting, row_touches, with_variables, with_integers}
-use Rattle.branch_state.specs.Listing.{AreSamePostings}
-use Rattle.branch_state.specs.Naming.{IsNaming}
+use Rattle.branch_state.specs.PostingLists.{AreSamePostings}
+use Rattle.branch_state.specs.StoreVariables.{IsNaming}
 
 -- The row's variables are linked, what it posts is listed, and the equated variables are bound.
 pub record IsRowReady (h : Cells) (sets : List (List ℕ)) (y : Expansion) (now : Cells)

@@ -3,17 +3,17 @@ use Rattle.std.specs.Prelude.{◌≡◌, ℕ, ◌<◌, ◌≤◌, true, false, L
 use Rattle.fd_language.specs.declared.TheConstants.{INFINITY}
 use Rattle.fd_language.specs.Family.{Family, has, IsInside}
 use Rattle.fd_language.specs.Range.{Indexical}
-use Rattle.fd_model.specs.Closed.{constrained}
+use Rattle.fd_model.specs.ClosedFamilies.{constrained}
 use Rattle.fd_model.specs.Levels.{Level, Levels}
 use Rattle.fd_model.specs.Models.{IsModel}
 use Rattle.heap_cells.specs.declared.Cell.{Cell}
 use Rattle.heap_cells.specs.Atoms.{IsAtomBelow, HasAtomsBelow}
 use Rattle.heap_cells.specs.Cells.{Cells, no_cells, Heaps, with_mark, IsOf}
-use Rattle.heap_cells.specs.Valid.{IsHeap}
+use Rattle.heap_cells.specs.HeapInvariant.{IsHeap}
 use Rattle.range_code.specs.Frames.{family_of}
-use Rattle.machine_frames.specs.Bounding.{IsBounded}
-use Rattle.machine_frames.specs.Environments.{cell_at}
-use Rattle.machine_frames.specs.Frames.{link_in}
+use Rattle.branch_lemmas.specs.VariableBounds.{IsBounded}
+use Rattle.branch_lemmas.specs.Environments.{cell_at}
+use Rattle.branch_lemmas.specs.Frames.{link_in}
 
 -- how many atoms cells may name, the greatest number that a variable may have, the heaps, and the levels of the store
 pub record State : Type 0 where
@@ -34,7 +34,8 @@ HasNoModel N ps = (T : Family) → IsModel INFINITY N [] ps T → ⊥
 abbrev pub HasBounds : ℕ → Level → Type 0
 HasBounds N l = (k : ℕ) → k < length l.sets → (N ≡ INFINITY → ⊥) → IsBounded N l.posted k
 
--- A heap and a level of the store belong together: each variable of the store that the heap has is the level's, and that of one heap's variable alone. What is posted names only the level's variables, bounds each of them, and it holds.
+-- A heap and a level of the store belong together: each variable of the store that the heap has is the level's, and that of one heap's variable alone. What is
+-- posted names only the level's variables, bounds each of them, and it holds.
 pub record IsPair (atoms N : ℕ) (h : Cells) (l : Level) : Type 0 where
   pub valid : IsHeap h
   pub names : HasAtomsBelow atoms h

@@ -3,8 +3,8 @@ use Rattle.std.specs.Prelude.{ℕ, ◌<◌, List, ◌++◌, length, All}
 use Rattle.fd_language.specs.Range.{Indexical}
 use Rattle.unify_core.specs.declared.Touch.{Touch}
 use Rattle.unify_core.specs.declared.Touch.TheVariants.{Value, Same}
-use Rattle.machine_relation.specs.Store.{posts}
-use Rattle.machine_frames.specs.Frames.{store_touches}
+use Rattle.branch_meaning.specs.Store.{posts}
+use Rattle.branch_lemmas.specs.Frames.{store_touches}
 use Rattle.branch_state.specs.States.{State}
 
 -- the touch is of variables of the store, of which there are so many

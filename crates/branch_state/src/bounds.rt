@@ -2,7 +2,7 @@
 
 ghost use Rattle.std.specs.Prelude.{◌≡◌, ◌≤◌, ◌-◌, ◌++◌, map, OnOk};
 ghost use Rattle.propagate_queue.specs.Instances.{posting};
-ghost use Rattle.branch_state.specs.Bounding.{bound_postings, new_postings};
+ghost use Rattle.branch_state.specs.VariableBounds.{bound_postings, new_postings};
 ghost use Rattle.branch_state.specs.Codes.{bound_range};
 
 use crate::posting::instance;

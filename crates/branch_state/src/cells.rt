@@ -8,13 +8,13 @@ ghost use Rattle.heap_cells.specs.Terms.{Naming};
 ghost use Rattle.indexmap.specs.IndexMap.{get};
 ghost use Rattle.range_code.specs.Slots.{slots_of};
 ghost use Rattle.heap_cells.specs.SeenTerms.{seen_term};
-ghost use Rattle.branch_state.specs.CellNaming.{shown_slots, IsFineGoal, IsFineSlot, TermStep, SlotStep, IsPrepared};
+ghost use Rattle.branch_state.specs.CellVariables.{shown_slots, IsFineGoal, IsFineSlot, TermStep, SlotStep, IsPrepared};
 ghost use Rattle.heap_cells.specs.SeenTerms.{HasLinksBelow};
 ghost use Rattle.range_code.specs.Frames.{family_of};
-ghost use Rattle.branch_state.specs.Naming.{LooksAs, CanName, OwnLinks, with_level_sets};
+ghost use Rattle.branch_state.specs.StoreVariables.{LooksAs, CanName, OwnLinks, with_level_sets};
 
-use crate::look::{Look, look_cell};
-use crate::naming::{Prepared, integer_of, name_look, number_arg};
+use crate::cell_looks::{Look, look_cell};
+use crate::store_variables::{Prepared, integer_of, name_look, number_arg};
 use fd_language::{Need, NoMemory};
 use heap_cells::{Cell, Heap};
 use indexmap::IndexMap;

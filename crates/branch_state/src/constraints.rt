@@ -2,22 +2,22 @@
 
 ghost use Rattle.std.specs.Prelude.{◌≡◌, ◌<◌, ◌≤◌, ◌-◌, None, Some, length, All, IfOk, OnErr, OnOk};
 ghost use Rattle.fd_language.specs.declared.TheConstants.{INFINITY};
-ghost use Rattle.fd_model.specs.Constraining.{expand as expanded, arguments as arguments_of};
+ghost use Rattle.fd_model.specs.ConstraintExpansion.{expand as expanded, arguments as arguments_of};
 ghost use Rattle.heap_cells.specs.Cells.{IsOf, with_now};
 ghost use Rattle.heap_cells.specs.Atoms.{IsAtomBelow, HasAtomsBelow};
-ghost use Rattle.heap_cells.specs.Valid.{IsHeap};
+ghost use Rattle.heap_cells.specs.HeapInvariant.{IsHeap};
 ghost use Rattle.heap_cells.specs.SeenTerms.{seen_term, HasLinksBelow};
 ghost use Rattle.range_code.specs.Frames.{family_of};
 ghost use Rattle.term_pool.specs.Contents.{name_in};
 ghost use Rattle.term_pool.specs.Terms.{term_of as pool_term, terms_by};
-ghost use Rattle.term_pool.specs.Valid.{IsPool};
+ghost use Rattle.term_pool.specs.PoolInvariant.{IsPool};
 ghost use Rattle.constraint_expand.specs.Faults.{fault_of as expansion_fault};
 ghost use Rattle.constraint_expand.specs.Views.{Expands};
 ghost use Rattle.branch_state.specs.Constraints.{firsts, store_variable, row_touches, with_variables, with_integers, AreFrom, AreOpen, AreLinked, AreWords, IsRowOf};
 ghost use Rattle.branch_state.specs.LinkedRows.{IsRowReady};
-ghost use Rattle.branch_state.specs.Naming.{OwnLinks, with_level_sets};
+ghost use Rattle.branch_state.specs.StoreVariables.{OwnLinks, with_level_sets};
 
-use crate::listing::{list_ranges, variable_of};
+use crate::posting_lists::{list_ranges, variable_of};
 use constraint_expand::{ExpandFault, Expansion, ListCause, expand};
 use fd_language::NoMemory;
 use fd_model::kinds::{ConstraintKind, QueryFault};

@@ -1,6 +1,6 @@
 //! What holds of every heap.
 
-ghost use Rattle.heap_cells.specs.Valid.{IsHeap};
+ghost use Rattle.heap_cells.specs.HeapInvariant.{IsHeap};
 
 use heap_cells::{Cell, Heap};
 

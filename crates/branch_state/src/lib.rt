@@ -2,18 +2,18 @@
 #![tactic(auto)]
 
 mod bounds;
+mod cell_looks;
 mod cells;
 mod codes;
 mod constraints;
 mod heap_facts;
-mod listing;
-mod look;
-mod naming;
 mod open_vars;
 mod posting;
-mod shown;
+mod posting_lists;
+mod shown_terms;
 mod state;
 mod step;
+mod store_variables;
 
 pub use crate::state::BranchState;
 pub use crate::step::Step;

@@ -3,10 +3,10 @@
 ghost use Rattle.std.specs.Prelude.{◌≡◌, ◌≤◌, ◌+◌, ◌++◌, false, length, OnOk};
 ghost use Rattle.fd_language.specs.declared.TheConstants.{INFINITY};
 ghost use Rattle.unify_core.specs.Outcome.{IfTrue, IfFalse};
-ghost use Rattle.branch_state.specs.Bounding.{new_bounds};
+ghost use Rattle.branch_state.specs.VariableBounds.{new_bounds};
 ghost use Rattle.branch_state.specs.Codes.{bound_range};
 ghost use Rattle.branch_state.specs.States.{HasNoModel};
-ghost use Rattle.branch_state.specs.Naming.{with_level_sets};
+ghost use Rattle.branch_state.specs.StoreVariables.{with_level_sets};
 ghost use Rattle.branch_state.specs.OpenSets.{with_open_sets};
 
 use crate::bounds::NewVars;

@@ -6,19 +6,19 @@ ghost use Rattle.propagate_queue.specs.Instances.{posting, posting_of, posted_by
 ghost use Rattle.propagate_queue.specs.Postings.{ranged, IsPosting};
 ghost use Rattle.unify_core.specs.Outcome.{IfTrue, IfFalse};
 ghost use Rattle.fd_language.specs.declared.TheConstants.{INFINITY};
-ghost use Rattle.branch_state.specs.Bounding.{new_bounds};
+ghost use Rattle.branch_state.specs.VariableBounds.{new_bounds};
 ghost use Rattle.branch_state.specs.Codes.{exact_range, same_range, bound_range};
 ghost use Rattle.range_code.specs.Frames.{IsFrame};
-ghost use Rattle.branch_state.specs.Naming.{goal_ranges};
+ghost use Rattle.branch_state.specs.StoreVariables.{goal_ranges};
 ghost use Rattle.branch_state.specs.Posting.{is_natural as natural, touch_postings, postings};
 ghost use Rattle.branch_state.specs.States.{IsSettled, HasNoModel};
 ghost use Rattle.branch_state.specs.Steps.{AreTouchesBelow};
-ghost use Rattle.machine_relation.specs.Store.{posts};
-ghost use Rattle.machine_frames.specs.Frames.{store_touches};
+ghost use Rattle.branch_meaning.specs.Store.{posts};
+ghost use Rattle.branch_lemmas.specs.Frames.{store_touches};
 
 use crate::bounds::{NewVars, add_new_bounds};
 use crate::constraints::Listed;
-use crate::naming::Prepared;
+use crate::store_variables::Prepared;
 use fd_language::{INFINITY as TOP, NoMemory};
 use propagate_queue::{Agenda, Instance, Posted, Store};
 use range_code::{Activations, Arg, RangeCode};

@@ -1,4 +1,4 @@
-mod Showing
+mod CellTops
 mod Remainders
-mod Evaluating
-mod Comparing
+mod Evaluations
+mod TermPairs

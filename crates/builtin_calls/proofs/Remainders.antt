@@ -1,5 +1,6 @@
 -- The remainder with the divisor's sign, from the one with the dividend's.
-use Rattle.std.proofs.Common.{◌≡◌, ℕ, zero, suc, ◌-◌, ◌%◌, ◌<◌, ℤ, pos, negsuc, neg_ℤ, ◌+ℤ◌, Bool, true, false, not, refl, ap, sym, ◌∙◌, subst, arith, ◌⊎◌, inl, inr}
+use Rattle.std.proofs.Common.{◌≡◌, ℕ, zero, suc, ◌-◌, ◌%◌, ◌<◌, ℤ, pos, negsuc, neg_ℤ, ◌+ℤ◌, Bool, true, false, not, refl, ap, sym, ◌∙◌, subst, arith, ◌⊎◌, inl}
+use Rattle.std.proofs.Common.{inr}
 use mathlib.Core.Bool.{beq}
 use lib.Signed.{lt_z, rem_z}
 use Rattle.std.proofs.Math.Nat.{suc-mod, zero-mod, mod_self, mod-eq_of_lt, mod-lt}

@@ -100,5 +100,6 @@ abbrev pub IsEntered : Cells → Family → Name → List Cell → List OpenOper
 IsEntered h G f args old (Ok t) new =
     ((c : Cell) × (args ≡ c ∷ []) × (bytes_eq f (codes "-") ≡ true) × (new ≡ old ++ Opposite ∷ []) × (t ≡ c))
     ⊎ (((c : Cell) × (d : Cell) × (o : Operation) × (args ≡ c ∷ d ∷ []) × (operation_of f ≡ Some o) × (new ≡ old ++ Left o d ∷ []) × (t ≡ c))
-    ⊎ ((c : Cell) × (d : Cell) × (o : Operation) × (z : ℤ) × (args ≡ c ∷ d ∷ []) × (operation_of f ≡ Some o) × ((name : Naming) → value_of (seen_term name h G c) ≡ Ok z) × (new ≡ old ++ Right o z ∷ []) × (t ≡ d)))
+    ⊎ ((c : Cell) × (d : Cell) × (o : Operation) × (z : ℤ) × (args ≡ c ∷ d ∷ []) × (operation_of f ≡ Some o)
+    × ((name : Naming) → value_of (seen_term name h G c) ≡ Ok z) × (new ≡ old ++ Right o z ∷ []) × (t ≡ d)))
 IsEntered h G f args old (Err e) new = (by : Cell → Term) → IsFault e (value_of (Comp f (terms_by by args)))

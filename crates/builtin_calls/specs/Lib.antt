@@ -1,6 +1,6 @@
 pub mod CellTops
-pub mod Passing
+pub mod TypeTests
 pub mod Outcomes
 pub mod Evaluations
-pub mod Identical
+pub mod Identity
 pub mod OpenOperations

@@ -10,7 +10,8 @@ use Rattle.builtin_calls.specs.declared.evaluation.EvalFault.TheVariants.{Unboun
 use Rattle.builtin_calls.specs.declared.evaluation.Named.{Named}
 use Rattle.builtin_calls.specs.declared.operations.Operation.{Operation}
 use Rattle.builtin_calls.specs.declared.operations.Operation.TheVariants.{Add, Subtract, Multiply, Divide, Modulo}
-use Rattle.fd_model.specs.Arithmetic.{unbound, not_a_number, overflow, zero_divisor, Value, integer_sum, integer_difference, integer_product, quotient_of, modulo_of}
+use Rattle.fd_model.specs.Arithmetic.{unbound, not_a_number, overflow, zero_divisor, Value, integer_sum, integer_difference, integer_product, quotient_of}
+use Rattle.fd_model.specs.Arithmetic.{modulo_of}
 
 -- the fault is that of the value; want of memory may come at any
 abbrev pub IsFault : EvalFault → Value → Type 0

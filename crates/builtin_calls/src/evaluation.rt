@@ -19,8 +19,8 @@ ghost use Rattle.heap_cells.specs.SeenTerms.{seen_term, HasLinksBelow};
 ghost use Rattle.builtin_calls.specs.CellTops.{IsSimple};
 ghost use Rattle.builtin_calls.specs.Evaluations.{IsEntered, IsOfHeap, IsOwn, IsOwnOperation, TellsStep, TellsDescent, TellsAscent};
 
+use crate::cell_views::{glance, look};
 use crate::operations::{OpenOperation, OpenOperations, Operation};
-use crate::reading::{glance, look};
 use domain_ranges::View;
 use heap_cells::{Cell, Heap, Seen};
 use std::alloc::{AllocError, Global};

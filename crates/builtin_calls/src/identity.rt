@@ -5,9 +5,9 @@ ghost use Rattle.domain_ranges.specs.Views.{family_of};
 ghost use Rattle.fd_language.specs.Family.{Family};
 ghost use Rattle.heap_cells.specs.Cells.{IsOf};
 ghost use Rattle.heap_cells.specs.SeenTerms.{HasLinksBelow};
-ghost use Rattle.builtin_calls.specs.Identical.{TellsIdentical, TellsShown, TellsPair, IsFlat, IsOwnPair, IsSettled, paired};
+ghost use Rattle.builtin_calls.specs.Identity.{TellsIdentical, TellsShown, TellsPair, IsFlat, IsOwnPair, IsSettled, paired};
 
-use crate::reading::look;
+use crate::cell_views::look;
 use domain_ranges::View;
 use fd_language::NoMemory;
 use heap_cells::{Cell, Heap, Seen};

@@ -3,10 +3,10 @@
 //! Terms are read through the sets of a store. A variable of the store whose set has one value counts as that integer.
 #![tactic(auto)]
 
+mod cell_views;
 mod evaluation;
 mod identity;
 mod operations;
-mod reading;
 mod type_tests;
 
 pub use evaluation::{EvalFault, eval};

@@ -5,9 +5,9 @@ ghost use Rattle.domain_ranges.specs.Views.{family_of};
 ghost use Rattle.heap_cells.specs.Cells.{IsOf};
 ghost use Rattle.heap_cells.specs.Terms.{Naming};
 ghost use Rattle.heap_cells.specs.SeenTerms.{seen_term, HasLinksBelow};
-ghost use Rattle.builtin_calls.specs.Passing.{passes};
+ghost use Rattle.builtin_calls.specs.TypeTests.{passes};
 
-use crate::reading::look;
+use crate::cell_views::look;
 use domain_ranges::View;
 use heap_cells::{Cell, Heap, Seen};
 

@@ -1,3 +1,4 @@
 -- The lemmas that other crates may cite, by their subjects. All else in proofs/ is this crate's own.
 -- One piece after another: what several calls of a source or of a sink come to.
-pub use Rattle.byte_ports.proofs.Pieces.{all_front, all_then, front_then, longer_front, longer_part, part_then, put_none, stays, took_more, took_none, wrote_no_part, wrote_nothing}
+pub use Rattle.byte_ports.proofs.Pieces.{all_front, all_then, front_then, longer_front, longer_part, part_then, put_none, stays, took_more, took_none}
+pub use Rattle.byte_ports.proofs.Pieces.{wrote_no_part, wrote_nothing}

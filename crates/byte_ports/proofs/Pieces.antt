@@ -1,5 +1,6 @@
 -- One piece after another: what several calls of a source or of a sink come to.
-use Rattle.std.proofs.Common.{◌≡◌, ℕ, ◌+◌, ◌-◌, ◌<◌, ◌≤◌, List, [], ◌++◌, Option, Some, None, refl, sym, ap, ◌∙◌, subst, append_assoc, append-nil, arith, take, drop, length, take_all, length-append, length-take-le, take-add, take-append-drop}
+use Rattle.std.proofs.Common.{◌≡◌, ℕ, ◌+◌, ◌-◌, ◌<◌, ◌≤◌, List, [], ◌++◌, Option, Some, None, refl, sym, ap, ◌∙◌, subst, append_assoc, append-nil, arith, take}
+use Rattle.std.proofs.Common.{drop, length, take_all, length-append, length-take-le, take-add, take-append-drop}
 use Rattle.std.proofs.lemmas.List.{take-append-le, drop-drop, take_rest}
 use Rattle.std.proofs.lemmas.Option.{same_Some}
 use Rattle.byte_ports.specs.Ports.{Took, ReadJust, ReadWithin, Put, PutPart, Rose}
@@ -26,21 +27,24 @@ pub took_no_more : (a b c : Option (List ℕ)) (p : List ℕ) → Took a b p →
 took_no_more a b c p h g = subst (Took a c) (append-nil p) (took_more a b c p [] h g)
 
 -- after a text, one byte more than the limit leaves was taken
-pub just_after : (a b c : Option (List ℕ)) (text buf : List ℕ) (n limit : ℕ) → length text ≤ limit → Took a b text → n ≤ length buf → Took b c (take n buf) → limit - length text < n → n ≤ (limit + 1) - length text → ReadJust a c (limit + 1)
+pub just_after : (a b c : Option (List ℕ)) (text buf : List ℕ) (n limit : ℕ) → length text ≤ limit → Took a b text → n ≤ length buf → Took b c (take n buf)
+    → limit - length text < n → n ≤ (limit + 1) - length text → ReadJust a c (limit + 1)
 just_after a b c text buf n limit s h w g l m =
     let k : length (text ++ take n buf) ≡ length text + length (take n buf) = length-append text (take n buf) in
     let f : length (take n buf) ≡ n = length-take-le n buf w in
     (text ++ take n buf, omega (arith, k), took_more a b c text (take n buf) h g)
 
 -- after a text, at most as many bytes as the limit leaves were taken
-pub within_after : (a b c : Option (List ℕ)) (text buf : List ℕ) (n limit : ℕ) → length text ≤ limit → Took a b text → n ≤ length buf → Took b c (take n buf) → n ≤ limit - length text → ReadWithin a c limit
+pub within_after : (a b c : Option (List ℕ)) (text buf : List ℕ) (n limit : ℕ) → length text ≤ limit → Took a b text → n ≤ length buf → Took b c (take n buf)
+    → n ≤ limit - length text → ReadWithin a c limit
 within_after a b c text buf n limit s h w g l =
     let k : length (text ++ take n buf) ≡ length text + length (take n buf) = length-append text (take n buf) in
     let f : length (take n buf) ≡ n = length-take-le n buf w in
     (text ++ take n buf, omega (arith, k), took_more a b c text (take n buf) h g)
 
 -- the n bytes that were put in front of a buffer stood at the place that was read, and are gone from what is left
-pub read_from : (left bytes held piece rest : List ℕ) (at n : ℕ) → left ≡ drop at bytes → held ≡ bytes → piece ≡ take ((at + n) - at) (drop at held) → length piece ≡ n → left ≡ take n (piece ++ rest) ++ drop (at + n) bytes
+pub read_from : (left bytes held piece rest : List ℕ) (at n : ℕ) → left ≡ drop at bytes → held ≡ bytes → piece ≡ take ((at + n) - at) (drop at held)
+    → length piece ≡ n → left ≡ take n (piece ++ rest) ++ drop (at + n) bytes
 read_from left bytes held piece rest at n e s f l =
     let front : take n (piece ++ rest) ≡ piece = rw (take-append-le n piece rest (omega arith)) (take_all n piece (omega arith)) in
     let back : drop n (drop at bytes) ≡ drop (at + n) bytes = drop-drop n at bytes in

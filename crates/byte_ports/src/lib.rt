@@ -2,15 +2,15 @@
 #![tactic(auto)]
 
 pub mod adapters;
+mod byte_buffer;
+mod fault_plan;
+pub mod infallible_ports;
 pub mod memory;
-mod plan;
 pub mod ports;
-mod shelf;
-pub mod small;
-pub mod sure;
+pub mod single_byte_ports;
 
 pub use adapters::{ReaderSource, WriterSink};
+pub use infallible_ports::{SureSink, SureSource};
 pub use memory::{MemorySink, MemorySource};
 pub use ports::{Failed, MAX_TEXT, ReadTextFault, Sink, Source, WriteFault, read_text, write_all};
-pub use small::{SmallSink, SmallSource};
-pub use sure::{SureSink, SureSource};
+pub use single_byte_ports::{SmallSink, SmallSource};

@@ -4,10 +4,10 @@ ghost use Rattle.std.specs.Prelude.{◌≡◌, ◌↔◌, ◌⊎◌, ◌-◌, �
 ghost use Rattle.byte_ports.specs.Parts.{MemorySourceParts, MemorySinkParts, FailsNext, unused, called, failed};
 ghost use Rattle.byte_ports.specs.Ports.{Rose};
 
-use crate::plan::Plan;
+use crate::byte_buffer::Shelf;
+use crate::fault_plan::Plan;
+use crate::infallible_ports::SureSource;
 use crate::ports::{Failed, Sink, Source};
-use crate::shelf::Shelf;
-use crate::sure::SureSource;
 use fd_language::NoMemory;
 use std::alloc::Global;
 use std::marker::Model;

@@ -1,5 +1,6 @@
 -- The number that digits spell, from left to right.
-use Rattle.std.proofs.Common.{◌≡◌, ℕ, ◌+◌, ◌*◌, ◌<◌, ◌≤◌, List, [], ◌∷◌, ◌++◌, Option, Some, None, Bool, true, false, cond, refl, sym, ap, subst, ◌∙◌, arith, length, drop, length-drop}
+use Rattle.std.proofs.Common.{◌≡◌, ℕ, ◌+◌, ◌*◌, ◌<◌, ◌≤◌, List, [], ◌∷◌, ◌++◌, Option, Some, None, Bool, true, false, cond, refl, sym, ap, subst, ◌∙◌, arith}
+use Rattle.std.proofs.Common.{length, drop, length-drop}
 use Rattle.std.specs.Prelude.{encode_utf8, nat_le, ◌==◌, ◌&&◌, ℤ, pos}
 use Rattle.std.specs.Char.{digit_value, len_utf8}
 use Rattle.std.specs.Str.{chars, IsUtf8}
@@ -9,7 +10,8 @@ use Rattle.std.proofs.lemmas.Str.{chars_past_char, chars-nil}
 use Rattle.std.proofs.Math.Nat.{mul-le-mul_left}
 use Rattle.fd_language.specs.Characters.{is_digit_of, starts_with, run_size, past_run, digits_value}
 use Rattle.fd_language.specs.Tokens as model
-use Rattle.fd_language.specs.Tokens.{Gap, Token, Offends, Integer, FloatOut, BadCharacter, IntegerTooWide, greatest_integer, has_fraction, number_front, decimal_front}
+use Rattle.fd_language.specs.Tokens.{Gap, Token, Offends, Integer, FloatOut, BadCharacter, IntegerTooWide, greatest_integer, has_fraction, number_front}
+use Rattle.fd_language.specs.Tokens.{decimal_front}
 use Rattle.char_tokens.specs.declared.front.Front.{Front}
 use Rattle.char_tokens.specs.declared.front.Front.TheVariants as fronts
 use Rattle.char_tokens.specs.Views.{next_integer, integer_of, front_is, kind_of, cause_of, IsBehind}
@@ -100,7 +102,8 @@ behind_number text rest (fronts.Token k n) v size e l r =
 behind_number text rest (fronts.Offends cause n) v size e l r = omega (arith, place_is (cause_of cause) (pos v) n size (nat_le v greatest_integer) e)
 
 -- past two characters and a number
-pub past_two : (text behind rest last : List ℕ) (size : ℕ) → IsAt text 1 behind → rest ≡ drop 1 behind → 1 ≤ length behind → last ≡ drop size rest → size ≤ length rest → (2 + size ≤ length text) × (last ≡ drop (2 + size) text)
+pub past_two : (text behind rest last : List ℕ) (size : ℕ) → IsAt text 1 behind → rest ≡ drop 1 behind → 1 ≤ length behind → last ≡ drop size rest
+    → size ≤ length rest → (2 + size ≤ length text) × (last ≡ drop (2 + size) text)
 past_two text behind rest last size i r l e w = (
   omega (arith, i.within, l, w, ap (λ (x : List ℕ). length x) r, ap (λ (x : List ℕ). length x) i.rest_is, length-drop 1 text, length-drop 1 behind),
   e ∙ ap (λ (x : List ℕ). drop size x) (r ∙ ap (λ (x : List ℕ). drop 1 x) i.rest_is ∙ drop-drop 1 1 text) ∙ drop-drop size 2 text,

@@ -1,6 +1,6 @@
 mod Runs
 mod Leads
 mod Digits
-mod Quoting
+mod QuotedAtoms
 mod NextTokens
 pub mod Lemmas

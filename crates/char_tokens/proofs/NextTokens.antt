@@ -1,22 +1,26 @@
 -- The tokens of a text, from left to right.
-use Rattle.std.proofs.Common.{◌≡◌, ◌∙◌, ◌+◌, ◌<◌, ◌≤◌, ◌++◌, ◌∷◌, [], ℕ, List, Bool, true, false, sym, ap, subst, refl, arith, length, drop, length-drop, append_assoc}
+use Rattle.std.proofs.Common.{◌≡◌, ◌∙◌, ◌+◌, ◌<◌, ◌≤◌, ◌++◌, ◌∷◌, [], ℕ, List, Bool, true, false, sym, ap, subst, refl, arith, length, drop, length-drop}
+use Rattle.std.proofs.Common.{append_assoc}
 use Rattle.std.specs.Prelude.{Option, Some, None, is_some}
-use Rattle.fd_language.specs.Tokens.{Cause, Lexeme, Gap, Token, HasTokens, HasFault, TokensOf, FaultOf, after_gap, after_token, past_gap, past_token, here, front_of}
+use Rattle.fd_language.specs.Tokens.{Cause, Lexeme, Gap, Token, HasTokens, HasFault, TokensOf, FaultOf, after_gap, after_token, past_gap, past_token, here}
+use Rattle.fd_language.specs.Tokens.{front_of}
 use Rattle.fd_language.proofs.Lemmas.{token_grows, front_empty, not_both, one_fault}
 use Rattle.char_tokens.specs.declared.token.Token as declared
 use Rattle.char_tokens.specs.declared.token.TokenFault.{TokenFault}
 use Rattle.char_tokens.specs.declared.token.TokenFault.TheVariants as faults
 use Rattle.char_tokens.specs.Views.{cause_of, lexemes, lexeme_of, IsFaultIn, IsFaultAt}
 use Rattle.char_tokens.specs.UnreadText.{Left}
-use Rattle.char_tokens.specs.Scanning.{AreGaps, no_gap, a_gap, IsNext, IsFaultNext, HasRead, Refuses, IsFirstFault, AreTokens}
+use Rattle.char_tokens.specs.NextTokens.{AreGaps, no_gap, a_gap, IsNext, IsFaultNext, HasRead, Refuses, IsFirstFault, AreTokens}
 
 -- ---- layout and comments
 
-pub gaps_tokens : {at : ℕ} {tight : Bool} {bytes : List ℕ} {from : ℕ} {late : Bool} {rest : List ℕ} {ts : List Lexeme} → AreGaps at tight bytes from late rest → HasTokens from late rest ts → HasTokens at tight bytes ts
+pub gaps_tokens : {at : ℕ} {tight : Bool} {bytes : List ℕ} {from : ℕ} {late : Bool} {rest : List ℕ} {ts : List Lexeme} → AreGaps at tight bytes from late rest
+    → HasTokens from late rest ts → HasTokens at tight bytes ts
 gaps_tokens no_gap h = h
 gaps_tokens (a_gap n e g) h = after_gap n e (gaps_tokens g h)
 
-pub gaps_fault : {at : ℕ} {tight : Bool} {bytes : List ℕ} {from : ℕ} {late : Bool} {rest : List ℕ} {cause : Cause} {place : ℕ} → AreGaps at tight bytes from late rest → HasFault from rest cause place → HasFault at bytes cause place
+pub gaps_fault : {at : ℕ} {tight : Bool} {bytes : List ℕ} {from : ℕ} {late : Bool} {rest : List ℕ} {cause : Cause} {place : ℕ}
+    → AreGaps at tight bytes from late rest → HasFault from rest cause place → HasFault at bytes cause place
 gaps_fault no_gap h = h
 gaps_fault (a_gap n e g) h = past_gap n e (gaps_fault g h)
 
@@ -25,7 +29,8 @@ gaps_shorter no_gap = omega arith
 gaps_shorter {bytes = bytes} (a_gap n e g) = omega (arith, gaps_shorter g, length-drop n bytes)
 
 -- one more of them
-pub gaps_more : {at : ℕ} {tight : Bool} {bytes : List ℕ} {from : ℕ} {late : Bool} {rest : List ℕ} (n : ℕ) → AreGaps at tight bytes from late rest → front_of rest ≡ Gap n → AreGaps at tight bytes (from + n) false (drop n rest)
+pub gaps_more : {at : ℕ} {tight : Bool} {bytes : List ℕ} {from : ℕ} {late : Bool} {rest : List ℕ} (n : ℕ) → AreGaps at tight bytes from late rest
+    → front_of rest ≡ Gap n → AreGaps at tight bytes (from + n) false (drop n rest)
 gaps_more n no_gap e = a_gap n e no_gap
 gaps_more n (a_gap m d g) e = a_gap m d (gaps_more n g e)
 
@@ -33,12 +38,15 @@ gaps_more n (a_gap m d g) e = a_gap m d (gaps_more n g e)
 
 pub next_tokens : (old new : Left) (l : Lexeme) (ts : List Lexeme) → IsNext old new l → HasTokens new.place true new.bytes ts → HasTokens old.place true old.bytes (l ∷ ts)
 next_tokens old new l ts i h =
-    let behind : HasTokens (l.place + i.size) true (drop i.size i.rest) ts = subst (λ (p : ℕ). HasTokens p true (drop i.size i.rest) ts) i.place (subst (λ (b : List ℕ). HasTokens new.place true b ts) i.bytes h) in
-    gaps_tokens i.gaps (subst (λ (t : List ℕ). HasTokens l.place l.tight i.rest (record { kind = l.kind; text = t; place = l.place; tight = l.tight } ∷ ts)) (sym i.text) (after_token l.kind i.size i.front behind))
+    let behind : HasTokens (l.place + i.size) true (drop i.size i.rest) ts = subst (λ (p : ℕ). HasTokens p true (drop i.size i.rest) ts) i.place
+    (subst (λ (b : List ℕ). HasTokens new.place true b ts) i.bytes h) in
+    gaps_tokens i.gaps (subst (λ (t : List ℕ). HasTokens l.place l.tight i.rest (record { kind = l.kind; text = t; place = l.place; tight = l.tight } ∷ ts))
+    (sym i.text) (after_token l.kind i.size i.front behind))
 
 pub next_fault : (old new : Left) (l : Lexeme) (cause : Cause) (place : ℕ) → IsNext old new l → HasFault new.place new.bytes cause place → HasFault old.place old.bytes cause place
 next_fault old new l cause place i h =
-    let behind : HasFault (l.place + i.size) (drop i.size i.rest) cause place = subst (λ (p : ℕ). HasFault p (drop i.size i.rest) cause place) i.place (subst (λ (b : List ℕ). HasFault new.place b cause place) i.bytes h) in
+    let behind : HasFault (l.place + i.size) (drop i.size i.rest) cause place = subst (λ (p : ℕ). HasFault p (drop i.size i.rest) cause place) i.place
+    (subst (λ (b : List ℕ). HasFault new.place b cause place) i.bytes h) in
     gaps_fault i.gaps (past_token l.kind i.size i.front behind)
 
 some_bytes : (bytes : List ℕ) (l : Lexeme) (n : ℕ) → front_of bytes ≡ Token l.kind n → 0 < length bytes
@@ -46,7 +54,14 @@ some_bytes [] l n e = let no = sym front_empty ∙ e in absurd cc
 some_bytes (b ∷ bytes) l n e = omega arith
 
 pub next_shorter : (old new : Left) (l : Lexeme) → IsNext old new l → length new.bytes < length old.bytes
-next_shorter old new l i = omega (arith, gaps_shorter i.gaps, some_bytes i.rest l i.size i.front, token_grows i.rest l.kind i.size i.front, ap (λ (b : List ℕ). length b) i.bytes, length-drop i.size i.rest)
+next_shorter old new l i = omega (
+  arith,
+  gaps_shorter i.gaps,
+  some_bytes i.rest l i.size i.front,
+  token_grows i.rest l.kind i.size i.front,
+  ap (λ (b : List ℕ). length b) i.bytes,
+  length-drop i.size i.rest,
+)
 
 pub fault_is : (left : Left) (cause : Cause) (place : ℕ) → IsFaultNext left cause place → HasFault left.place left.bytes cause place
 fault_is left cause place i = subst (HasFault left.place left.bytes cause) (sym i.is) (gaps_fault i.gaps (here cause i.offset i.front))
@@ -77,7 +92,8 @@ pub no_list : (text : List ℕ) (left : Left) (found : List Lexeme) (f : TokenFa
 no_list text left found (faults.At place cause) c h ts k = absurd (not_both k (c.faults (cause_of cause) place (fault_is left (cause_of cause) place h)))
 no_list text left found faults.NoMemory c h ts k = absurd h
 
-pub only_fault : (text : List ℕ) (left : Left) (found : List Lexeme) (f : TokenFault) → Completes text left found → Refuses left f → (cause : Cause) (place : ℕ) → FaultOf text cause place → IsFaultAt cause place f
+pub only_fault : (text : List ℕ) (left : Left) (found : List Lexeme) (f : TokenFault) → Completes text left found → Refuses left f → (cause : Cause) (place : ℕ)
+    → FaultOf text cause place → IsFaultAt cause place f
 only_fault text left found (faults.At at why) c h cause place k = one_fault (c.faults (cause_of why) at (fault_is left (cause_of why) at h)) k
 only_fault text left found faults.NoMemory c h cause place k = absurd h
 

@@ -1,5 +1,6 @@
 -- Runs of characters, from left to right.
-use Rattle.std.proofs.Common.{◌≡◌, ℕ, ◌+◌, ◌<◌, ◌≤◌, List, [], ◌∷◌, ◌++◌, length, drop, Bool, true, false, refl, sym, ap, subst, eqb-true, ◌∙◌, arith, length-append, length-drop}
+use Rattle.std.proofs.Common.{◌≡◌, ℕ, ◌+◌, ◌<◌, ◌≤◌, List, [], ◌∷◌, ◌++◌, length, drop, Bool, true, false, refl, sym, ap, subst, eqb-true, ◌∙◌, arith}
+use Rattle.std.proofs.Common.{length-append, length-drop}
 use Rattle.std.specs.Prelude.{encode_utf8, ◌==◌, ◌&&◌}
 use Rattle.std.specs.Char.{len_utf8}
 use Rattle.std.specs.Str.{chars, IsUtf8, encode_utf8_all, all_scalars}

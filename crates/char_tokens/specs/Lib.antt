@@ -1,3 +1,3 @@
 pub mod Views
 pub mod UnreadText
-pub mod Scanning
+pub mod NextTokens

@@ -1,5 +1,6 @@
 -- What the crate's types stand for.
-use Rattle.std.specs.Prelude.{◌≡◌, ◌==◌, ◌&&◌, ℕ, ◌+◌, ◌*◌, ◌^◌, ◌<◌, ◌≤◌, List, [], ◌∷◌, Bool, true, map, Option, Some, None, nat_le, if◌then◌else◌, length, drop}
+use Rattle.std.specs.Prelude.{◌≡◌, ◌==◌, ◌&&◌, ℕ, ◌+◌, ◌*◌, ◌^◌, ◌<◌, ◌≤◌, List, [], ◌∷◌, Bool, true, map, Option, Some, None, nat_le, if◌then◌else◌, length}
+use Rattle.std.specs.Prelude.{drop}
 use Rattle.std.specs.Str.{chars, IsUtf8}
 use Rattle.unicode_ident.specs.Ident.{is_xid_start, is_xid_continue}
 use Rattle.fd_language.specs.Characters.{is_layout, is_symbol, is_solo, is_punct, begins_variable, not_newline, is_digit_of, starts_with, tail}
@@ -17,10 +18,10 @@ use Rattle.char_tokens.specs.declared.front.Front.{Front}
 use Rattle.char_tokens.specs.declared.front.Front.TheVariants as fronts
 use Rattle.char_tokens.specs.declared.front.Lead.{Lead}
 use Rattle.char_tokens.specs.declared.front.Lead.TheVariants as leads
-use Rattle.char_tokens.specs.declared.quoted.Inside.{Inside}
-use Rattle.char_tokens.specs.declared.quoted.Inside.TheVariants as places
-use Rattle.char_tokens.specs.declared.quoted.Step.{Step}
-use Rattle.char_tokens.specs.declared.quoted.Step.TheVariants as steps
+use Rattle.char_tokens.specs.declared.quotation.Inside.{Inside}
+use Rattle.char_tokens.specs.declared.quotation.Inside.TheVariants as places
+use Rattle.char_tokens.specs.declared.quotation.Step.{Step}
+use Rattle.char_tokens.specs.declared.quotation.Step.TheVariants as steps
 
 -- the runs that a token or a comment is made of
 abbrev pub passes : Class → ℕ → Bool

@@ -8,7 +8,7 @@ ghost use Rattle.char_tokens.specs.Views as Views;
 use crate::characters::{Class, ends_stop, run_behind};
 use crate::comment::comment;
 use crate::number::integer;
-use crate::quoted::quoted;
+use crate::quotation::quoted;
 use crate::token::{Kind, TokenCause};
 use name_syntax::characters::{
     begins_variable, begins_word, first_char, is_layout, is_punct, is_solo, is_symbol, starts_with,

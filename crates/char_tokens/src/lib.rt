@@ -8,11 +8,11 @@ mod characters;
 mod comment;
 mod front;
 mod number;
-mod quoted;
+mod quotation;
 mod scanner;
 mod token;
 
-pub use quoted::unquote;
+pub use quotation::unquote;
 pub use scanner::{Scanner, tokens};
 pub use token::{Kind, Token, TokenCause, TokenFault};
 

@@ -5,7 +5,7 @@ ghost use Rattle.std.specs.Str.{IsUtf8};
 ghost use Rattle.fd_language.specs.TokenSlices.{AreSlices};
 ghost use Rattle.fd_language.specs.Tokens as Tokens;
 ghost use Rattle.char_tokens.specs.Views.{lexeme_of, lexemes, IsFaultIn, IsFaultAt};
-ghost use Rattle.char_tokens.specs.Scanning.{AreTokens, HasRead, IsFirstFault, IsNext, Refuses};
+ghost use Rattle.char_tokens.specs.NextTokens.{AreTokens, HasRead, IsFirstFault, IsNext, Refuses};
 
 use crate::front::{Front, front_of};
 use crate::token::{Token, TokenFault};

@@ -69,12 +69,17 @@ module _ (N : ℕ) (s : Sentences) (old new : Parts) (x : Sentence) (grown : IsG
   counted n e = e ∙ sym (length-map x.names.items (atom_name c))
 
   -- of a clause with this head, whose goals are these
-  clause_added : (form : refusals.Form) (h : TermId) (k : FlatClause) (body : List model.Goal) → clause_refusal INFINITY N (terms_of s) (placed_of c x.term) form ≡ None → head_refusal (placed_of c h) ≡ None
+  clause_added : (form : refusals.SentenceKind) (h : TermId) (k : FlatClause) (body : List model.Goal)
+      → clause_refusal INFINITY N (terms_of s) (placed_of c x.term) form ≡ None → head_refusal (placed_of c h) ≡ None
       → h.number < length c.entries → k.head ≡ h → k.variables ≡ length x.names.items → IsPart size k.body → part_of trees k.body ≡ body
       → clauses_by N names form [] ≡ clause_of names (placed_of c h) body ∷ [] → queries_by N names form [] ≡ []
       → new.clauses.items ≡ old.clauses.items ++ k ∷ [] → new.queries.items ≡ old.queries.items → AddsForm N s old new names (placed_of c x.term) form
   clause_added form h k body a n l head count part goals clauses queries added same =
-      let mine : IsClause c size k = record { head = subst (λ (t : TermId). t.number < length c.entries) (sym head) l; named = subst (λ (t : TermId). IsNamed (term_of c t)) (sym head) (head_named c h n); body = part } in
+      let mine : IsClause c size k = record {
+        head = subst (λ (t : TermId). t.number < length c.entries) (sym head) l;
+        named = subst (λ (t : TermId). IsNamed (term_of c t)) (sym head) (head_named c h n);
+        body = part;
+      } in
       record {
         accepted = a;
         grown = grown;
@@ -86,16 +91,19 @@ module _ (N : ℕ) (s : Sentences) (old new : Parts) (x : Sentence) (grown : IsG
         clauses = All-cons (IsClause c size) k [] mine (All-nil (IsClause c size));
         queries = All-nil (IsQueryWithin c size);
         clauses_are = ap (λ (y : model.Clause). y ∷ [])
-            (same_clause k.variables (length names) (term_of c k.head) (plain (placed_of c h)) (part_of trees k.body) body (counted k.variables count) (ap (term_of c) head ∙ sym (plain_placed c h)) goals)
+            (same_clause k.variables (length names) (term_of c k.head) (plain (placed_of c h)) (part_of trees k.body) body (counted k.variables count)
+            (ap (term_of c) head ∙ sym (plain_placed c h)) goals)
             ∙ sym clauses;
         queries_are = sym queries;
       }
 
-  pub fact_added : (h : TermId) (k : FlatClause) → head_refusal (placed_of c h) ≡ None → h.number < length c.entries → k.head ≡ h → k.variables ≡ length x.names.items → IsPart size k.body → part_of trees k.body ≡ []
+  pub fact_added : (h : TermId) (k : FlatClause) → head_refusal (placed_of c h) ≡ None → h.number < length c.entries → k.head ≡ h
+      → k.variables ≡ length x.names.items → IsPart size k.body → part_of trees k.body ≡ []
       → new.clauses.items ≡ old.clauses.items ++ k ∷ [] → new.queries.items ≡ old.queries.items → AddsForm N s old new names (placed_of c x.term) (refusals.fact (placed_of c h))
   fact_added h k n l head count part goals added same = clause_added (refusals.fact (placed_of c h)) h k [] n n l head count part goals refl refl added same
 
-  pub rule_added : (h b : TermId) (k : FlatClause) → head_refusal (placed_of c h) ≡ None → h.number < length c.entries → k.head ≡ h → k.variables ≡ length x.names.items → IsRead N s old.store new.store (placed_of c b) k.body
+  pub rule_added : (h b : TermId) (k : FlatClause) → head_refusal (placed_of c h) ≡ None → h.number < length c.entries → k.head ≡ h
+      → k.variables ≡ length x.names.items → IsRead N s old.store new.store (placed_of c b) k.body
       → new.clauses.items ≡ old.clauses.items ++ k ∷ [] → new.queries.items ≡ old.queries.items → AddsForm N s old new names (placed_of c x.term) (refusals.clause (placed_of c h) (placed_of c b))
   rule_added h b k n l head count read added same =
       clause_added (refusals.clause (placed_of c h) (placed_of c b)) h k (body_of N (placed_of c b))

@@ -19,13 +19,14 @@ use Rattle.clause_check.specs.declared.goals.Task.{Task}
 use Rattle.clause_check.specs.declared.goals.Task.TheVariants.{Visit, Turn, Join, Deny}
 use Rattle.clause_check.specs.declared.goals.GoalStore.{GoalStore}
 use Rattle.clause_check.specs.Causes.{RefusedBy}
-use Rattle.clause_check.specs.GoalStores.{stored, pending_in, IsStore, IsGrown, IsClosed, start_in, IsTask, IsStack, done, all_done, ahead, all_ahead, total_weight, IsTaken, IsRead}
+use Rattle.clause_check.specs.GoalStores.{stored, pending_in, IsStore, IsGrown, IsClosed, start_in, IsTask, IsStack, done, all_done, ahead, all_ahead}
+use Rattle.clause_check.specs.GoalStores.{total_weight, IsTaken, IsRead}
 use Rattle.clause_check.specs.Programs.{trees}
 use Rattle.clause_check.specs.Terms.{terms_of}
-use Rattle.clause_check.proofs.Closing.{closed}
+use Rattle.clause_check.proofs.PendingGoals.{closed}
 use Rattle.clause_check.proofs.FlatGoals.{part_later, trees_length, trees_more, trees_ranges}
 use Rattle.clause_check.proofs.SentenceLists.{refused_by_first}
-use Rattle.clause_check.proofs.Taking.{IsSame, same_store, same_stored, same_pending, same_grown, grown_trans}
+use Rattle.clause_check.proofs.BodyTasks.{IsSame, same_store, same_stored, same_pending, same_grown, grown_trans}
 use Rattle.clause_check.proofs.Tasks.{stack_pop, done_append, all_done_more, ahead_append, weight-nil, weight-cons, weight-append, goals_refusal-append}
 
 -- Each goal that is read is accepted, and the tasks make the goals of the body of those that are pending.
@@ -46,7 +47,8 @@ grown_stored c old new k g =
     (wide.0, two (trees c) g.ranges.1 g.goals.1 ∙ wide.1 ∙ ap (λ (xs : List model.Goal). xs ++ wide.0) (trees_ranges c rs g.ranges.0 gs k.goals))
 
 -- the body is read when no task is left
-pub read_whole : (N : ℕ) (s : Sentences) (old g mid new : GoalStore) (body : PlacedTerm) (a : Part) → IsReading N s old body g → g.tasks.items ≡ [] → IsSame g mid → IsClosed 0 mid new a → IsRead N s old new body a
+pub read_whole : (N : ℕ) (s : Sentences) (old g mid new : GoalStore) (body : PlacedTerm) (a : Part) → IsReading N s old body g → g.tasks.items ≡ []
+    → IsSame g mid → IsClosed 0 mid new a → IsRead N s old new body a
 read_whole N s old g mid new body a r none same h =
     let c = s.pool in
     let store = same_store c g mid same r.store in
@@ -98,7 +100,8 @@ module _ (N : ℕ) (s : Sentences) (old : GoalStore) (body : PlacedTerm) (g mid 
 
   -- its refusal is the body's
   pub pop_refused : (e : Fault) → RefusedBy c (goals_refusal INFINITY N (terms_of s) (ahead c task)) e → RefusedBy c (goals_refusal INFINITY N (terms_of s) (goals_of body)) e
-  pop_refused e h = subst (λ (o : Option refusals.Refusal). RefusedBy c o e) (sym looked) (refused_by_first c (goals_refusal INFINITY N (terms_of s) (ahead c task)) (goals_refusal INFINITY N (terms_of s) (all_ahead c rest)) e h)
+  pop_refused e h = subst (λ (o : Option refusals.Refusal). RefusedBy c o e) (sym looked)
+      (refused_by_first c (goals_refusal INFINITY N (terms_of s) (ahead c task)) (goals_refusal INFINITY N (terms_of s) (all_ahead c rest)) e h)
 
   module _ (new : GoalStore) (h : IsTaken N s mid new task) where
     -- there is less to do
@@ -126,7 +129,8 @@ module _ (N : ℕ) (s : Sentences) (old : GoalStore) (body : PlacedTerm) (g mid 
     task_later (Join j start a) k = part_later c (length mid.goals.items) (length new.goals.items) a grown_size k
 
     tasks_later : All (IsTask c (length new.goals.items)) rest
-    tasks_later = All-weaker (IsTask c (length mid.goals.items)) (IsTask c (length new.goals.items)) task_later rest (subst (λ (gs : List FlatGoal). All (IsTask c (length gs)) rest) (sym p.same.goals) popped.0)
+    tasks_later = All-weaker (IsTask c (length mid.goals.items)) (IsTask c (length new.goals.items)) task_later rest
+        (subst (λ (gs : List FlatGoal). All (IsTask c (length gs)) rest) (sym p.same.goals) popped.0)
 
     step_goals : all_done N c (stored c new) new.tasks.items (pending_in c new) ≡ body_of N body
     step_goals =

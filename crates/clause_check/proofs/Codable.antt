@@ -1,5 +1,6 @@
 -- There is code for the program of accepted sentences.
-use Rattle.std.proofs.Common.{◌≡◌, ℕ, zero, suc, ◌≤◌, Bool, true, false, cond, nat_lt, List, [], ◌∷◌, ◌++◌, map, drop, Option, Some, None, refl, sym, ap, ◌∙◌, subst, arith}
+use Rattle.std.proofs.Common.{◌≡◌, ℕ, zero, suc, ◌≤◌, Bool, true, false, cond, nat_lt, List, [], ◌∷◌, ◌++◌, map, drop, Option, Some, None, refl, sym, ap, ◌∙◌}
+use Rattle.std.proofs.Common.{subst, arith}
 use Rattle.fd_language.specs.Term.{Name, term_count}
 use Rattle.std.proofs.lemmas.Bool.{ltb-false}
 use Rattle.std.specs.Str.{bytes_eq}
@@ -12,12 +13,16 @@ use Rattle.fd_language.specs.Lists.{Each}
 use Rattle.fd_language.specs.Reading.{Sentence}
 use Rattle.fd_language.specs.Spelling.{least_place}
 use Rattle.fd_model.specs.Forms.{GoalForm, truth, failure, unification, posting, cutting, constraint, labelling, optimum, builtin, forms, form_in}
-use Rattle.fd_model.specs.Refusals.{Form, query, clause, directive, fact, form_of, Functor, functor_of, second_part, part_count, most_arguments, wide_places, wide_places_of, too_wide, clause_refusal, sentence_refusal, first_refusal}
-use Rattle.fd_model.specs.Queries.{first_part, goal_by_form, goal_named, form_of_functor, goal_of, best_of, followed, either_way, body_goals, is_shown, shown_from, queries_by, queries_of, clauses_by, clauses_of, program_of}
-use Rattle.fd_model.specs.Goal.{Goals, no_goals, goal, listed, True, Fail, Unify, Post, Constrain, Label, Call, Either, Builtin, Cut, If, IfElse, Not, Best, Clause, Query}
+use Rattle.fd_model.specs.Refusals.{SentenceKind, query, clause, directive, fact, form_of, Functor, functor_of, second_part, part_count, most_arguments}
+use Rattle.fd_model.specs.Refusals.{wide_places, wide_places_of, too_wide, clause_refusal, sentence_refusal, first_refusal}
+use Rattle.fd_model.specs.Queries.{first_part, goal_by_form, goal_named, form_of_functor, goal_of, best_of, followed, either_way, body_goals, is_shown}
+use Rattle.fd_model.specs.Queries.{shown_from, queries_by, queries_of, clauses_by, clauses_of, program_of}
+use Rattle.fd_model.specs.Goal.{Goals, no_goals, goal, listed, True, Fail, Unify, Post, Constrain, Label, Call, Either, Builtin, Cut, If, IfElse, Not, Best}
+use Rattle.fd_model.specs.Goal.{Clause, Query}
 use Rattle.term_reader.specs.GivenParts.{AreSome, HasParts, EachHasParts}
 use Rattle.clause_check.proofs.FormNames.{counted}
-use Rattle.clause_check.specs.Codable.{IsNarrow, AreNarrow, is_named, IsCodableGoal, AreCodableGoals, EachCodable, ClausesCodable, AreOnce, QueriesCodable, IsCodable}
+use Rattle.clause_check.specs.Codable.{IsNarrow, AreNarrow, is_named, IsCodableGoal, AreCodableGoals, EachCodable, ClausesCodable, AreOnce, QueriesCodable}
+use Rattle.clause_check.specs.Codable.{IsCodable}
 
 -- ---- terms
 
@@ -180,7 +185,7 @@ listed_codable (goal g gs) h = (h.0, listed_codable gs h.1)
 
 -- ---- sentences
 
-abbrev FormNarrow : Form → Type 0
+abbrev FormNarrow : SentenceKind → Type 0
 FormNarrow (query b) = AsTerm b
 FormNarrow (clause h b) = AsTerm h × AsTerm b
 FormNarrow directive = Unit {0}
@@ -221,11 +226,11 @@ once n (name ∷ names) =
     let later = once (suc n) names in
     either AreOnce (is_shown name) (n ∷ shown_from (suc n) names) (shown_from (suc n) names) (once_with n (shown_from (suc n) names) (shown_rise (suc n) names) later) later
 
-query_codable : (N : ℕ) (s : Sentence) (form : Form) (later : List Query) → FormNarrow form → QueriesCodable later → QueriesCodable (queries_by N s.names form later)
+query_codable : (N : ℕ) (s : Sentence) (form : SentenceKind) (later : List Query) → FormNarrow form → QueriesCodable later → QueriesCodable (queries_by N s.names form later)
 query_codable N s (query b) later h g = ((once 0 s.names, listed_codable (body_goals N b) (body_codable N b h)), g)
 query_codable N s _ later h g = g
 
-clause_codable : (N : ℕ) (s : Sentence) (form : Form) (later : List Clause) → FormNarrow form → ClausesCodable later → ClausesCodable (clauses_by N s.names form later)
+clause_codable : (N : ℕ) (s : Sentence) (form : SentenceKind) (later : List Clause) → FormNarrow form → ClausesCodable later → ClausesCodable (clauses_by N s.names form later)
 clause_codable N s (query b) later h g = g
 clause_codable N s (clause t b) later h g = ((h.0, listed_codable (body_goals N b) (body_codable N b h.1)), g)
 clause_codable N s directive later h g = g

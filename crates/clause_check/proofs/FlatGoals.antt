@@ -1,11 +1,13 @@
 -- The goals of a program by their numbers.
-use Rattle.std.proofs.Common.{◌≡◌, ℕ, suc, ◌+◌, ◌<◌, ◌≤◌, ◌-◌, ◌⊎◌, inl, inr, List, [], ◌∷◌, ◌++◌, length, map, take, drop, refl, sym, ap, ◌∙◌, subst, arith, get_or, length-append, append-nil, Option, Some, None}
+use Rattle.std.proofs.Common.{◌≡◌, ℕ, suc, ◌+◌, ◌<◌, ◌≤◌, ◌-◌, ◌⊎◌, inl, inr, List, [], ◌∷◌, ◌++◌, length, map, take, drop, refl, sym, ap, ◌∙◌, subst, arith}
+use Rattle.std.proofs.Common.{get_or, length-append, append-nil, Option, Some, None}
 use Rattle.std.specs.Prelude.{All}
 use Rattle.std.specs.List.{AllByRecursion}
 use Rattle.std.proofs.lemmas.Bool.{cases_lt}
 use Rattle.std.proofs.lemmas.List.Elements.{All-weaker, All-from_get_or, recursion_from_All}
 use Rattle.fd_language.proofs.Lemmas.{two}
-use Rattle.std.proofs.lemmas.List.{ext_get_or, get_or-map, length-map, take-map, drop-map, length-take-le, drop_all, drop-take, drop-drop, take-take, take-append-drop, get_or-take, append_assoc, get_or_append_left, take-append-le, length-take}
+use Rattle.std.proofs.lemmas.List.{ext_get_or, get_or-map, length-map, take-map, drop-map, length-take-le, drop_all, drop-take, drop-drop, take-take}
+use Rattle.std.proofs.lemmas.List.{take-append-drop, get_or-take, append_assoc, get_or_append_left, take-append-le, length-take}
 use Rattle.std.proofs.Math.Seq.{get_or-append_seam, get_or-append_right, drop-cons}
 use Rattle.fd_language.specs.Range.{Range}
 use Rattle.fd_language.specs.Spelling.{empty_range}
@@ -16,7 +18,8 @@ use Rattle.term_pool.specs.Terms.{term_of}
 use Rattle.clause_check.specs.declared.program.Part.{Part}
 use Rattle.clause_check.specs.declared.program.FlatGoal.{FlatGoal}
 use Rattle.clause_check.specs.declared.program.FlatGoal.TheVariants.{True, Fail, Unify, Post, Constrain, Label, Call, Either, Builtin, Cut, If, Not, Best}
-use Rattle.clause_check.specs.Programs.{FlatProgram, unlisted, between, part_of, tree_of, trees_from, trees, goal_tree, goals_between, goal_in, goal_at, IsGoal, AreGoals, IsPart, IsOtherPart, IsProgram}
+use Rattle.clause_check.specs.Programs.{FlatProgram, unlisted, between, part_of, tree_of, trees_from, trees, goal_tree, goals_between, goal_in, goal_at, IsGoal}
+use Rattle.clause_check.specs.Programs.{AreGoals, IsPart, IsOtherPart, IsProgram}
 
 -- A list made goals is that list again.
 pub listed_unlisted : (gs : List model.Goal) → listed (unlisted gs) ≡ gs
@@ -57,7 +60,8 @@ same_part goals more n a h l = let u = h.within in ap unlisted (part_more goals 
 -- ---- trees
 
 module _ (c : Contents) where
-  tree_more : (ranges : List Range) (goals more : List model.Goal) (n : ℕ) (g : FlatGoal) → IsGoal c (length ranges) n g → n ≤ length goals → tree_of c ranges (goals ++ more) g ≡ tree_of c ranges goals g
+  tree_more : (ranges : List Range) (goals more : List model.Goal) (n : ℕ) (g : FlatGoal) → IsGoal c (length ranges) n g → n ≤ length goals
+      → tree_of c ranges (goals ++ more) g ≡ tree_of c ranges goals g
   tree_more ranges goals more n True h l = refl
   tree_more ranges goals more n Fail h l = refl
   tree_more ranges goals more n (Unify s t) h l = refl
@@ -68,13 +72,15 @@ module _ (c : Contents) where
   tree_more ranges goals more n (Either a b) h l =
       let first = part_more goals more a.from a.to (let u = h.0.within in omega (arith, u, l)) in
       let second = part_more goals more b.from b.to (let u = h.1.within in omega (arith, u, l)) in
-      ap (λ (gs : List model.Goal). model.Either (unlisted gs) (unlisted (part_of (goals ++ more) b))) first ∙ ap (λ (gs : List model.Goal). model.Either (unlisted (part_of goals a)) (unlisted gs)) second
+      ap (λ (gs : List model.Goal). model.Either (unlisted gs) (unlisted (part_of (goals ++ more) b))) first
+      ∙ ap (λ (gs : List model.Goal). model.Either (unlisted (part_of goals a)) (unlisted gs)) second
   tree_more ranges goals more n (Builtin k t) h l = refl
   tree_more ranges goals more n Cut h l = refl
   tree_more ranges goals more n (If a b None) h l = two model.If (same_part goals more n a h.0 l) (same_part goals more n b h.1 l)
   tree_more ranges goals more n (If a b (Some o)) h l =
       let rest : Goals = unlisted (part_of (goals ++ more) o) in
-      two (λ x y. model.IfElse x y rest) (same_part goals more n a h.0 l) (same_part goals more n b h.1 l) ∙ ap (model.IfElse (unlisted (part_of goals a)) (unlisted (part_of goals b))) (same_part goals more n o h.2 l)
+      two (λ x y. model.IfElse x y rest) (same_part goals more n a h.0 l) (same_part goals more n b h.1 l)
+      ∙ ap (model.IfElse (unlisted (part_of goals a)) (unlisted (part_of goals b))) (same_part goals more n o h.2 l)
   tree_more ranges goals more n (Not a) h l = ap model.Not (same_part goals more n a h l)
   tree_more ranges goals more n (Best o least t u) h l = refl
 
@@ -126,7 +132,8 @@ module _ (c : Contents) where
   trees_push ranges goals g = from_split ranges [] goals (g ∷ [])
 
   -- the tree of a goal, by those before it
-  pub tree_at : (ranges : List Range) (goals : List FlatGoal) → AreGoals c (length ranges) goals → (i : ℕ) → i < length goals → get_or (trees c ranges goals) i model.True ≡ tree_of c ranges (trees c ranges goals) (get_or goals i True)
+  pub tree_at : (ranges : List Range) (goals : List FlatGoal) → AreGoals c (length ranges) goals → (i : ℕ) → i < length goals
+      → get_or (trees c ranges goals) i model.True ≡ tree_of c ranges (trees c ranges goals) (get_or goals i True)
   tree_at ranges goals h i l =
       let x = get_or goals i True in
       let before = trees c ranges (take i goals) in
@@ -151,7 +158,8 @@ module _ (c : Contents) where
       (λ i l. let k : i < length goals = omega (arith, l, long) in tree_at ranges goals h i k ∙ sym (get_or-map (tree_of c ranges base) goals i True model.True k))
 
   -- what the goals of a part stand for
-  pub part_trees : (ranges : List Range) (goals : List FlatGoal) (a : Part) → AreGoals c (length ranges) goals → part_of (trees c ranges goals) a ≡ map (tree_of c ranges (trees c ranges goals)) (drop a.from (take a.to goals))
+  pub part_trees : (ranges : List Range) (goals : List FlatGoal) (a : Part) → AreGoals c (length ranges) goals
+      → part_of (trees c ranges goals) a ≡ map (tree_of c ranges (trees c ranges goals)) (drop a.from (take a.to goals))
   part_trees ranges goals a h =
       let f = tree_of c ranges (trees c ranges goals) in
       ap (λ (gs : List model.Goal). part_of gs a) (all_trees ranges goals h) ∙ ap (drop a.from) (take-map f a.to goals) ∙ drop-map f a.from (take a.to goals)
@@ -202,7 +210,8 @@ module _ (c : Contents) where
       two (λ (x : model.Goal) (xs : List model.Goal). x ∷ xs) (tree_more ranges base extra n g h.0 l) (each_more ranges base extra n l gs h.1)
 
   -- what goals stand for stays when more goals come
-  pub same_trees : (ranges : List Range) (base extra : List model.Goal) (gs : List FlatGoal) → All (IsGoal c (length ranges) (length base)) gs → map (tree_of c ranges (base ++ extra)) gs ≡ map (tree_of c ranges base) gs
+  pub same_trees : (ranges : List Range) (base extra : List model.Goal) (gs : List FlatGoal) → All (IsGoal c (length ranges) (length base)) gs
+      → map (tree_of c ranges (base ++ extra)) gs ≡ map (tree_of c ranges base) gs
   same_trees ranges base extra gs h = each_more ranges base extra (length base) (omega arith) gs (recursion_from_All (IsGoal c (length ranges) (length base)) gs h)
 
   each_range : (ranges more : List Range) (goals : List model.Goal) (n : ℕ) (gs : List FlatGoal) → AllByRecursion (IsGoal c (length ranges) n) gs
@@ -212,16 +221,19 @@ module _ (c : Contents) where
       two (λ (x : model.Goal) (xs : List model.Goal). x ∷ xs) (tree_ranges ranges more goals n g h.0) (each_range ranges more goals n gs h.1)
 
   -- and when more ranges come
-  pub same_ranges : (ranges more : List Range) (goals : List model.Goal) (n : ℕ) (gs : List FlatGoal) → All (IsGoal c (length ranges) n) gs → map (tree_of c (ranges ++ more) goals) gs ≡ map (tree_of c ranges goals) gs
+  pub same_ranges : (ranges more : List Range) (goals : List model.Goal) (n : ℕ) (gs : List FlatGoal) → All (IsGoal c (length ranges) n) gs
+      → map (tree_of c (ranges ++ more) goals) gs ≡ map (tree_of c ranges goals) gs
   same_ranges ranges more goals n gs h = each_range ranges more goals n gs (recursion_from_All (IsGoal c (length ranges) n) gs h)
 
   abbrev Known : ℕ → FlatGoal → Type 0
   Known r g = (n : ℕ) × IsGoal c r n g
 
-  from_ranges : (ranges more : List Range) (before : List model.Goal) (gs : List FlatGoal) → AllByRecursion (Known (length ranges)) gs → trees_from c (ranges ++ more) before gs ≡ trees_from c ranges before gs
+  from_ranges : (ranges more : List Range) (before : List model.Goal) (gs : List FlatGoal) → AllByRecursion (Known (length ranges)) gs
+      → trees_from c (ranges ++ more) before gs ≡ trees_from c ranges before gs
   from_ranges ranges more before [] h = refl
   from_ranges ranges more before (g ∷ gs) h =
-      ap (λ (x : model.Goal). trees_from c (ranges ++ more) (before ++ x ∷ []) gs) (tree_ranges ranges more before h.0.0 g h.0.1) ∙ from_ranges ranges more (before ++ tree_of c ranges before g ∷ []) gs h.1
+      ap (λ (x : model.Goal). trees_from c (ranges ++ more) (before ++ x ∷ []) gs) (tree_ranges ranges more before h.0.0 g h.0.1)
+      ∙ from_ranges ranges more (before ++ tree_of c ranges before g ∷ []) gs h.1
 
   -- more ranges keep the trees
   pub trees_ranges : (ranges more : List Range) (goals : List FlatGoal) → AreGoals c (length ranges) goals → trees c (ranges ++ more) goals ≡ trees c ranges goals
@@ -242,7 +254,8 @@ module _ (c : Contents) where
       ∙ append_assoc (base ++ extra) (y ∷ []) rest
 
   -- the trees of goals behind the others, which name no parts of one another
-  pub trees_append : (ranges : List Range) (goals gs : List FlatGoal) → All (IsGoal c (length ranges) (length goals)) gs → trees c ranges (goals ++ gs) ≡ trees c ranges goals ++ map (tree_of c ranges (trees c ranges goals)) gs
+  pub trees_append : (ranges : List Range) (goals gs : List FlatGoal) → All (IsGoal c (length ranges) (length goals)) gs
+      → trees c ranges (goals ++ gs) ≡ trees c ranges goals ++ map (tree_of c ranges (trees c ranges goals)) gs
   unfolding trees
   trees_append ranges goals gs h =
       let base = trees_from c ranges [] goals in

@@ -11,8 +11,8 @@ use Rattle.fd_language.specs.PlacedTerm.{PlacedTerm, PlacedTerms, var, int, atom
 use Rattle.fd_model.specs.Forms.{GoalForm, constraint, builtin, forms, form_in, form_named, joining_names, built_in_names, is_named}
 use Rattle.fd_model.specs.Refusals as refusals
 use Rattle.fd_model.specs.Refusals.{functor, functor_of}
-use Rattle.clause_check.specs.declared.forms.Form.{Form}
-use Rattle.clause_check.specs.declared.forms.Form.TheVariants.{Truth, Failure, Cut, Unification, Posting, Constraint, Labelling, Optimum, Builtin}
+use Rattle.clause_check.specs.declared.forms.GoalKind.{GoalKind}
+use Rattle.clause_check.specs.declared.forms.GoalKind.TheVariants.{Truth, Failure, Cut, Unification, Posting, Constraint, Labelling, Optimum, Builtin}
 use Rattle.fd_model.specs.Arities.{constraint_arity, builtin_arity}
 use Rattle.fd_language.specs.Term.{term_count}
 use Rattle.clause_check.specs.Programs.{HasArguments}
@@ -28,12 +28,13 @@ named_rows (row ∷ rows) a = pick (bytes_eq a row.0) (named_rows rows a)
     pick true e = refl
     pick false e = e
 
-seen_some : (o : Option Form) → is_some o ≡ is_some (option_map form_seen o)
+seen_some : (o : Option GoalKind) → is_some o ≡ is_some (option_map form_seen o)
 seen_some None = refl
 seen_some (Some f) = refl
 
 -- a name that joins no bodies is built in where it is that of a form
-pub built_in_by : (name : Name) (arity : ℕ) (o : Option Form) → is_named (joining_names arity) name ≡ false → option_map form_seen o ≡ form_named name arity → is_some o ≡ is_named (built_in_names arity) name
+pub built_in_by : (name : Name) (arity : ℕ) (o : Option GoalKind) → is_named (joining_names arity) name ≡ false → option_map form_seen o ≡ form_named name arity
+    → is_some o ≡ is_named (built_in_names arity) name
 built_in_by name arity o e f =
     seen_some o ∙ ap (λ (x : Option GoalForm). is_some x) f ∙ sym (named_rows (forms arity) name)
     ∙ sym (list_any-append (bytes_eq name) (joining_names arity) (map (λ row. row.0) (forms arity)) ∙ ap (λ (b : Bool). b || is_named (map (λ row. row.0) (forms arity)) name) e)
@@ -73,7 +74,7 @@ functor_arguments (int z p) f e = absurd (cc)
 functor_arguments (atom a p) f e = let same : functor a 0 ≡ f = cc in sym (ap (λ (g : refusals.Functor). g.arity) same)
 functor_arguments (comp a p ts) f e = let same : functor a (refusals.part_count ts) ≡ f = cc in counted ts ∙ ap (λ (g : refusals.Functor). g.arity) same
 
-arity_by : (n : ℕ) (form : Form) (t : Term) → has_arity n (form_seen form) ≡ true → HasArguments n t → HasFormArity form t
+arity_by : (n : ℕ) (form : GoalKind) (t : Term) → has_arity n (form_seen form) ≡ true → HasArguments n t → HasFormArity form t
 arity_by n Truth t e h = tt
 arity_by n Failure t e h = tt
 arity_by n Cut t e h = tt
@@ -85,5 +86,5 @@ arity_by n (Optimum least) t e h = tt
 arity_by n (Builtin k) t e h = let same : n ≡ builtin_arity k = grind (arith, nat_tests) in subst (λ (m : ℕ). HasArguments m t) same h
 
 -- a goal of the language has as many arguments as its form
-pub form_arguments : (x : PlacedTerm) (f : refusals.Functor) (form : Form) → functor_of x ≡ Some f → form_named f.name f.arity ≡ Some (form_seen form) → HasFormArity form (plain x)
+pub form_arguments : (x : PlacedTerm) (f : refusals.Functor) (form : GoalKind) → functor_of x ≡ Some f → form_named f.name f.arity ≡ Some (form_seen form) → HasFormArity form (plain x)
 form_arguments x f form e k = arity_by f.arity form (plain x) (found f.arity (forms f.arity) f.name (form_seen form) (table f.arity) k) (functor_arguments x f e)

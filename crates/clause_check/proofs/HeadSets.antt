@@ -1,5 +1,6 @@
 -- The functors of the heads of a text, as a set.
-use Rattle.std.proofs.Common.{◌≡◌, ◌≢◌, ℕ, ◌<◌, ◌⊎◌, inl, inr, Bool, true, false, cond, List, [], ◌∷◌, ◌++◌, Option, Some, None, length, refl, sym, ap, ◌∙◌, arith}
+use Rattle.std.proofs.Common.{◌≡◌, ◌≢◌, ℕ, ◌<◌, ◌⊎◌, inl, inr, Bool, true, false, cond, List, [], ◌∷◌, ◌++◌, Option, Some, None, length, refl, sym, ap, ◌∙◌}
+use Rattle.std.proofs.Common.{arith}
 use Rattle.std.specs.Prelude.{◌==◌, ◌&&◌, ◌||◌}
 use Rattle.std.specs.List.{list_any}
 use Rattle.std.specs.Str.{bytes_eq}
@@ -13,7 +14,7 @@ use Rattle.fd_model.specs.Refusals as refusals
 use Rattle.fd_model.specs.Refusals.{is_that, is_defined, head_in, form_of}
 use Rattle.term_pool.specs.declared.AtomId.{AtomId}
 use Rattle.term_pool.specs.Contents.{Contents, atom_name}
-use Rattle.term_pool.specs.Valid.{IsPool}
+use Rattle.term_pool.specs.PoolInvariant.{IsPool}
 use Rattle.term_pool.proofs.Lemmas.{same_text}
 use Rattle.term_reader.proofs.Lemmas.{same_id}
 use Rattle.indexmap.specs.IndexSet.{insert_key}
@@ -40,7 +41,8 @@ equal : (f g : Functor) → same_numbers f g ≡ true → f ≡ g
 equal f g e =
     let names : f.name.number ≡ g.name.number = (let t = (and_parts (f.name.number == g.name.number) (f.arity == g.arity) e).0 in grind (arith, nat_tests)) in
     let arities : f.arity ≡ g.arity = (let t = (and_parts (f.name.number == g.name.number) (f.arity == g.arity) e).1 in grind (arith, nat_tests)) in
-    ap (λ (a : AtomId). let made : Functor = record { name = a; arity = f.arity } in made) (same_id f.name g.name names) ∙ ap (λ (n : ℕ). let made : Functor = record { name = g.name; arity = n } in made) arities
+    ap (λ (a : AtomId). let made : Functor = record { name = a; arity = f.arity } in
+    made) (same_id f.name g.name names) ∙ ap (λ (n : ℕ). let made : Functor = record { name = g.name; arity = n } in made) arities
 
 -- what is among them when one more is put to them
 any_insert : (heads : List Functor) (f g : Functor) → list_any (same_numbers f) (insert_key same_numbers heads g) ≡ (list_any (same_numbers f) heads || same_numbers f g)
@@ -64,7 +66,8 @@ module _ (c : Contents) (terms : List PlacedTerm) (heads : List Functor) (x : Pl
 
   -- that has no head
   pub heads_same : IsFunctor c head None → AreHeadsOf c (terms ++ x ∷ []) heads
-  heads_same e f l = h f l ∙ sym (defined_more (functor_in c f) ∙ ap (λ (o : Option refusals.Functor). is_defined terms (functor_in c f) || is_that (functor_in c f) o) e ∙ or-false (is_defined terms (functor_in c f)))
+  heads_same e f l = h f l ∙ sym (defined_more (functor_in c f)
+      ∙ ap (λ (o : Option refusals.Functor). is_defined terms (functor_in c f) || is_that (functor_in c f) o) e ∙ or-false (is_defined terms (functor_in c f)))
 
   -- whose head has a functor
   pub heads_more : IsPool c → (g : Functor) → IsFunctor c head (Some g) → AreHeadsOf c (terms ++ x ∷ []) (insert_key same_numbers heads g)

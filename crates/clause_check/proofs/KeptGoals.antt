@@ -1,5 +1,6 @@
 -- What is kept of a goal.
-use Rattle.std.proofs.Common.{◌≡◌, ℕ, Bool, ◌+◌, ◌<◌, List, [], ◌∷◌, ◌++◌, Option, Some, None, length, sym, ap, ◌∙◌, subst, arith, length-append, append-nil, IsTrue}
+use Rattle.std.proofs.Common.{◌≡◌, ℕ, Bool, ◌+◌, ◌<◌, List, [], ◌∷◌, ◌++◌, Option, Some, None, length, sym, ap, ◌∙◌, subst, arith, length-append, append-nil}
+use Rattle.std.proofs.Common.{IsTrue}
 use Rattle.std.proofs.lemmas.List.Elements.{All-push}
 use Rattle.std.proofs.Math.Seq.{get_or-append_seam}
 use Rattle.fd_model.proofs.Lemmas.{later_none, unoffended}
@@ -74,11 +75,13 @@ module _ (N : ℕ) (c : Contents) (ranges : List Range) where
       let found : best_of least (form_of_functor (functor_of (placed_of c g))) (placed_of c g) cost ≡ model.Best o least (plain (first_part (placed_of c g))) (plain cost) =
       ap (λ (f : Option GoalForm). best_of least f (placed_of c g) cost) e in
       keeps_same (goal_by_form N (optimum least) x) (Best o least t u) (λ n. (k.0, l.0))
-      (λ goals. ap (λ (v : Term). model.Best o least v (term_of c u)) (part_term (first_part (placed_of c g)) t k) ∙ ap (model.Best o least (plain (first_part (placed_of c g)))) (part_term cost u l) ∙ sym found ∙ named)
+      (λ goals. ap (λ (v : Term). model.Best o least v (term_of c u)) (part_term (first_part (placed_of c g)) t k)
+      ∙ ap (model.Best o least (plain (first_part (placed_of c g)))) (part_term cost u l) ∙ sym found ∙ named)
 
   -- the goal names the last range
   pub keeps_post : (new : List Range) (x : PlacedTerm) (t r : TermId) (n : ℕ) (range : Range) → IsPartOf c (first_part x) t → IsPartOf c (second_part x) r
-      → (range_refusal INFINITY N (placed_of c r) ≡ None) × (range ≡ (read_range N (placed_of c r)).tree) → n ≡ length ranges → new ≡ ranges ++ range ∷ [] → KeepsGoal c ranges new (goal_by_form N posting x) (Post t n)
+      → (range_refusal INFINITY N (placed_of c r) ≡ None) × (range ≡ (read_range N (placed_of c r)).tree) → n ≡ length ranges → new ≡ ranges ++ range ∷ []
+      → KeepsGoal c ranges new (goal_by_form N posting x) (Post t n)
   keeps_post new x t r n range h k e count is =
       let size : length new ≡ length ranges + 1 = ap length is ∙ length-append ranges (range ∷ []) in
       let here : range_in new n ≡ range = ap (range_in new) count ∙ ap (λ (rs : List Range). range_in rs (length ranges)) is ∙ get_or-append_seam ranges range [] empty_range in
@@ -91,7 +94,8 @@ module _ (N : ℕ) (c : Contents) (ranges : List Range) where
       }
 
   -- a user goal
-  pub keeps_call : (t : TermId) (f : refusals.Functor) → t.number < length c.entries → functor_of (placed_of c t) ≡ Some f → form_named f.name f.arity ≡ None → KeepsGoal c ranges ranges (goal_of N (placed_of c t)) (Call t)
+  pub keeps_call : (t : TermId) (f : refusals.Functor) → t.number < length c.entries → functor_of (placed_of c t) ≡ Some f → form_named f.name f.arity ≡ None
+      → KeepsGoal c ranges ranges (goal_of N (placed_of c t)) (Call t)
   keeps_call t f l e n =
       let x = placed_of c t in
       let called : goal_of N x ≡ model.Call (plain x) = ap (λ (o : Option refusals.Functor). goal_named N (form_of_functor o) x) e ∙ ap (λ (o : Option GoalForm). goal_named N o x) n in

@@ -8,7 +8,7 @@ use Rattle.fd_language.proofs.Lemmas.{two}
 use Rattle.fd_language.specs.Reading as reading
 use Rattle.fd_model.specs.Goal as model
 use Rattle.fd_model.specs.Queries.{query_of, queries_by, queries_of, clause_of, clauses_by, clauses_of, body_of}
-use Rattle.fd_model.specs.Refusals.{Form, query, clause, directive, fact, form_of}
+use Rattle.fd_model.specs.Refusals.{SentenceKind, query, clause, directive, fact, form_of}
 use Rattle.term_pool.specs.Contents.{Contents, atom_name}
 use Rattle.term_pool.specs.Terms.{term_of}
 use Rattle.term_reader.specs.declared.reader.Sentence.{Sentence}
@@ -18,7 +18,7 @@ use Rattle.clause_check.specs.declared.program.FlatGoal.{FlatGoal}
 use Rattle.clause_check.specs.declared.program.FlatClause.{FlatClause}
 use Rattle.clause_check.specs.declared.check.Parts.{Parts}
 use Rattle.clause_check.specs.GoalStores.{stored}
-use Rattle.clause_check.specs.Parts.{IsQueryWithin, queries_kept, StandsFor, AddsSentence}
+use Rattle.clause_check.specs.Parts.{IsQueryWithin, queries_kept, KeepsSentences, AddsSentence}
 use Rattle.clause_check.specs.Programs.{FlatQuery, clause_by, query_by, query_kept, IsClause}
 use Rattle.clause_check.proofs.FlatGoals.{part_later, part_more, trees_length}
 use Rattle.clause_check.proofs.BodyWalk.{grown_stored}
@@ -30,7 +30,8 @@ clauses_append : (N : ℕ) (xs : List reading.Sentence) (x : reading.Sentence) �
 clauses_append N [] x = refl
 clauses_append N (y ∷ ys) x = by_form (form_of y.term) (clauses_append N ys x)
   where
-    by_form : (f : Form) → clauses_of N (ys ++ x ∷ []) ≡ clauses_of N ys ++ clauses_by N x.names (form_of x.term) [] → clauses_by N y.names f (clauses_of N (ys ++ x ∷ [])) ≡ clauses_by N y.names f (clauses_of N ys) ++ clauses_by N x.names (form_of x.term) []
+    by_form : (f : SentenceKind) → clauses_of N (ys ++ x ∷ []) ≡ clauses_of N ys ++ clauses_by N x.names (form_of x.term) []
+        → clauses_by N y.names f (clauses_of N (ys ++ x ∷ [])) ≡ clauses_by N y.names f (clauses_of N ys) ++ clauses_by N x.names (form_of x.term) []
     by_form (query b) h = h
     by_form (clause a b) h = ap (λ (ks : List model.Clause). clause_of y.names a (body_of N b) ∷ ks) h
     by_form directive h = h
@@ -40,7 +41,8 @@ queries_append : (N : ℕ) (xs : List reading.Sentence) (x : reading.Sentence) �
 queries_append N [] x = refl
 queries_append N (y ∷ ys) x = by_form (form_of y.term) (queries_append N ys x)
   where
-    by_form : (f : Form) → queries_of N (ys ++ x ∷ []) ≡ queries_of N ys ++ queries_by N x.names (form_of x.term) [] → queries_by N y.names f (queries_of N (ys ++ x ∷ [])) ≡ queries_by N y.names f (queries_of N ys) ++ queries_by N x.names (form_of x.term) []
+    by_form : (f : SentenceKind) → queries_of N (ys ++ x ∷ []) ≡ queries_of N ys ++ queries_by N x.names (form_of x.term) []
+        → queries_by N y.names f (queries_of N (ys ++ x ∷ [])) ≡ queries_by N y.names f (queries_of N ys) ++ queries_by N x.names (form_of x.term) []
     by_form (query b) h = ap (λ (qs : List model.Query). query_of N y.names b ∷ qs) h
     by_form (clause a b) h = h
     by_form directive h = h
@@ -60,7 +62,8 @@ module _ (c : Contents) (goals more : List model.Goal) (n : ℕ) (l : n ≤ leng
   clauses_same [] h = refl
   clauses_same (k ∷ ks) h =
       two (λ (x : model.Clause) (xs : List model.Clause). x ∷ xs)
-      (ap (λ (gs : List model.Goal). let x : model.Clause = record { variables = k.variables; head = term_of c k.head; body = gs } in x) (part_more goals more k.body.from k.body.to (let u = h.0.body.within in omega (arith, u, l))))
+      (ap (λ (gs : List model.Goal). let x : model.Clause = record { variables = k.variables; head = term_of c k.head; body = gs } in
+      x) (part_more goals more k.body.from k.body.to (let u = h.0.body.within in omega (arith, u, l))))
       (clauses_same ks h.1)
 
   queries_same : (qs : List FlatQuery) → AllByRecursion (IsQueryWithin c n) qs → map (query_by c (goals ++ more)) qs ≡ map (query_by c goals) qs
@@ -72,8 +75,9 @@ module _ (c : Contents) (goals more : List model.Goal) (n : ℕ) (l : n ≤ leng
 
 -- ---- one sentence more
 
-pub stands_more : (N : ℕ) (s : Sentences) (old new : Parts) (i : ℕ) (d : Sentence) → i < length s.list.items → d ≡ get_or s.list.items i d → StandsFor N s.pool old (take i s.list.items) → AddsSentence N s old new d
-    → StandsFor N s.pool new (take (i + 1) s.list.items)
+pub stands_more : (N : ℕ) (s : Sentences) (old new : Parts) (i : ℕ) (d : Sentence) → i < length s.list.items → d ≡ get_or s.list.items i d
+    → KeepsSentences N s.pool old (take i s.list.items) → AddsSentence N s old new d
+    → KeepsSentences N s.pool new (take (i + 1) s.list.items)
 stands_more N s old new i d h e k added =
     let c = s.pool in
     let a = added.adds in

@@ -1,8 +1,8 @@
 pub mod Lemmas
 mod FlatGoals
 mod AddedForms
-mod Closing
-mod Joining
+mod PendingGoals
+mod JoinedGoals
 mod FormNames
 mod HeadSets
 mod KeptGoals
@@ -13,7 +13,7 @@ mod SentenceForms
 mod Programs
 mod BodyWalk
 mod ShownVariables
-mod Taking
+mod BodyTasks
 mod Tasks
 mod TermShapes
 mod WidePlaces

@@ -12,8 +12,8 @@ use Rattle.fd_language.specs.Reading as reading
 use Rattle.fd_language.specs.declared.TheConstants.{INFINITY}
 use Rattle.fd_model.specs.Goal as model
 use Rattle.fd_model.specs.Queries.{is_shown, shown_from, queries_by, queries_of, program_of}
-use Rattle.fd_model.specs.Refusals.{Form, query, clause, directive, fact, form_of, first_refusal}
-use Rattle.fd_model.specs.Sound.{NumbersBelow, QueriesScoped, IsScoped, IsRunnableProgram}
+use Rattle.fd_model.specs.Refusals.{SentenceKind, query, clause, directive, fact, form_of, first_refusal}
+use Rattle.fd_model.specs.RunnablePrograms.{NumbersBelow, QueriesScoped, IsScoped, IsRunnableProgram}
 use Rattle.fd_model.proofs.Lemmas.{clauses_scoped, queries_scoped, accepted_runnable}
 use Rattle.term_pool.specs.Contents.{Contents, atom_name}
 use Rattle.term_pool.specs.Terms.{term_of}
@@ -26,7 +26,7 @@ use Rattle.term_reader.specs.VariableNames.{VariablesBelow, AllVariablesBelow, H
 use Rattle.term_reader.proofs.Lemmas.{plain_placed}
 use Rattle.clause_check.specs.declared.check.Parts.{Parts}
 use Rattle.clause_check.specs.GoalStores.{stored}
-use Rattle.clause_check.specs.Parts.{IsQueryWithin, StandsFor, queries_kept}
+use Rattle.clause_check.specs.Parts.{IsQueryWithin, KeepsSentences, queries_kept}
 use Rattle.clause_check.specs.Programs.{FlatQuery, FlatProgram, query_by, program_in, IsQuery, IsProgram}
 use Rattle.clause_check.specs.Codable.{IsCodable}
 use Rattle.clause_check.specs.Terms.{terms_of}
@@ -77,11 +77,13 @@ shown_count : (n : ℕ) (names : List Name) → length (filter is_shown names) �
 shown_count n [] = refl
 shown_count n (name ∷ names) = pick (is_shown name) (shown_count (suc n) names)
   where
-    pick : (b : Bool) → length (filter is_shown names) ≡ length (shown_from (suc n) names) → length (cond b (name ∷ filter is_shown names) (filter is_shown names)) ≡ length (cond b (n ∷ shown_from (suc n) names) (shown_from (suc n) names))
+    pick : (b : Bool) → length (filter is_shown names) ≡ length (shown_from (suc n) names)
+        → length (cond b (name ∷ filter is_shown names) (filter is_shown names)) ≡ length (cond b (n ∷ shown_from (suc n) names) (shown_from (suc n) names))
     pick true e = ap suc e
     pick false e = e
 
-form_many : (N : ℕ) (names : List Name) (f : Form) (later : List model.Query) → Each (λ q. length q.names ≡ length q.shown) later → Each (λ q. length q.names ≡ length q.shown) (queries_by N names f later)
+form_many : (N : ℕ) (names : List Name) (f : SentenceKind) (later : List model.Query) → Each (λ q. length q.names ≡ length q.shown) later
+    → Each (λ q. length q.names ≡ length q.shown) (queries_by N names f later)
 form_many N names (query b) later h = (shown_count 0 names, h)
 form_many N names (clause a b) later h = h
 form_many N names directive later h = h
@@ -97,7 +99,7 @@ abbrev pub program_kept : Contents → Parts → FlatProgram
 program_kept c p = record { pool = c; ranges = p.store.ranges.items; goals = p.store.goals.items; clauses = p.clauses.items; queries = queries_kept p }
 
 -- it is that of the sentences
-pub program_is : (N : ℕ) (s : Sentences) (p : Parts) → StandsFor N s.pool p s.list.items → program_in (program_kept s.pool p) ≡ program_of N (sentences_of s)
+pub program_is : (N : ℕ) (s : Sentences) (p : Parts) → KeepsSentences N s.pool p s.list.items → program_in (program_kept s.pool p) ≡ program_of N (sentences_of s)
 program_is N s p k = two (λ (ks : List model.Clause) (qs : List model.Query). let made : model.Program = record { clauses = ks; queries = qs } in made) k.clauses_are k.queries_are
 
 terms_are : (c : Contents) (ss : List Sentence) → map (λ x. x.term) (map (sentence_of c) ss) ≡ map (λ x. placed_of c x.term) ss
@@ -109,7 +111,8 @@ each_parts c [] h = tt
 each_parts c (s ∷ ss) h = (h.0, each_parts c ss h.1)
 
 -- what is kept of all sentences is a program
-pub kept_program : (N : ℕ) (s : Sentences) (p : Parts) → AreOwn s → HaveNames s → HaveParts s → first_refusal INFINITY N (terms_of s) (terms_of s) ≡ None → StandsFor N s.pool p s.list.items → IsProgram (program_kept s.pool p)
+pub kept_program : (N : ℕ) (s : Sentences) (p : Parts) → AreOwn s → HaveNames s → HaveParts s → first_refusal INFINITY N (terms_of s) (terms_of s) ≡ None
+    → KeepsSentences N s.pool p s.list.items → IsProgram (program_kept s.pool p)
 kept_program N s p own named parts a k =
     let c = s.pool in
     let ss = sentences_of s in

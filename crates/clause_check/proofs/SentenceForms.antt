@@ -19,7 +19,8 @@ no_place : (o : Option ℕ) → ((p : ℕ) → o ≡ Some p → ⊥) → o ≡ N
 no_place None h = refl
 no_place (Some p) h = absurd (h p refl)
 
-module _ (N : ℕ) (s : Sentences) (x : Sentence) (o : Option ℕ) (found form : SentenceForm) (wide : IsWidePlace (placed_of s.pool x.term) o) (none : (p : ℕ) → o ≡ Some p → ⊥) (is : form_of (placed_of s.pool x.term) ≡ form_in s.pool found) (same : found ≡ form) where
+module _ (N : ℕ) (s : Sentences) (x : Sentence) (o : Option ℕ) (found form : SentenceForm) (wide : IsWidePlace (placed_of s.pool x.term) o) (none : (p : ℕ)
+    → o ≡ Some p → ⊥) (is : form_of (placed_of s.pool x.term) ≡ form_in s.pool found) (same : found ≡ form) where
   abbrev t : PlacedTerm
   t = placed_of s.pool x.term
 

@@ -45,9 +45,11 @@ all_split s i d h e =
 first_append : (N : ℕ) (all xs ys : List PlacedTerm) → first_refusal INFINITY N all (xs ++ ys) ≡ or_later (first_refusal INFINITY N all xs) (first_refusal INFINITY N all ys)
 first_append N all [] ys = refl
 first_append N all (x ∷ xs) ys =
-    ap (or_later (sentence_refusal INFINITY N all x)) (first_append N all xs ys) ∙ sym (or_later-assoc (sentence_refusal INFINITY N all x) (first_refusal INFINITY N all xs) (first_refusal INFINITY N all ys))
+    ap (or_later (sentence_refusal INFINITY N all x)) (first_append N all xs ys)
+    ∙ sym (or_later-assoc (sentence_refusal INFINITY N all x) (first_refusal INFINITY N all xs) (first_refusal INFINITY N all ys))
 
-refused_first : (N : ℕ) (c : Contents) (all before later : List PlacedTerm) (x : PlacedTerm) (e : Fault) → first_refusal INFINITY N all before ≡ None → RefusedBy c (sentence_refusal INFINITY N all x) e
+refused_first : (N : ℕ) (c : Contents) (all before later : List PlacedTerm) (x : PlacedTerm) (e : Fault) → first_refusal INFINITY N all before ≡ None
+    → RefusedBy c (sentence_refusal INFINITY N all x) e
     → RefusedBy c (first_refusal INFINITY N all (before ++ x ∷ later)) e
 refused_first N c all before later x e n h =
     let rest = or_later (sentence_refusal INFINITY N all x) (first_refusal INFINITY N all later) in
@@ -62,7 +64,8 @@ refused_at_sentence N s i d e h is n r =
     (refused_first N s.pool (terms_of s) (front s i) (map (term_in s) (drop (suc i) s.list.items)) (term_in s d) e n r)
 
 -- one sentence more that is accepted
-pub accepted_more : (N : ℕ) (s : Sentences) (i : ℕ) (d : Sentence) → i < length s.list.items → d ≡ get_or s.list.items i d → first_refusal INFINITY N (terms_of s) (front s i) ≡ None → sentence_refusal INFINITY N (terms_of s) (term_in s d) ≡ None
+pub accepted_more : (N : ℕ) (s : Sentences) (i : ℕ) (d : Sentence) → i < length s.list.items → d ≡ get_or s.list.items i d
+    → first_refusal INFINITY N (terms_of s) (front s i) ≡ None → sentence_refusal INFINITY N (terms_of s) (term_in s d) ≡ None
     → first_refusal INFINITY N (terms_of s) (front s (i + 1)) ≡ None
 accepted_more N s i d h is n a =
     let all = terms_of s in

@@ -1,5 +1,6 @@
 -- The variables that answers show.
-use Rattle.std.proofs.Common.{◌≡◌, ℕ, zero, suc, ◌+◌, ◌<◌, Bool, true, false, cond, ◌==◌, List, [], ◌∷◌, ◌++◌, refl, ap, sym, ◌∙◌, subst, arith, length, map, take, filter, get_or}
+use Rattle.std.proofs.Common.{◌≡◌, ℕ, zero, suc, ◌+◌, ◌<◌, Bool, true, false, cond, ◌==◌, List, [], ◌∷◌, ◌++◌, refl, ap, sym, ◌∙◌, subst, arith, length, map}
+use Rattle.std.proofs.Common.{take, filter, get_or}
 use Rattle.std.specs.Prelude.{not, slice_index, All}
 use Rattle.std.proofs.lemmas.List.{take_more, map-append}
 use Rattle.std.proofs.lemmas.List.Elements.{All-push}
@@ -19,7 +20,8 @@ filter_more true [] x e = rw e refl
 filter_more false [] x e = rw e refl
 filter_more b (y ∷ names) x e = kept (is_shown y) b refl (filter_more b names x e)
   where
-    kept : (t b : Bool) → is_shown y ≡ t → filter is_shown (names ++ x ∷ []) ≡ cond b (filter is_shown names ++ x ∷ []) (filter is_shown names) → filter is_shown (y ∷ names ++ x ∷ []) ≡ cond b (filter is_shown (y ∷ names) ++ x ∷ []) (filter is_shown (y ∷ names))
+    kept : (t b : Bool) → is_shown y ≡ t → filter is_shown (names ++ x ∷ []) ≡ cond b (filter is_shown names ++ x ∷ []) (filter is_shown names)
+        → filter is_shown (y ∷ names ++ x ∷ []) ≡ cond b (filter is_shown (y ∷ names) ++ x ∷ []) (filter is_shown (y ∷ names))
     kept true true f h = rw f (ap (λ l. y ∷ l) h)
     kept true false f h = rw f (ap (λ l. y ∷ l) h)
     kept false true f h = rw f h
@@ -46,12 +48,14 @@ count_names c (x ∷ ids) zero h = refl
 count_names c (x ∷ ids) (suc i) h = let later = count_names c ids i (omega arith) in omega (arith, later)
 
 -- the next variable
-module _ (c : Contents) (ids : List AtomId) (i : ℕ) (z : AtomId) (old : List AtomId) (numbers : List ℕ) (size : i < length ids) (are : AreShown c (take i ids) old numbers) (within : All (λ a. a.number < length c.names) ids) where
+module _ (c : Contents) (ids : List AtomId) (i : ℕ) (z : AtomId) (old : List AtomId) (numbers : List ℕ) (size : i < length ids)
+    (are : AreShown c (take i ids) old numbers) (within : All (λ a. a.number < length c.names) ids) where
   names_next : map (atom_name c) (take (i + 1) ids) ≡ map (atom_name c) (take i ids) ++ atom_name c (get_or ids i z) ∷ []
   names_next = ap (map (atom_name c)) (take_more ids i z size) ∙ map-append (atom_name c) (take i ids) (get_or ids i z ∷ [])
 
   -- is shown
-  pub shown_more : (new : List AtomId) (next : List ℕ) → is_shown (atom_name c (get_or ids i z)) ≡ true → new ≡ old ++ get_or ids i z ∷ [] → next ≡ numbers ++ i ∷ [] → AreShown c (take (i + 1) ids) new next
+  pub shown_more : (new : List AtomId) (next : List ℕ) → is_shown (atom_name c (get_or ids i z)) ≡ true → new ≡ old ++ get_or ids i z ∷ []
+      → next ≡ numbers ++ i ∷ [] → AreShown c (take (i + 1) ids) new next
   shown_more new next s g h =
       let d : AtomId = get_or ids i z in
       let count : 0 + length (map (atom_name c) (take i ids)) ≡ i = let k = count_names c ids i size in omega (arith, k) in

@@ -57,7 +57,8 @@ module _ (N : ℕ) (c : Contents) where
   done_more goals more (Join j s a) gs h = ap (λ (xs : List model.Goal). take s gs ++ joined_goals j (unlisted xs) (unlisted (drop s gs)) ∷ []) (part_more goals more a.from a.to h.within)
 
   -- more goals behind those of the parts that they name change nothing
-  pub all_done_more : (goals more : List model.Goal) (ts : List Task) (gs : List model.Goal) → AllByRecursion (IsTask c (length goals)) ts → all_done N c (goals ++ more) ts gs ≡ all_done N c goals ts gs
+  pub all_done_more : (goals more : List model.Goal) (ts : List Task) (gs : List model.Goal) → AllByRecursion (IsTask c (length goals)) ts
+      → all_done N c (goals ++ more) ts gs ≡ all_done N c goals ts gs
   all_done_more goals more [] gs h = refl
   all_done_more goals more (t ∷ ts) gs h = done_more goals more t (all_done N c (goals ++ more) ts gs) h.0 ∙ ap (done N c goals t) (all_done_more goals more ts gs h.1)
 

@@ -77,13 +77,15 @@ pub many_formed : (x : PlacedTerm) (f : Name) (p : ℕ) (by : TermId → PlacedT
 many_formed x f p by ts e h = subst (λ (y : PlacedTerm). form_of y ≡ fact y) (sym e) (fact_of_three f p by ts h)
 
 -- as are those of two parts with another name than `:-`
-fact_of_two : (f : Name) (p : ℕ) (by : TermId → PlacedTerm) (ts : List TermId) → 2 ≤ length ts → length ts < 3 → bytes_eq f (codes ":-") ≡ false → form_of (comp f p (parts_by by ts)) ≡ fact (comp f p (parts_by by ts))
+fact_of_two : (f : Name) (p : ℕ) (by : TermId → PlacedTerm) (ts : List TermId) → 2 ≤ length ts → length ts < 3 → bytes_eq f (codes ":-") ≡ false
+    → form_of (comp f p (parts_by by ts)) ≡ fact (comp f p (parts_by by ts))
 fact_of_two f p by [] h k e = absurd (omega arith)
 fact_of_two f p by (a ∷ []) h k e = absurd (omega arith)
 fact_of_two f p by (a ∷ b ∷ []) h k e = rw e
 fact_of_two f p by (a ∷ b ∷ d ∷ ts) h k e = absurd (omega arith)
 
-pub two_formed : (x : PlacedTerm) (f : Name) (p : ℕ) (by : TermId → PlacedTerm) (ts : List TermId) → x ≡ comp f p (parts_by by ts) → 2 ≤ length ts → length ts < 3 → (f ≡ codes ":-" → ⊥) → form_of x ≡ fact x
+pub two_formed : (x : PlacedTerm) (f : Name) (p : ℕ) (by : TermId → PlacedTerm) (ts : List TermId) → x ≡ comp f p (parts_by by ts) → 2 ≤ length ts
+    → length ts < 3 → (f ≡ codes ":-" → ⊥) → form_of x ≡ fact x
 two_formed x f p by ts e h k n = subst (λ (y : PlacedTerm). form_of y ≡ fact y) (sym e) (fact_of_two f p by ts h k (other_name f (codes ":-") n))
 
 -- and those of one part, with another name than `?-` and `:-`
@@ -93,7 +95,8 @@ fact_of_one f p by [] h k e g = absurd (omega arith)
 fact_of_one f p by (a ∷ []) h k e g = rw (e, g)
 fact_of_one f p by (a ∷ b ∷ ts) h k e g = absurd (omega arith)
 
-pub one_formed : (x : PlacedTerm) (f : Name) (p : ℕ) (by : TermId → PlacedTerm) (ts : List TermId) → x ≡ comp f p (parts_by by ts) → 1 ≤ length ts → length ts < 2 → (f ≡ codes "?-" → ⊥) → (f ≡ codes ":-" → ⊥) → form_of x ≡ fact x
+pub one_formed : (x : PlacedTerm) (f : Name) (p : ℕ) (by : TermId → PlacedTerm) (ts : List TermId) → x ≡ comp f p (parts_by by ts) → 1 ≤ length ts
+    → length ts < 2 → (f ≡ codes "?-" → ⊥) → (f ≡ codes ":-" → ⊥) → form_of x ≡ fact x
 one_formed x f p by ts e h k m n = subst (λ (y : PlacedTerm). form_of y ≡ fact y) (sym e) (fact_of_one f p by ts h k (other_name f (codes "?-") m) (other_name f (codes ":-") n))
 
 -- and those of none

@@ -1,5 +1,6 @@
 -- The smallest place of a compound term with too many arguments, among the terms that a walk has passed and those that it has before it.
-use Rattle.std.proofs.Common.{◌≡◌, ℕ, ◌<◌, ◌≤◌, Bool, true, false, cond, nat_lt, min, List, [], ◌∷◌, ◌++◌, Option, Some, None, refl, sym, ap, ◌∙◌, arith, length, Bor}
+use Rattle.std.proofs.Common.{◌≡◌, ℕ, ◌<◌, ◌≤◌, Bool, true, false, cond, nat_lt, min, List, [], ◌∷◌, ◌++◌, Option, Some, None, refl, sym, ap, ◌∙◌, arith}
+use Rattle.std.proofs.Common.{length, Bor}
 use Rattle.fd_language.specs.PlacedTerm.{PlacedTerm, comp}
 use Rattle.fd_language.specs.Spelling.{least_place}
 use Rattle.fd_model.specs.Refusals.{wide_places, wide_places_of, part_count}
@@ -11,7 +12,7 @@ use Rattle.std.proofs.Math.Nat.{min_comm}
 use Rattle.term_pool.specs.declared.AtomId.{AtomId}
 use Rattle.term_pool.specs.declared.Node.{Node}
 use Rattle.term_pool.specs.declared.Node.TheVariants as nodes
-use Rattle.term_pool.specs.Valid.{shape_of}
+use Rattle.term_pool.specs.PoolInvariant.{shape_of}
 use Rattle.clause_check.specs.Terms.{lesser, IsSeen}
 use Rattle.clause_check.proofs.TermShapes.{count_parts}
 

@@ -11,7 +11,7 @@ use Rattle.fd_model.specs.Refusals.{range_refusal}
 use Rattle.term_pool.specs.declared.TermId.{TermId}
 use Rattle.term_pool.specs.Contents.{Contents}
 use Rattle.term_pool.specs.PlacedTerms.{placed_of}
-use Rattle.clause_check.specs.declared.forms.Form.{Form}
+use Rattle.clause_check.specs.declared.forms.GoalKind.{GoalKind}
 use Rattle.clause_check.specs.declared.program.FlatGoal.{FlatGoal}
 use Rattle.clause_check.specs.declared.faults.Fault.{Fault}
 use Rattle.clause_check.specs.Causes.{RefusedBy}
@@ -34,7 +34,7 @@ pub record KeepsGoal (c : Contents) (old new : List Range) (x : model.Goal) (g :
   pub is : (goals : List model.Goal) → tree_of c new goals g ≡ x
 
 -- a goal of the language with this form, and any goal
-abbrev pub KeepsForm : ℕ → Contents → TermId → Form → List Range → List Range → FlatGoal → Type 0
+abbrev pub KeepsForm : ℕ → Contents → TermId → GoalKind → List Range → List Range → FlatGoal → Type 0
 KeepsForm N c t form old new g = KeepsGoal c old new (goal_by_form N (form_seen form) (placed_of c t)) g
 
 abbrev pub KeepsTerm : ℕ → Contents → TermId → List Range → List Range → FlatGoal → Type 0

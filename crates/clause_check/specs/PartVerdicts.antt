@@ -10,7 +10,7 @@ use Rattle.term_reader.specs.declared.reader.Sentence.{Sentence}
 use Rattle.term_reader.specs.declared.reader.Sentences.{Sentences}
 use Rattle.clause_check.specs.declared.faults.Cause.{Cause}
 use Rattle.clause_check.specs.declared.faults.Fault.{Fault}
-use Rattle.clause_check.specs.declared.forms.Form.{Form}
+use Rattle.clause_check.specs.declared.forms.GoalKind.{GoalKind}
 use Rattle.clause_check.specs.declared.goals.Task.{Task}
 use Rattle.clause_check.specs.declared.terms.SentenceForm.{SentenceForm}
 use Rattle.clause_check.specs.Causes.{IsCauseOf, RefusedBy}
@@ -19,10 +19,10 @@ use Rattle.clause_check.specs.GoalStores.{ahead}
 use Rattle.clause_check.specs.Terms.{terms_of, form_in}
 
 -- a goal of the language
-abbrev pub AcceptsForm : ℕ → Contents → TermId → Form → Type 0
+abbrev pub AcceptsForm : ℕ → Contents → TermId → GoalKind → Type 0
 AcceptsForm N c t form = form_refusal INFINITY N (placed_of c t) (form_seen form) ≡ None
 
-abbrev pub RefusesForm : ℕ → Contents → TermId → Form → Fault → Type 0
+abbrev pub RefusesForm : ℕ → Contents → TermId → GoalKind → Fault → Type 0
 RefusesForm N c t form e = RefusedBy c (form_refusal INFINITY N (placed_of c t) (form_seen form)) e
 
 -- any goal

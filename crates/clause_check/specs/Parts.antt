@@ -35,7 +35,7 @@ abbrev pub queries_kept : Parts → List FlatQuery
 queries_kept p = map query_kept p.queries.items
 
 -- what is kept of these sentences
-pub record StandsFor (N : ℕ) (c : Contents) (p : Parts) (sentences : List Sentence) : Type 0 where
+pub record KeepsSentences (N : ℕ) (c : Contents) (p : Parts) (sentences : List Sentence) : Type 0 where
   pub store : IsStore c p.store
   pub clauses : All (IsClause c (length p.store.goals.items)) p.clauses.items
   pub queries : All (IsQueryWithin c (length p.store.goals.items)) (queries_kept p)
@@ -43,7 +43,7 @@ pub record StandsFor (N : ℕ) (c : Contents) (p : Parts) (sentences : List Sent
   pub queries_are : map (query_by c (stored c p.store)) (queries_kept p) ≡ queries_of N (map (sentence_of c) sentences)
 
 -- what is kept of a sentence of this form, whose variables have these names
-pub record AddsForm (N : ℕ) (s : Sentences) (old new : Parts) (names : List Name) (t : PlacedTerm) (form : refusals.Form) : Type 0 where
+pub record AddsForm (N : ℕ) (s : Sentences) (old new : Parts) (names : List Name) (t : PlacedTerm) (form : refusals.SentenceKind) : Type 0 where
   pub accepted : clause_refusal INFINITY N (terms_of s) t form ≡ None
   pub grown : IsGrown old.store new.store
   pub store : IsStore s.pool new.store

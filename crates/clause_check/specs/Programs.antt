@@ -8,11 +8,11 @@ use Rattle.fd_language.specs.declared.TheConstants.{INFINITY}
 use Rattle.fd_model.specs.Arities.{constraint_arity, builtin_arity}
 use Rattle.fd_model.specs.Goal as model
 use Rattle.fd_model.specs.Goal.{Goals, no_goals, goal}
-use Rattle.fd_model.specs.Sound.{IsRunnableProgram, IsScoped}
+use Rattle.fd_model.specs.RunnablePrograms.{IsRunnableProgram, IsScoped}
 use Rattle.term_pool.specs.declared.AtomId.{AtomId}
 use Rattle.term_pool.specs.Contents.{Contents, atom_name}
 use Rattle.term_pool.specs.Terms.{term_of}
-use Rattle.term_pool.specs.Valid.{IsPool}
+use Rattle.term_pool.specs.PoolInvariant.{IsPool}
 use Rattle.clause_check.specs.Codable.{IsCodable}
 use Rattle.clause_check.specs.declared.program.Part.{Part}
 use Rattle.clause_check.specs.declared.program.FlatGoal.{FlatGoal}

@@ -43,7 +43,7 @@ IsFunctor c o (Some f) = (f.name.number < length c.names) × (o ≡ Some (functo
 abbrev pub IsFunctorOf : Contents → PlacedTerm → Option Functor → Type 0
 IsFunctorOf c x f = IsFunctor c (refusals.functor_of x) f
 
-abbrev pub form_in : Contents → SentenceForm → refusals.Form
+abbrev pub form_in : Contents → SentenceForm → refusals.SentenceKind
 form_in c (Query b) = refusals.query (placed_of c b)
 form_in c (Clause h b) = refusals.clause (placed_of c h) (placed_of c b)
 form_in c Directive = refusals.directive

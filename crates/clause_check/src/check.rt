@@ -5,7 +5,7 @@ ghost use Rattle.term_pool.specs.Contents.{Contents};
 ghost use Rattle.term_reader.specs.Sentences.{AreOwn, IsSentence};
 ghost use Rattle.clause_check.specs.GoalStores.{IsStore};
 ghost use Rattle.clause_check.specs.Heads.{AreHeads};
-ghost use Rattle.clause_check.specs.Parts.{AddsAs, AddsSentence, AreShown, StandsFor};
+ghost use Rattle.clause_check.specs.Parts.{AddsAs, AddsSentence, AreShown, KeepsSentences};
 ghost use Rattle.clause_check.specs.PartVerdicts.{AcceptsText, IsHeadCause, RefusesAs, RefusesSentence, RefusesText};
 ghost use Rattle.clause_check.specs.declared.terms.SentenceForm.TheVariants.{Query, Clause, Fact};
 
@@ -76,7 +76,7 @@ fn shown_variables(alloc: Global, pool: &Pool, names: &[AtomId]) -> Result<Shown
 
 impl Parts {
     fn new(alloc: Global) -> Parts
-        ensures { (N : ℕ) (c : Contents) → StandsFor N c result [] }
+        ensures { (N : ℕ) (c : Contents) → KeepsSentences N c result [] }
     {
         Parts {
             store: GoalStore::new(alloc),
@@ -188,10 +188,10 @@ impl Parts {
     ) -> Result<(), Fault>
         requires own { AreOwn sentences.now }
         requires heads { AreHeads sentences.now heads.now.keys }
-        requires nothing { StandsFor infinity sentences.now.pool self.old [] }
+        requires nothing { KeepsSentences infinity sentences.now.pool self.old [] }
         ensures accepted { OnOk result (AcceptsText infinity sentences.now) }
         ensures stands { OnOk result
-            (StandsFor infinity sentences.now.pool self.new sentences.now.list.items) }
+            (KeepsSentences infinity sentences.now.pool self.new sentences.now.list.items) }
         ensures fault { IfErr result (RefusesText infinity sentences.now) }
     {
         for sentence in &sentences.list {
@@ -245,7 +245,7 @@ fn check_by(
     requires own { AreOwn sentences.now }
     requires none { heads.now.keys ≡ [] }
     ensures accepted { IfOk result (λ p. AcceptsText infinity sentences.now) }
-    ensures stands { IfOk result (λ p. StandsFor infinity sentences.now.pool p sentences.now.list.items) }
+    ensures stands { IfOk result (λ p. KeepsSentences infinity sentences.now.pool p sentences.now.list.items) }
     ensures fault { IfErr result (RefusesText infinity sentences.now) }
 {
     collect_heads(sentences, heads)?;
@@ -263,7 +263,7 @@ pub(crate) fn check_sentences(
 ) -> Result<Parts, Fault>
     requires { AreOwn sentences.now }
     ensures accepted { IfOk result (λ p. AcceptsText infinity sentences.now) }
-    ensures stands { IfOk result (λ p. StandsFor infinity sentences.now.pool p sentences.now.list.items) }
+    ensures stands { IfOk result (λ p. KeepsSentences infinity sentences.now.pool p sentences.now.list.items) }
     ensures fault { IfErr result (RefusesText infinity sentences.now) }
 {
     let mut heads = IndexSet::new(alloc);

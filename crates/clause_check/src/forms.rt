@@ -8,7 +8,7 @@ use fd_model::kinds::{BuiltinKind, ConstraintKind, Order, Relation};
 
 /// What a goal of the language is.
 #[derive(Clone, Copy)]
-pub(crate) enum Form {
+pub(crate) enum GoalKind {
     Truth,
     Failure,
     Cut,
@@ -47,7 +47,7 @@ pub(crate) fn is_built_in(name: &str, arity: usize) -> bool
 }
 
 /// The form of the goals with the name and so many arguments, if they belong to the language.
-pub(crate) fn form_named(name: &str, arity: usize) -> Option<Form>
+pub(crate) fn form_named(name: &str, arity: usize) -> Option<GoalKind>
     ensures { option_map form_seen result ≡ form_of_name name.now arity }
 {
     match arity {
@@ -59,104 +59,104 @@ pub(crate) fn form_named(name: &str, arity: usize) -> Option<Form>
     }
 }
 
-fn nullary(name: &str) -> Option<Form>
+fn nullary(name: &str) -> Option<GoalKind>
     ensures { option_map form_seen result ≡ form_of_name name.now 0 }
 {
     match name {
-        "true" => Some(Form::Truth),
-        "fail" | "false" => Some(Form::Failure),
-        "!" => Some(Form::Cut),
-        "nl" => Some(Form::Builtin(BuiltinKind::Nl)),
+        "true" => Some(GoalKind::Truth),
+        "fail" | "false" => Some(GoalKind::Failure),
+        "!" => Some(GoalKind::Cut),
+        "nl" => Some(GoalKind::Builtin(BuiltinKind::Nl)),
         _ => None,
     }
 }
 
-fn unary(name: &str) -> Option<Form>
+fn unary(name: &str) -> Option<GoalKind>
     ensures { option_map form_seen result ≡ form_of_name name.now 1 }
 {
     match name {
-        "var" => Some(Form::Builtin(BuiltinKind::Var)),
-        "nonvar" => Some(Form::Builtin(BuiltinKind::Nonvar)),
-        "integer" => Some(Form::Builtin(BuiltinKind::Integer)),
-        "atom" => Some(Form::Builtin(BuiltinKind::Atom)),
-        "atomic" => Some(Form::Builtin(BuiltinKind::Atomic)),
-        "compound" => Some(Form::Builtin(BuiltinKind::Compound)),
-        "write" => Some(Form::Builtin(BuiltinKind::Write)),
-        "fd_all_different" => Some(Form::Constraint(ConstraintKind::AllDifferent)),
-        "fd_labeling" => Some(Form::Labelling(Order::Leftmost)),
-        "fd_labelingff" => Some(Form::Labelling(Order::FirstFail)),
+        "var" => Some(GoalKind::Builtin(BuiltinKind::Var)),
+        "nonvar" => Some(GoalKind::Builtin(BuiltinKind::Nonvar)),
+        "integer" => Some(GoalKind::Builtin(BuiltinKind::Integer)),
+        "atom" => Some(GoalKind::Builtin(BuiltinKind::Atom)),
+        "atomic" => Some(GoalKind::Builtin(BuiltinKind::Atomic)),
+        "compound" => Some(GoalKind::Builtin(BuiltinKind::Compound)),
+        "write" => Some(GoalKind::Builtin(BuiltinKind::Write)),
+        "fd_all_different" => Some(GoalKind::Constraint(ConstraintKind::AllDifferent)),
+        "fd_labeling" => Some(GoalKind::Labelling(Order::Leftmost)),
+        "fd_labelingff" => Some(GoalKind::Labelling(Order::FirstFail)),
         _ => None,
     }
 }
 
-fn binary(name: &str) -> Option<Form>
+fn binary(name: &str) -> Option<GoalKind>
     ensures { option_map form_seen result ≡ form_of_name name.now 2 }
 {
     match name {
-        "=" => Some(Form::Unification),
-        "==" => Some(Form::Builtin(BuiltinKind::Same)),
-        "\\==" => Some(Form::Builtin(BuiltinKind::NotSame)),
-        "is" => Some(Form::Builtin(BuiltinKind::Is)),
+        "=" => Some(GoalKind::Unification),
+        "==" => Some(GoalKind::Builtin(BuiltinKind::Same)),
+        "\\==" => Some(GoalKind::Builtin(BuiltinKind::NotSame)),
+        "is" => Some(GoalKind::Builtin(BuiltinKind::Is)),
         _ => binary_from_comparisons(name),
     }
 }
 
 /// The form of the goals with the name and two arguments, by the rows from the comparisons of numbers on.
-fn binary_from_comparisons(name: &str) -> Option<Form>
+fn binary_from_comparisons(name: &str) -> Option<GoalKind>
     ensures { option_map form_seen result ≡ binary_from 4 name.now }
 {
     match name {
-        "=:=" => Some(Form::Builtin(BuiltinKind::NumEqual)),
-        "=\\=" => Some(Form::Builtin(BuiltinKind::NumDiffer)),
-        "<" => Some(Form::Builtin(BuiltinKind::NumLess)),
-        "=<" => Some(Form::Builtin(BuiltinKind::NumAtMost)),
-        ">" => Some(Form::Builtin(BuiltinKind::NumGreater)),
-        ">=" => Some(Form::Builtin(BuiltinKind::NumAtLeast)),
+        "=:=" => Some(GoalKind::Builtin(BuiltinKind::NumEqual)),
+        "=\\=" => Some(GoalKind::Builtin(BuiltinKind::NumDiffer)),
+        "<" => Some(GoalKind::Builtin(BuiltinKind::NumLess)),
+        "=<" => Some(GoalKind::Builtin(BuiltinKind::NumAtMost)),
+        ">" => Some(GoalKind::Builtin(BuiltinKind::NumGreater)),
+        ">=" => Some(GoalKind::Builtin(BuiltinKind::NumAtLeast)),
         _ => binary_from_constraints(name),
     }
 }
 
 /// The form of the goals with the name and two arguments, by the rows from the constraints on.
-fn binary_from_constraints(name: &str) -> Option<Form>
+fn binary_from_constraints(name: &str) -> Option<GoalKind>
     ensures { option_map form_seen result ≡ binary_from 10 name.now }
 {
     match name {
-        "in" => Some(Form::Posting),
-        "#=" => Some(Form::Constraint(ConstraintKind::Compare(Relation::Equal))),
-        "#\\=" => Some(Form::Constraint(ConstraintKind::Compare(Relation::Differ))),
-        "#<" => Some(Form::Constraint(ConstraintKind::Compare(Relation::Less))),
-        "#=<" => Some(Form::Constraint(ConstraintKind::Compare(Relation::AtMost))),
-        "#>" => Some(Form::Constraint(ConstraintKind::Compare(Relation::Greater))),
-        "#>=" => Some(Form::Constraint(ConstraintKind::Compare(Relation::AtLeast))),
-        "#<=>" => Some(Form::Constraint(ConstraintKind::Reified)),
-        "fd_not" => Some(Form::Constraint(ConstraintKind::Not)),
+        "in" => Some(GoalKind::Posting),
+        "#=" => Some(GoalKind::Constraint(ConstraintKind::Compare(Relation::Equal))),
+        "#\\=" => Some(GoalKind::Constraint(ConstraintKind::Compare(Relation::Differ))),
+        "#<" => Some(GoalKind::Constraint(ConstraintKind::Compare(Relation::Less))),
+        "#=<" => Some(GoalKind::Constraint(ConstraintKind::Compare(Relation::AtMost))),
+        "#>" => Some(GoalKind::Constraint(ConstraintKind::Compare(Relation::Greater))),
+        "#>=" => Some(GoalKind::Constraint(ConstraintKind::Compare(Relation::AtLeast))),
+        "#<=>" => Some(GoalKind::Constraint(ConstraintKind::Reified)),
+        "fd_not" => Some(GoalKind::Constraint(ConstraintKind::Not)),
         _ => domain_reader(name),
     }
 }
 
 /// The form of the goals with the name and two arguments that read a domain or ask for a cost, by the last rows.
-fn domain_reader(name: &str) -> Option<Form>
+fn domain_reader(name: &str) -> Option<GoalKind>
     ensures { option_map form_seen result ≡ binary_from 19 name.now }
 {
     match name {
-        "fd_min" => Some(Form::Builtin(BuiltinKind::FdMin)),
-        "fd_max" => Some(Form::Builtin(BuiltinKind::FdMax)),
-        "fd_size" => Some(Form::Builtin(BuiltinKind::FdSize)),
-        "fd_dom" => Some(Form::Builtin(BuiltinKind::FdDom)),
-        "fd_minimize" => Some(Form::Optimum(true)),
-        "fd_maximize" => Some(Form::Optimum(false)),
+        "fd_min" => Some(GoalKind::Builtin(BuiltinKind::FdMin)),
+        "fd_max" => Some(GoalKind::Builtin(BuiltinKind::FdMax)),
+        "fd_size" => Some(GoalKind::Builtin(BuiltinKind::FdSize)),
+        "fd_dom" => Some(GoalKind::Builtin(BuiltinKind::FdDom)),
+        "fd_minimize" => Some(GoalKind::Optimum(true)),
+        "fd_maximize" => Some(GoalKind::Optimum(false)),
         _ => None,
     }
 }
 
-fn ternary(name: &str) -> Option<Form>
+fn ternary(name: &str) -> Option<GoalKind>
     ensures { option_map form_seen result ≡ form_of_name name.now 3 }
 {
     match name {
-        "fd_element" => Some(Form::Constraint(ConstraintKind::Element)),
-        "fd_atmost" => Some(Form::Constraint(ConstraintKind::Atmost)),
-        "fd_and" => Some(Form::Constraint(ConstraintKind::And)),
-        "fd_or" => Some(Form::Constraint(ConstraintKind::Or)),
+        "fd_element" => Some(GoalKind::Constraint(ConstraintKind::Element)),
+        "fd_atmost" => Some(GoalKind::Constraint(ConstraintKind::Atmost)),
+        "fd_and" => Some(GoalKind::Constraint(ConstraintKind::And)),
+        "fd_or" => Some(GoalKind::Constraint(ConstraintKind::Or)),
         _ => None,
     }
 }

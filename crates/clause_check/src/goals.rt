@@ -10,7 +10,7 @@ ghost use Rattle.term_pool.specs.PlacedTerms.{placed_of};
 ghost use Rattle.term_reader.specs.Sentences.{AreOwn};
 ghost use Rattle.clause_check.specs.Causes.{RefusedBy};
 ghost use Rattle.clause_check.specs.Forms.{order_in, HasFormArity};
-ghost use Rattle.clause_check.specs.declared.forms.Form.TheVariants.{Optimum};
+ghost use Rattle.clause_check.specs.declared.forms.GoalKind.TheVariants.{Optimum};
 ghost use Rattle.clause_check.specs.GoalStores.{flat_part, joined_by, start_in, IsClosed, IsDenied, IsJoined, IsRead, IsStore, IsTaken, IsTask, IsTurned};
 ghost use Rattle.clause_check.specs.Programs.{IsPart};
 ghost use Rattle.clause_check.specs.Heads.{AreHeads};
@@ -19,7 +19,7 @@ ghost use Rattle.clause_check.specs.PartVerdicts.{AcceptsForm, AcceptsGoal, Refu
 ghost use Rattle.clause_check.specs.declared.goals.Task.TheVariants.{Visit};
 
 use crate::faults::{Cause, Fault, refused};
-use crate::forms::{Form, form_named, is_reserved};
+use crate::forms::{GoalKind, form_named, is_reserved};
 use crate::program::{FlatGoal, Part};
 use crate::ranges::accepted_range;
 use crate::terms::{Body, Functor, Joint, body_form, first_part, functor_of, second_part};
@@ -70,7 +70,7 @@ fn labelling_order(pool: &Pool, t: TermId) -> Option<Order>
 {
     let Functor { name, arity } = functor_of(pool, t)?;
     match form_named(pool.name_of(name), arity) {
-        Some(Form::Labelling(order)) => Some(order),
+        Some(GoalKind::Labelling(order)) => Some(order),
         _ => None,
     }
 }
@@ -100,7 +100,7 @@ fn formed_goal(
     alloc: Global,
     pool: &Pool,
     t: TermId,
-    form: Form,
+    form: GoalKind,
     infinity: u32,
     ranges: &mut Vec<Checked>,
 ) -> Result<FlatGoal, Fault>
@@ -111,20 +111,20 @@ fn formed_goal(
     ensures fault { IfErr result (RefusesForm infinity pool.now t form) }
 {
     match form {
-        Form::Truth => Ok(FlatGoal::True),
-        Form::Failure => Ok(FlatGoal::Fail),
-        Form::Cut => Ok(FlatGoal::Cut),
-        Form::Unification => Ok(FlatGoal::Unify(first_part(pool, t), second_part(pool, t))),
-        Form::Posting => {
+        GoalKind::Truth => Ok(FlatGoal::True),
+        GoalKind::Failure => Ok(FlatGoal::Fail),
+        GoalKind::Cut => Ok(FlatGoal::Cut),
+        GoalKind::Unification => Ok(FlatGoal::Unify(first_part(pool, t), second_part(pool, t))),
+        GoalKind::Posting => {
             let range = accepted_range(alloc, pool, second_part(pool, t), infinity)?;
             let number = ranges.len();
             ranges.push(range)?;
             Ok(FlatGoal::Post(first_part(pool, t), number))
         }
-        Form::Constraint(kind) => Ok(FlatGoal::Constrain(kind, t)),
-        Form::Labelling(order) => Ok(FlatGoal::Label(order, first_part(pool, t))),
-        Form::Optimum(least) => best_goal(pool, t, least),
-        Form::Builtin(kind) => Ok(FlatGoal::Builtin(kind, t)),
+        GoalKind::Constraint(kind) => Ok(FlatGoal::Constrain(kind, t)),
+        GoalKind::Labelling(order) => Ok(FlatGoal::Label(order, first_part(pool, t))),
+        GoalKind::Optimum(least) => best_goal(pool, t, least),
+        GoalKind::Builtin(kind) => Ok(FlatGoal::Builtin(kind, t)),
     }
 }
 

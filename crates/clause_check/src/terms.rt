@@ -4,7 +4,7 @@ ghost use Rattle.std.specs.Prelude.{◌≡◌, ◌<◌, length};
 ghost use Rattle.fd_model.specs.Queries.{first_part as first_of};
 ghost use Rattle.fd_model.specs.Refusals.{second_part as second_of};
 ghost use Rattle.term_pool.specs.Terms.{term_of, shape_term};
-ghost use Rattle.term_pool.specs.Valid.{shape_of, IsPool, IsWithin};
+ghost use Rattle.term_pool.specs.PoolInvariant.{shape_of, IsPool, IsWithin};
 ghost use Rattle.term_pool.specs.PlacedTerms.{placed_of};
 ghost use Rattle.clause_check.specs.Terms.{IsBody, IsFunctorOf, IsPartOf, IsSeen, IsSentenceForm};
 

@@ -1,5 +1,6 @@
 -- What the code of goals does, and how states flow through it.
-use Rattle.std.proofs.Common.{◌≡◌, ℕ, zero, suc, ◌+◌, ◌<◌, ◌≤◌, Bool, true, false, if◌then◌else◌, IsTrue, List, [], ◌∷◌, ◌++◌, map, Option, Some, None, length, slice_get, refl, ap, sym, ◌∙◌, subst, arith, eq-eqb}
+use Rattle.std.proofs.Common.{◌≡◌, ℕ, zero, suc, ◌+◌, ◌<◌, ◌≤◌, Bool, true, false, if◌then◌else◌, IsTrue, List, [], ◌∷◌, ◌++◌, map, Option, Some, None, length}
+use Rattle.std.proofs.Common.{slice_get, refl, ap, sym, ◌∙◌, subst, arith, eq-eqb}
 use Rattle.std.proofs.lemmas.Bool.{true≢false}
 use Rattle.std.proofs.lemmas.Bool.Decides.{nat_tests}
 use Rattle.fd_language.specs.Family.{has}
@@ -7,27 +8,31 @@ use Rattle.fd_language.specs.Term.{Term, Terms, Var, term_count}
 use Rattle.fd_model.specs.Goal as goal
 use Rattle.fd_model.specs.Goal.{Goal, Goals, listed, marked, marked_goals, marked_all}
 use Rattle.fd_model.specs.Renaming.{rename_goal, rename_goals}
-use Rattle.machine_relation.specs.Heap.{Below}
+use Rattle.branch_meaning.specs.Heap.{Below}
 use Rattle.wam_code.specs.declared.instruction.Register.{Register}
 use Rattle.wam_code.specs.declared.instruction.Register.TheVariants.{X, Y}
 use Rattle.wam_code.specs.declared.instruction.Code.{Code}
-use Rattle.wam_code.specs.declared.instruction.Code.TheVariants.{Jump, Either, GetVariable, GetValue, GetConstant, GetInteger, GetStructure, UnifyVariable, UnifyValue, UnifyConstant, UnifyInteger, PutVariable, PutValue, PutConstant, PutInteger, PutStructure}
+use Rattle.wam_code.specs.declared.instruction.Code.TheVariants.{Jump, Either, GetVariable, GetValue, GetConstant, GetInteger, GetStructure, UnifyVariable}
+use Rattle.wam_code.specs.declared.instruction.Code.TheVariants.{UnifyValue, UnifyConstant, UnifyInteger, PutVariable, PutValue, PutConstant, PutInteger}
+use Rattle.wam_code.specs.declared.instruction.Code.TheVariants.{PutStructure}
 use Rattle.wam_code.specs.Area.{State}
 use Rattle.wam_code.specs.Effect.{effect}
 use Rattle.wam_code.specs.VerifiedCode.{Covers}
 use Rattle.wam_code.specs.Places.{Depth, Places, read, IsSettled, Hold}
 use Rattle.clause_code.specs.Pieces.{Base, past, Does}
 use Rattle.clause_code.specs.Laws.{other_side, sides}
-use Rattle.clause_code.specs.Safe.{unplaced, IsThereIn, may_enter}
-use Rattle.clause_code.specs.Flowing.{is_simple, MayEnter}
-use Rattle.clause_code.specs.Steps.{Step, get_variable, get_constant, get_integer, get_structure, unify_variable, unify_register, unify_new, unify_constant, unify_integer, put_variable, put_constant, put_integer, put_structure, home, is_made, is_register, marked_by, marked_by_all, instructions, code_of, puts, AllSuit}
+use Rattle.clause_code.specs.SafeCode.{unplaced, IsThereIn, may_enter}
+use Rattle.clause_code.specs.StateFlow.{is_simple, MayEnter}
+use Rattle.clause_code.specs.Steps.{Step, get_variable, get_constant, get_integer, get_structure, unify_variable, unify_register, unify_new, unify_constant}
+use Rattle.clause_code.specs.Steps.{unify_integer, put_variable, put_constant, put_integer, put_structure, home, is_made, is_register, marked_by, marked_by_all}
+use Rattle.clause_code.specs.Steps.{instructions, code_of, puts, AllSuit}
 use Rattle.clause_code.specs.ArgumentHomes.{AllLand}
 use Rattle.clause_code.specs.Bodies.{is_x, is_y, found_home, Levels, HasDepths, IsNoHome, AreFree, between_goals, InBody, IsRest, IsGoalsCode}
 use Rattle.clause_code.proofs.Pieces.{does_nothing, does_both, does_either}
-use Rattle.clause_code.proofs.Making.{Clear, KeepsDepths, AreApart, fits_whole}
-use Rattle.clause_code.proofs.Going.{moved_all, AllMade, At}
-use Rattle.clause_code.proofs.Building.{PutAllBy, puts_put}
-use Rattle.clause_code.proofs.Flowing.{flows_both, flows_nothing, flows_runs_less, flows_sides, enters_both, simple_enters}
+use Rattle.clause_code.proofs.FreshVariables.{Clear, KeepsDepths, AreApart, fits_whole}
+use Rattle.clause_code.proofs.StepEffects.{moved_all, AllMade, At}
+use Rattle.clause_code.proofs.BuiltTerms.{PutAllBy, puts_put}
+use Rattle.clause_code.proofs.StateFlow.{flows_both, flows_nothing, flows_runs_less, flows_sides, enters_both, simple_enters}
 
 -- ---- places between goals
 
@@ -35,7 +40,8 @@ pub found_is : (test : Register → Bool) (u : ℕ) (rs : List Register) (t : Te
 found_is test u [] t e = absurd (cc)
 found_is test u (r ∷ rs) t e = by (found_is test (suc u) rs t) (test r) refl e
   where
-    by : (found_home test (suc u) rs ≡ Some t → (x : ℕ) × (x < length rs) × (test (home rs x) ≡ true) × (t ≡ Var (suc u + x))) → (c : Bool) → test r ≡ c → (if c then Some (Var u) else found_home test (suc u) rs) ≡ Some t
+    by : (found_home test (suc u) rs ≡ Some t → (x : ℕ) × (x < length rs) × (test (home rs x) ≡ true) × (t ≡ Var (suc u + x))) → (c : Bool) → test r ≡ c
+        → (if c then Some (Var u) else found_home test (suc u) rs) ≡ Some t
         → (x : ℕ) × (x < length (r ∷ rs)) × (test (home (r ∷ rs) x) ≡ true) × (t ≡ Var (u + x))
     by rest true h g = let a : Var u ≡ t = cc in let z : u ≡ u + 0 = omega arith in (0, omega arith, h, sym a ∙ ap Var z)
     by rest false h g =
@@ -44,7 +50,8 @@ found_is test u (r ∷ rs) t e = by (found_is test (suc u) rs t) (test r) refl e
         let z : suc u + w.0 ≡ u + suc w.0 = omega arith in
         (suc w.0, omega (arith, l), w.2, w.3 ∙ ap Var z)
 
-found_at : (test : Register → Bool) (u : ℕ) (rs : List Register) (x : ℕ) → x < length rs → test (home rs x) ≡ true → ((y : ℕ) → y < length rs → test (home rs y) ≡ true → y ≡ x) → found_home test u rs ≡ Some (Var (u + x))
+found_at : (test : Register → Bool) (u : ℕ) (rs : List Register) (x : ℕ) → x < length rs → test (home rs x) ≡ true
+    → ((y : ℕ) → y < length rs → test (home rs y) ≡ true → y ≡ x) → found_home test u rs ≡ Some (Var (u + x))
 found_at test u [] x l h one = absurd (omega (arith, l))
 found_at test u (r ∷ rs) zero l h one = let z : u ≡ u + 0 = omega arith in ap (λ c. if c then Some (Var u) else found_home test (suc u) rs) h ∙ ap (λ k. Some (Var k)) z
 found_at test u (r ∷ rs) (suc x) l h one =
@@ -99,15 +106,23 @@ module _ (n : ℕ) (homes : List Register) (depths : ℕ → Option Depth) (apar
     top = refl;
   }
 
-  pub at_body : (framed : Bool) (l : Levels) (made : List Bool) (p : Places) (s : State) → AllMade homes made → length made ≡ length homes → InBody n homes depths p → IsRest homes framed l s → At n homes made p s
+  pub at_body : (framed : Bool) (l : Levels) (made : List Bool) (p : Places) (s : State) → AllMade homes made → length made ≡ length homes
+      → InBody n homes depths p → IsRest homes framed l s → At n homes made p s
   at_body framed l made p s all long b r = record {
     fits = record { held = λ x l e. b.held x l; fresh = λ x l e. absurd (true≢false (sym (all x l) ∙ e)); whole = λ i l h. b.whole i l; own = b.own };
     tracks = record { set = λ x l e. r.set x l; free = λ x l e. absurd (true≢false (sym (all x l) ∙ e)) };
     long = long;
   }
 
-  pub body_at : (made : List Bool) (p q : Places) (s : State) → AllMade homes made → At n homes made q s → ((k : ℕ) (e : Depth) → depths k ≡ Some e → p.levels k ≡ Some e) → ((k : ℕ) (e : Depth) → depths k ≡ Some e → IsNoHome homes k) → KeepsDepths homes p q → InBody n homes depths q
-  body_at made p q s all a levels clear kept = record { held = λ x l. a.fits.held x l (all x l); levels = λ k e h. kept.levels k (clear k e h) ∙ levels k e h; whole = fits_whole n homes made q a.fits all; own = a.fits.own }
+  pub body_at : (made : List Bool) (p q : Places) (s : State) → AllMade homes made → At n homes made q s
+      → ((k : ℕ) (e : Depth) → depths k ≡ Some e → p.levels k ≡ Some e) → ((k : ℕ) (e : Depth) → depths k ≡ Some e → IsNoHome homes k) → KeepsDepths homes p q
+      → InBody n homes depths q
+  body_at made p q s all a levels clear kept = record {
+    held = λ x l. a.fits.held x l (all x l);
+    levels = λ k e h. kept.levels k (clear k e h) ∙ levels k e h;
+    whole = fits_whole n homes made q a.fits all;
+    own = a.fits.own;
+  }
 
 -- ---- one goal
 
@@ -166,7 +181,8 @@ pub record Loaded (s t : State) (k : ℕ) : Type 0 where
 
 abbrev pub Taken : Base → List Register → Code → Goal → Terms → Type 0
 Taken b homes i g ts =
-    (n at : ℕ) (depths : ℕ → Option Depth) (d : Depth) (later : List Goal) (q : Places) → InBody n homes depths q → Hold q 1 (moved_all n ts) → Does b at (i ∷ []) q [] (marked d.branches (rename_goal (λ x. n + x) g) ∷ later) (between_goals n homes depths) [] later
+    (n at : ℕ) (depths : ℕ → Option Depth) (d : Depth) (later : List Goal) (q : Places) → InBody n homes depths q → Hold q 1 (moved_all n ts)
+    → Does b at (i ∷ []) q [] (marked d.branches (rename_goal (λ x. n + x) g) ∷ later) (between_goals n homes depths) [] later
 
 abbrev pub Effective : Base → List Register → Bool → Levels → Code → ℕ → Type 0
 Effective b homes framed l i k = (s t : State) → IsRest homes framed l s → Loaded s t k → (u : State) × (effect (unplaced b) i t ≡ Some u) × Covers u s
@@ -182,14 +198,17 @@ no_home homes l fits depths d h k e g =
 abbrev pub nothing_held : ℕ → Option Depth
 nothing_held k = None
 
-pub one_goal : (b : Base) (homes : List Register) (apart : AreApart homes) (l : Levels) → AreFree homes l → (framed : Bool) (made : List Bool) (free at : ℕ) (ts : Terms) (i : Code) (g : Goal) → AllMade homes made → length made ≡ length homes → Fine b homes free ts → IsTrue (is_simple i) → IsThereIn b i
+pub one_goal : (b : Base) (homes : List Register) (apart : AreApart homes) (l : Levels) → AreFree homes l
+    → (framed : Bool) (made : List Bool) (free at : ℕ) (ts : Terms) (i : Code) (g : Goal) → AllMade homes made → length made ≡ length homes
+    → Fine b homes free ts → IsTrue (is_simple i) → IsThereIn b i
     → Taken b homes i g ts → Effective b homes framed l i (term_count ts) → IsGoalsCode b homes framed l at (code_of homes made (puts b.pool 1 free ts) ++ (i ∷ [])) (g ∷ [])
 one_goal b homes apart l fits framed made free at ts i g all long f simple there takes effects =
     record {
       does = λ s r n depths d hd p later h.
           let w = put n depths p s r h in
           let q : Places = w.went.q in
-          let mid : InBody n homes depths q = body_at n homes depths apart (marked_by_all made (puts b.pool 1 free ts)) p q w.went.t (λ x m. w.went.keeps.more x m (all x m)) w.went.there h.levels (no_home homes l fits depths d hd) w.went.keeps.depths in
+          let mid : InBody n homes depths q = body_at n homes depths apart (marked_by_all made (puts b.pool 1 free ts)) p q w.went.t
+          (λ x m. w.went.keeps.more x m (all x m)) w.went.there h.levels (no_home homes l fits depths d hd) w.went.keeps.depths in
           let js : List Code = code_of homes made (puts b.pool 1 free ts) in
           let goals : List Goal = marked d.branches (rename_goal (λ x. n + x) g) ∷ later in
           record {
@@ -207,14 +226,16 @@ one_goal b homes apart l fits framed made free at ts i g all long f simple there
     }
   where
     put : (n : ℕ) (depths : ℕ → Option Depth) (p : Places) (s : State) → IsRest homes framed l s → InBody n homes depths p → PutAllBy b n homes apart 1 made at p s [] (puts b.pool 1 free ts) ts
-    put n depths p s r h = puts_put b n homes apart made at 1 free ts p s [] (at_body n homes depths apart framed l made p s all long h r) r.owed f.suit (let m = f.below in omega (arith, m)) all f.lands f.clear
+    put n depths p s r h = puts_put b n homes apart made at 1 free ts p s [] (at_body n homes depths apart framed l made p s all long h r) r.owed f.suit
+        (let m = f.below in omega (arith, m)) all f.lands f.clear
 
     loaded : (s : State) (p : Places) → IsRest homes framed l s → (w : PutAllBy b 0 homes apart 1 made at p s [] (puts b.pool 1 free ts) ts) → Loaded s w.went.t (term_count ts)
     loaded s p r w = record { frame = w.went.keeps.frame all; owed = w.went.owed; set = λ j m k. w.set j m (omega (arith, k)); regs = w.went.keeps.regs }
 
 -- ---- goals, one behind the other
 
-pub renamed_both : (m : ℕ) (f : ℕ → ℕ) (gs hs : List Goal) (later : List Goal) → marked_all m (map (rename_goal f) (gs ++ hs)) ++ later ≡ marked_all m (map (rename_goal f) gs) ++ (marked_all m (map (rename_goal f) hs) ++ later)
+pub renamed_both : (m : ℕ) (f : ℕ → ℕ) (gs hs : List Goal) (later : List Goal)
+    → marked_all m (map (rename_goal f) (gs ++ hs)) ++ later ≡ marked_all m (map (rename_goal f) gs) ++ (marked_all m (map (rename_goal f) hs) ++ later)
 renamed_both m f [] hs later = refl
 renamed_both m f (g ∷ gs) hs later = ap (λ l. marked m (rename_goal f g) ∷ l) (renamed_both m f gs hs later)
 
@@ -225,7 +246,8 @@ goals_nothing b homes framed l at = record {
   enters = λ i e. absurd (cc);
 }
 
-pub goals_both : (b : Base) (homes : List Register) (framed : Bool) (l : Levels) (at : ℕ) (is js : List Code) (gs hs : List Goal) → IsGoalsCode b homes framed l at is gs → IsGoalsCode b homes framed l (past at is) js hs → IsGoalsCode b homes framed l at (is ++ js) (gs ++ hs)
+pub goals_both : (b : Base) (homes : List Register) (framed : Bool) (l : Levels) (at : ℕ) (is js : List Code) (gs hs : List Goal)
+    → IsGoalsCode b homes framed l at is gs → IsGoalsCode b homes framed l (past at is) js hs → IsGoalsCode b homes framed l at (is ++ js) (gs ++ hs)
 goals_both b homes framed l at is js gs hs f g = record {
   does = λ s r n depths d hd p later h.
       let rest : List Goal = marked_all d.branches (map (rename_goal (λ x. n + x)) hs) ++ later in
@@ -235,7 +257,8 @@ goals_both b homes framed l at is js gs hs f g = record {
         q = c.q;
         there = c.there;
         same = λ e. c.same (a.same e);
-        does = subst (λ x. Does b at (is ++ js) p [] x c.q [] later) (sym (renamed_both d.branches (λ x. n + x) gs hs later)) (does_both b at is js p a.q c.q [] [] [] (marked_all d.branches (map (rename_goal (λ x. n + x)) gs) ++ rest) rest later a.does c.does);
+        does = subst (λ x. Does b at (is ++ js) p [] x c.q [] later) (sym (renamed_both d.branches (λ x. n + x) gs hs later))
+            (does_both b at is js p a.q c.q [] [] [] (marked_all d.branches (map (rename_goal (λ x. n + x)) gs) ++ rest) rest later a.does c.does);
       };
   flows = λ s r. flows_both b at is js s s s (f.flows s r) (g.flows s r);
   enters = enters_both is js f.enters g.enters;
@@ -251,7 +274,9 @@ listed_marked m f goal.no_goals = refl
 listed_marked m f (goal.goal g gs) = ap (λ l. marked m (rename_goal f g) ∷ l) (listed_marked m f gs)
 
 -- The code of goals leads from the places between goals to the same.
-pub does_between : (b : Base) (homes : List Register) (apart : AreApart homes) (framed : Bool) (l : Levels) (at : ℕ) (is : List Code) (gs : List Goal) → IsGoalsCode b homes framed l at is gs → (s : State) → IsRest homes framed l s → (n : ℕ) (depths : ℕ → Option Depth) (d : Depth) → HasDepths l depths d → (later : List Goal)
+pub does_between : (b : Base) (homes : List Register) (apart : AreApart homes) (framed : Bool) (l : Levels) (at : ℕ) (is : List Code) (gs : List Goal)
+    → IsGoalsCode b homes framed l at is gs → (s : State) → IsRest homes framed l s → (n : ℕ) (depths : ℕ → Option Depth) (d : Depth) → HasDepths l depths d
+    → (later : List Goal)
     → Does b at is (between_goals n homes depths) [] (marked_all d.branches (map (rename_goal (λ x. n + x)) gs) ++ later) (between_goals n homes depths) [] later
 does_between b homes apart framed l at is gs f s r n depths d hd later =
     let q : Places = between_goals n homes depths in
@@ -259,7 +284,8 @@ does_between b homes apart framed l at is gs f s r n depths d hd later =
     subst (λ w. Does b at is q [] (marked_all d.branches (map (rename_goal (λ x. n + x)) gs) ++ later) w [] later) (a.same refl) a.does
 
 -- Both ways of A ; B.
-pub goals_either : (b : Base) (homes : List Register) (apart : AreApart homes) (framed : Bool) (l : Levels) (at : ℕ) (is js : List Code) (x y : Goals) → IsGoalsCode b homes framed l (suc at) is (listed x) → IsGoalsCode b homes framed l (other_side at is js) js (listed y)
+pub goals_either : (b : Base) (homes : List Register) (apart : AreApart homes) (framed : Bool) (l : Levels) (at : ℕ) (is js : List Code) (x y : Goals)
+    → IsGoalsCode b homes framed l (suc at) is (listed x) → IsGoalsCode b homes framed l (other_side at is js) js (listed y)
     → IsGoalsCode b homes framed l at (sides at is js) (goal.Either x y ∷ [])
 goals_either b homes apart framed l at is js x y f g = record {
   does = λ s r n depths d hd p later h.
@@ -271,7 +297,8 @@ goals_either b homes apart framed l at is js x y f g = record {
       let one : Does b (suc at) is q [] (listed u ++ later) q [] later =
       subst (λ w. Does b (suc at) is q [] (w ++ later) q [] later) (sym (listed_marked m (λ x. n + x) x)) (does_between b homes apart framed l (suc at) is (listed x) f s r n depths d hd later) in
       let two : Does b (other_side at is js) js q [] (listed v ++ later) q [] later =
-      subst (λ w. Does b (other_side at is js) js q [] (w ++ later) q [] later) (sym (listed_marked m (λ x. n + x) y)) (does_between b homes apart framed l (other_side at is js) js (listed y) g s r n depths d hd later) in
+      subst (λ w. Does b (other_side at is js) js q [] (w ++ later) q [] later) (sym (listed_marked m (λ x. n + x) y))
+      (does_between b homes apart framed l (other_side at is js) js (listed y) g s r n depths d hd later) in
       record {
         q = q;
         there = in';

@@ -1,5 +1,6 @@
 -- The code of a whole clause, and of a whole query.
-use Rattle.std.proofs.Common.{◌≡◌, ◌⊎◌, ℕ, zero, suc, ◌+◌, ◌-◌, ◌<◌, ◌≤◌, Bool, true, false, ◌||◌, IsTrue, List, [], ◌∷◌, ◌++◌, map, Option, Some, None, length, slice_get, replicate, refl, ap, sym, ◌∙◌, subst, arith, inl, inr, append-nil, append_assoc, eq-eqb, ne_eqb}
+use Rattle.std.proofs.Common.{◌≡◌, ◌⊎◌, ℕ, zero, suc, ◌+◌, ◌-◌, ◌<◌, ◌≤◌, Bool, true, false, ◌||◌, IsTrue, List, [], ◌∷◌, ◌++◌, map, Option, Some, None, length}
+use Rattle.std.proofs.Common.{slice_get, replicate, refl, ap, sym, ◌∙◌, subst, arith, inl, inr, append-nil, append_assoc, eq-eqb, ne_eqb}
 use Rattle.std.proofs.lemmas.Bool.{cases_eq, cases_lt, true≢false}
 use Rattle.std.proofs.lemmas.List.{get_or-replicate, length-replicate, length-append}
 use Rattle.std.proofs.lemmas.Option.{slice_get-get_or}
@@ -9,9 +10,9 @@ use Rattle.fd_language.specs.Unifier.{Equation}
 use Rattle.fd_model.specs.Goal as goal
 use Rattle.fd_model.specs.Goal.{Goal, Clause, Query, marked_all}
 use Rattle.fd_model.specs.Renaming.{rename_goal}
-use Rattle.fd_model.specs.Constraining.{arguments}
+use Rattle.fd_model.specs.ConstraintExpansion.{arguments}
 use Rattle.fd_model.specs.Children.{paired}
-use Rattle.machine_relation.specs.Heap.{Of, AllOf}
+use Rattle.branch_meaning.specs.Heap.{Of, AllOf}
 use Rattle.term_pool.specs.Contents.{Contents, atom_name}
 use Rattle.wam_code.specs.declared.instruction.Register.{Register}
 use Rattle.wam_code.specs.declared.instruction.Register.TheVariants.{Y}
@@ -21,25 +22,26 @@ use Rattle.wam_code.specs.Area.{Slot, Unset, State}
 use Rattle.wam_code.specs.Effect.{slot_at, is_cell, may_be_level, is_unset, is_set, is_free, has_frame, no_frame, are_given, effect}
 use Rattle.wam_code.specs.VerifiedCode.{goes_on, Covers, IsFirst}
 use Rattle.wam_code.specs.Places.{Depth, no_depth, Places, put_at, read, no_slots, Hold, made}
-use Rattle.wam_code.specs.Means.{Caller, Shows, Means}
+use Rattle.wam_code.specs.CodeMeaning.{Caller, Shows, Means}
 use Rattle.wam_code.specs.Tries.{IsBefore}
 use Rattle.wam_code.proofs.Lemmas.{covers_self, put_here, put_else}
-use Rattle.machine_relation.proofs.Lemmas.{functions, more_all}
+use Rattle.branch_meaning.proofs.Lemmas.{functions, more_all}
 use Rattle.clause_code.specs.Pieces.{Base, Predicate, past, Does, Ends}
-use Rattle.clause_code.specs.Safe.{unplaced, aims, is_plain, IsThereIn, IsSafePiece, IsClauseCode, IsQueryPiece}
-use Rattle.clause_code.specs.Flowing.{is_inner, Runs, Flows, MayEnter}
+use Rattle.clause_code.specs.SafeCode.{unplaced, aims, is_plain, IsThereIn, IsSafePiece, IsClauseCode, IsQueryPiece}
+use Rattle.clause_code.specs.StateFlow.{is_inner, Runs, Flows, MayEnter}
 use Rattle.clause_code.specs.Steps.{home, is_made, marked_by_all, code_of, gets, puts, fills, filled, Suits, AllSuit}
 use Rattle.clause_code.specs.Bodies.{Levels, HasDepths, AreFree, between_goals, InBody, IsRest, IsGoalsCode}
-use Rattle.clause_code.specs.Whole.{front, back, unmade, head_code, levels_code, levels_behind, no_levels, IsHoused}
+use Rattle.clause_code.specs.ClauseParts.{front, back, unmade, head_code, levels_code, levels_behind, no_levels, IsHoused}
 use Rattle.clause_code.specs.ArgumentHomes.{AllWait}
 use Rattle.clause_code.proofs.Pieces.{does_both, does_allocate, ends_behind, ends_proceed, ends_execute, ends_answer, does_deallocate}
-use Rattle.clause_code.proofs.Making.{AreApart, Unknown, KeepsSlots, has_more}
-use Rattle.clause_code.proofs.Restating.{EachUnder}
-use Rattle.clause_code.proofs.Leveling.{levels_done, levels_run}
-use Rattle.clause_code.proofs.Going.{when_true, both, plain_of, moved, moved_all, count_moved, AllMade, At, Went, went_both, runs_both}
-use Rattle.clause_code.proofs.Building.{gets_went, PutAllBy, puts_put}
-use Rattle.clause_code.proofs.Filling.{filled_made, fills_went}
-use Rattle.clause_code.proofs.Flowing.{flows_both, flows_runs, flows_simple, flows_runs_less, enters_runs, enters_both, safe_ends, get_last, get_only, get_both}
+use Rattle.clause_code.proofs.FreshVariables.{AreApart, Unknown, KeepsSlots, has_more}
+use Rattle.clause_code.proofs.NestedStructures.{EachUnder}
+use Rattle.clause_code.proofs.LevelInstructions.{levels_done, levels_run}
+use Rattle.clause_code.proofs.StepEffects.{when_true, both, plain_of, moved, moved_all, count_moved, AllMade, At, Went, went_both, runs_both}
+use Rattle.clause_code.proofs.BuiltTerms.{gets_went, PutAllBy, puts_put}
+use Rattle.clause_code.proofs.UnmadeVariables.{filled_made, fills_went}
+use Rattle.clause_code.proofs.StateFlow.{flows_both, flows_runs, flows_simple, flows_runs_less, enters_runs, enters_both, safe_ends, get_last, get_only}
+use Rattle.clause_code.proofs.StateFlow.{get_both}
 use Rattle.clause_code.proofs.Bodies.{nothing_held, no_home, between_in, at_body, body_at, Fine, single_enters, steps_enter, renamed_both}
 use Rattle.clause_code.proofs.GoalKinds.{given_cells, moved_made}
 use Rattle.clause_code.proofs.SameGoals.{goals_identity}
@@ -94,7 +96,8 @@ hold_slots p i (term a as') h = (h.0, hold_slots p (suc i) as' h.1)
 
 -- ---- the head
 
--- What stands before the goals: it begins with the arguments of the head and the depth that was noted, and leaves each variable in its home, and the depth in the slot that cuts go to.
+-- What stands before the goals: it begins with the arguments of the head and the depth that was noted, and leaves each variable in its home, and the depth in
+-- the slot that cuts go to.
 pub record Begun (b : Base) (homes : List Register) (l : Levels) (at : ℕ) (is : List Code) (ts : Terms) (n : ℕ) (as' : Terms) (d : Depth) (p : Places) : Type 0 where
   pub q : Places
   pub depths : ℕ → Option Depth
@@ -109,7 +112,8 @@ pub record Start (b : Base) (homes : List Register) (framed : Bool) (l : Levels)
   pub rested : IsRest homes framed l rest
   pub flows : Flows b at is first rest
   pub enters : MayEnter is
-  pub does : (n : ℕ) (as' : Terms) (d : Depth) (p : Places) → term_count as' ≡ term_count ts → AllOf (λ v. v < n) as' → Hold p 1 as' → p.noted ≡ Some d → IsBefore p n (length homes) → Begun b homes l at is ts n as' d p
+  pub does : (n : ℕ) (as' : Terms) (d : Depth) (p : Places) → term_count as' ≡ term_count ts → AllOf (λ v. v < n) as' → Hold p 1 as' → p.noted ≡ Some d
+      → IsBefore p n (length homes) → Begun b homes l at is ts n as' d p
 
 -- ---- the equations of a head
 
@@ -142,7 +146,8 @@ before_unknown p n v before i l = let e = before.top in before.fresh i (omega (a
 is_unmade : (homes : List Register) (x : ℕ) → x < length homes → is_made (unmade homes) x ≡ false
 is_unmade homes x l = get_or-replicate (length homes) x false true l
 
-module _ (b : Base) (homes : List Register) (framed : Bool) (slots k free : ℕ) (housed : IsHoused homes framed slots k free) (ts : Terms) (suit : AllSuit b.pool (length homes) ts) (few : term_count ts ≤ k) (waits : AllWait homes 1 (term_count ts) ts) where
+module _ (b : Base) (homes : List Register) (framed : Bool) (slots k free : ℕ) (housed : IsHoused homes framed slots k free) (ts : Terms)
+    (suit : AllSuit b.pool (length homes) ts) (few : term_count ts ≤ k) (waits : AllWait homes 1 (term_count ts) ts) where
   free_home : (x : ℕ) → x < length homes → is_free (first_state framed slots (term_count ts)) (home homes x) ≡ true
   free_home x l = by framed refl
     where
@@ -198,10 +203,13 @@ module _ (b : Base) (homes : List Register) (framed : Bool) (slots k free : ℕ)
       let mid : List Bool = marked_by_all made0 (gets b.pool 1 free ts) in
       let es : List Equation = paired as' (moved_all n ts) in
       let above : k < free = housed.above in
-      let a0 = gets_went b n homes housed.apart made0 at 1 free ts as' p s0 [] (at_first n p before) refl suit size (omega (arith, above, few)) (term_count ts) (omega arith) waits housed.clear (before_unknown p n (length homes) before) (head_under b.pool p n (length homes) as' ts before below suit) hold (λ j l m. firsts_have (term_count ts) j l (omega (arith, m))) in
+      let a0 = gets_went b n homes housed.apart made0 at 1 free ts as' p s0 [] (at_first n p before) refl suit size (omega (arith, above, few)) (term_count ts)
+      (omega arith) waits housed.clear (before_unknown p n (length homes) before) (head_under b.pool p n (length homes) as' ts before below suit) hold
+      (λ j l m. firsts_have (term_count ts) j l (omega (arith, m))) in
       let a : Went b n homes free free made0 at heads p s0 es mid [] = subst (λ e. Went b n homes free free made0 at heads p s0 e mid []) (append-nil es) a0 in
       let f = fills_went b n homes housed.apart mid (past at heads) free free (length homes) a.q a.t [] a.there a.owed (omega arith) (housed.clear free (omega arith)) (omega arith) in
-      let w = went_both b n homes free free free free free free made0 mid (filled mid (length homes)) at heads (fills homes free mid (length homes)) p s0 es [] [] (omega arith) (inl refl) (omega arith) (inl refl) a f in
+      let w = went_both b n homes free free free free free free made0 mid (filled mid (length homes)) at heads (fills homes free mid (length homes)) p s0 es []
+      [] (omega arith) (inl refl) (omega arith) (inl refl) a f in
       let long = a.there.long in
       let all : AllMade homes (filled mid (length homes)) = λ x l. filled_made mid (length homes) (omega (arith, long)) x l in
       record {
@@ -271,9 +279,11 @@ no_depths : (d : Depth) → HasDepths no_levels nothing_held d
 no_depths d = record { cut = λ c. absurd (let z = c.1 in omega (arith, z)); others = λ k e h. absurd (cc) }
 
 -- The code of a head without a frame.
-pub start_short : (b : Base) (homes : List Register) (slots k free at : ℕ) (ts : Terms) → IsHoused homes false slots k free → AllSuit b.pool (length homes) ts → term_count ts ≤ k → AllWait homes 1 (term_count ts) ts → Start b homes false no_levels at (head_code b.pool homes free ts) ts
+pub start_short : (b : Base) (homes : List Register) (slots k free at : ℕ) (ts : Terms) → IsHoused homes false slots k free → AllSuit b.pool (length homes) ts
+    → term_count ts ≤ k → AllWait homes 1 (term_count ts) ts → Start b homes false no_levels at (head_code b.pool homes free ts) ts
 start_short b homes slots k free at ts housed suit few waits =
-    let h = headed b homes false slots k free housed ts suit few waits 0 at (atoms ts) (some_place (length homes)) (atoms_count ts) (atoms_under 0 ts) (atoms_hold (length homes) 1 ts) (some_before (length homes)) in
+    let h = headed b homes false slots k free housed ts suit few waits 0 at (atoms ts) (some_place (length homes)) (atoms_count ts) (atoms_under 0 ts)
+    (atoms_hold (length homes) 1 ts) (some_before (length homes)) in
     record {
       first = before_frame (term_count ts);
       rest = h.t;
@@ -281,11 +291,13 @@ start_short b homes slots k free at ts housed suit few waits =
       rested = record { set = h.set; levels = λ j a z. absurd (omega (arith, z)); owed = h.owed; frame = h.shape; regs = λ e. absurd (true≢false (sym e)) };
       flows = flows_runs b at (head_code b.pool homes free ts) (before_frame (term_count ts)) h.t h.runs;
       enters = enters_runs b (head_code b.pool homes free ts) (before_frame (term_count ts)) h.t h.runs;
-      does = λ n as' d p size below hold noted before. let g = headed b homes false slots k free housed ts suit few waits n at as' p size below hold before in record { q = g.q; depths = nothing_held; has = no_depths d; there = g.there; does = g.does };
+      does = λ n as' d p size below hold noted before. let g = headed b homes false slots k free housed ts suit few waits n at as' p size below hold before in
+          record { q = g.q; depths = nothing_held; has = no_depths d; there = g.there; does = g.does };
     }
 
 -- The code of a head with a frame, and then its level slots, so many, are set.
-module _ (b : Base) (homes : List Register) (slots k free at : ℕ) (ts : Terms) (housed : IsHoused homes true slots k free) (suit : AllSuit b.pool (length homes) ts) (few : term_count ts ≤ k) (waits : AllWait homes 1 (term_count ts) ts)
+module _ (b : Base) (homes : List Register) (slots k free at : ℕ) (ts : Terms) (housed : IsHoused homes true slots k free)
+    (suit : AllSuit b.pool (length homes) ts) (few : term_count ts ≤ k) (waits : AllWait homes 1 (term_count ts) ts)
     (v count : ℕ) (fits : AreFree homes (levels_behind v count)) (room : v + count ≤ slots) where
   abbrev l : Levels
   l = levels_behind v count
@@ -337,7 +349,8 @@ module _ (b : Base) (homes : List Register) (slots k free at : ℕ) (ts : Terms)
 
   pub start_framed : Start b homes true l at (front true slots ++ (heads ++ levels_code l)) ts
   start_framed =
-      let h = headed b homes true slots k free housed ts suit few waits 0 (suc at) (atoms ts) (some_place (length homes)) (atoms_count ts) (atoms_under 0 ts) (atoms_hold (length homes) 1 ts) (some_before (length homes)) in
+      let h = headed b homes true slots k free housed ts suit few waits 0 (suc at) (atoms ts) (some_place (length homes)) (atoms_count ts) (atoms_under 0 ts)
+      (atoms_hold (length homes) 1 ts) (some_before (length homes)) in
       let r = levels_run b many l.first h.t h.owed (free_slot h.t h.slots_kept) in
       let rest : State = record r.t { regs = [] } in
       let cover : Covers r.t rest = record { frame = refl; owed = refl; regs = λ n e. absurd (true≢false (sym e)) } in
@@ -362,7 +375,8 @@ module _ (b : Base) (homes : List Register) (slots k free at : ℕ) (ts : Terms)
         does = λ n as' d p size below hold noted before. begun n as' d p size below hold noted before;
       }
     where
-      begun : (n : ℕ) (as' : Terms) (d : Depth) (p : Places) → term_count as' ≡ term_count ts → AllOf (λ v. v < n) as' → Hold p 1 as' → p.noted ≡ Some d → IsBefore p n (length homes) → Begun b homes l at (front true slots ++ (heads ++ levels_code l)) ts n as' d p
+      begun : (n : ℕ) (as' : Terms) (d : Depth) (p : Places) → term_count as' ≡ term_count ts → AllOf (λ v. v < n) as' → Hold p 1 as' → p.noted ≡ Some d
+          → IsBefore p n (length homes) → Begun b homes l at (front true slots ++ (heads ++ levels_code l)) ts n as' d p
       begun n as' d p size below hold noted before =
           let before' : IsBefore (no_slots p) n (length homes) = record { known = before.known; fresh = before.fresh; own = before.own; top = before.top } in
           let g = headed b homes true slots k free housed ts suit few waits n (suc at) as' (no_slots p) size below (hold_slots p 1 as' hold) before' in
@@ -400,7 +414,8 @@ module _ (b : Base) (homes : List Register) (slots k free at : ℕ) (ts : Terms)
 
 -- What stands behind the goals: the last goals hs, and an instruction that hands its state to no place.
 pub record Tail (b : Base) (homes : List Register) (framed : Bool) (l : Levels) (at : ℕ) (ks : List Code) (i : Code) (hs : List Goal) : Type 0 where
-  pub ends : (s : State) → IsRest homes framed l s → (n : ℕ) (depths : ℕ → Option Depth) (d : Depth) → HasDepths l depths d → (p : Places) (w : Caller) → InBody n homes depths p → Ends b w at (ks ++ (i ∷ [])) p [] (marked_all d.branches (map (rename_goal (λ x. n + x)) hs) ++ w.goals)
+  pub ends : (s : State) → IsRest homes framed l s → (n : ℕ) (depths : ℕ → Option Depth) (d : Depth) → HasDepths l depths d → (p : Places) (w : Caller)
+      → InBody n homes depths p → Ends b w at (ks ++ (i ∷ [])) p [] (marked_all d.branches (map (rename_goal (λ x. n + x)) hs) ++ w.goals)
   pub flows : (s : State) → IsRest homes framed l s → (t : State) × (u : State) × Flows b at ks s t × (effect (unplaced b) i t ≡ Some u)
   pub there : IsThereIn b i
   pub aims : aims i ≡ []
@@ -426,7 +441,8 @@ tail_proceed b homes false l at = record {
   no_answer = λ e. absurd (cc);
 }
 tail_proceed b homes true l at = record {
-  ends = λ s r n depths d hd p w h. ends_behind b w at (Deallocate ∷ []) (Proceed ∷ []) p (no_slots p) [] [] w.goals w.goals (does_deallocate b at p [] w.goals) (ends_proceed b w (suc at) (no_slots p) h.whole);
+  ends = λ s r n depths d hd p w h. ends_behind b w at (Deallocate ∷ []) (Proceed ∷ []) p (no_slots p) [] [] w.goals w.goals (does_deallocate b at p [] w.goals)
+      (ends_proceed b w (suc at) (no_slots p) h.whole);
   flows = λ s r.
       let t : State = record s { frame = None } in
       (t, t, flows_simple b at Deallocate s t t (plain_of b Deallocate s r.owed ∙ when_true _ t r.frame) (covers_self t) refl tt, plain_of b Proceed t r.owed);
@@ -439,8 +455,11 @@ tail_proceed b homes true l at = record {
 }
 
 -- The last goal is a user goal.
-pub tail_execute : (b : Base) (homes : List Register) (apart : AreApart homes) (l : Levels) (fits : AreFree homes l) (framed : Bool) (made_now : List Bool) (free at : ℕ) → AllMade homes made_now → length made_now ≡ length homes → (e : ℕ) (s : Predicate) (us : Terms)
-    → slice_get b.predicates e ≡ Some s → term_count us ≡ s.arity → e < length b.predicates → Fine b homes free us → Tail b homes framed l at (code_of homes made_now (puts b.pool 1 free us) ++ back framed) (Execute e) (goal.Call (made (atom_name b.pool s.name) us) ∷ [])
+pub tail_execute : (b : Base) (homes : List Register) (apart : AreApart homes) (l : Levels) (fits : AreFree homes l) (framed : Bool) (made_now : List Bool)
+    (free at : ℕ) → AllMade homes made_now → length made_now ≡ length homes → (e : ℕ) (s : Predicate) (us : Terms)
+    → slice_get b.predicates e ≡ Some s → term_count us ≡ s.arity → e < length b.predicates → Fine b homes free us
+    → Tail b homes framed l at (code_of homes made_now (puts b.pool 1 free us) ++ back framed) (Execute e)
+    (goal.Call (made (atom_name b.pool s.name) us) ∷ [])
 tail_execute b homes apart l fits framed made_now free at all long e s us h ar le fine = record {
   ends = λ c r n depths d hd p w body. ends framed c r n depths d hd p w body;
   flows = λ d r. flow framed d r;
@@ -455,36 +474,46 @@ tail_execute b homes apart l fits framed made_now free at all long e s us h ar l
     js : List Code
     js = code_of homes made_now (puts b.pool 1 free us)
 
-    put : (f : Bool) (n : ℕ) (depths : ℕ → Option Depth) (at : ℕ) (p : Places) (d : State) → IsRest homes f l d → InBody n homes depths p → PutAllBy b n homes apart 1 made_now at p d [] (puts b.pool 1 free us) us
-    put f n depths at p d r body = puts_put b n homes apart made_now at 1 free us p d [] (at_body n homes depths apart f l made_now p d all long body r) r.owed fine.suit (let m = fine.below in omega (arith, m)) all fine.lands fine.clear
+    put : (f : Bool) (n : ℕ) (depths : ℕ → Option Depth) (at : ℕ) (p : Places) (d : State) → IsRest homes f l d → InBody n homes depths p
+        → PutAllBy b n homes apart 1 made_now at p d [] (puts b.pool 1 free us) us
+    put f n depths at p d r body = puts_put b n homes apart made_now at 1 free us p d [] (at_body n homes depths apart f l made_now p d all long body r) r.owed
+        fine.suit (let m = fine.below in omega (arith, m)) all fine.lands fine.clear
 
     goals : ℕ → Caller → List Goal
     goals n w = goal.Call (moved n (made (atom_name b.pool s.name) us)) ∷ w.goals
 
-    execute : (n : ℕ) (depths : ℕ → Option Depth) (at : ℕ) (w : Caller) (q : Places) → InBody n homes depths q → Hold q 1 (moved_all n us) → Ends b w at (Execute e ∷ []) q [] (goal.Call (moved n (made (atom_name b.pool s.name) us)) ∷ w.goals)
-    execute n depths at w q body hold = subst (λ t. Ends b w at (Execute e ∷ []) q [] (goal.Call t ∷ w.goals)) (sym (moved_made n (atom_name b.pool s.name) us)) (ends_execute b w at e s (moved_all n us) q h (count_moved n us ∙ ar) hold body.whole)
+    execute : (n : ℕ) (depths : ℕ → Option Depth) (at : ℕ) (w : Caller) (q : Places) → InBody n homes depths q → Hold q 1 (moved_all n us)
+        → Ends b w at (Execute e ∷ []) q [] (goal.Call (moved n (made (atom_name b.pool s.name) us)) ∷ w.goals)
+    execute n depths at w q body hold = subst (λ t. Ends b w at (Execute e ∷ []) q [] (goal.Call t ∷ w.goals)) (sym (moved_made n (atom_name b.pool s.name) us))
+        (ends_execute b w at e s (moved_all n us) q h (count_moved n us ∙ ar) hold body.whole)
 
-    last_ends : (f : Bool) (n : ℕ) (depths : ℕ → Option Depth) (at : ℕ) (w : Caller) (q : Places) → InBody n homes depths q → Hold q 1 (moved_all n us) → Ends b w at (back f ++ (Execute e ∷ [])) q [] (goal.Call (moved n (made (atom_name b.pool s.name) us)) ∷ w.goals)
+    last_ends : (f : Bool) (n : ℕ) (depths : ℕ → Option Depth) (at : ℕ) (w : Caller) (q : Places) → InBody n homes depths q → Hold q 1 (moved_all n us)
+        → Ends b w at (back f ++ (Execute e ∷ [])) q [] (goal.Call (moved n (made (atom_name b.pool s.name) us)) ∷ w.goals)
     last_ends false n depths at w q body hold = execute n depths at w q body hold
     last_ends true n depths at w q body hold =
         let gs : List Goal = goal.Call (moved n (made (atom_name b.pool s.name) us)) ∷ w.goals in
         ends_behind b w at (Deallocate ∷ []) (Execute e ∷ []) q (no_slots q) [] [] gs gs (does_deallocate b at q [] gs)
-        (subst (λ t. Ends b w (suc at) (Execute e ∷ []) (no_slots q) [] (goal.Call t ∷ w.goals)) (sym (moved_made n (atom_name b.pool s.name) us)) (ends_execute b w (suc at) e s (moved_all n us) (no_slots q) h (count_moved n us ∙ ar) (hold_slots q 1 (moved_all n us) hold) body.whole))
+        (subst (λ t. Ends b w (suc at) (Execute e ∷ []) (no_slots q) [] (goal.Call t ∷ w.goals)) (sym (moved_made n (atom_name b.pool s.name) us))
+        (ends_execute b w (suc at) e s (moved_all n us) (no_slots q) h (count_moved n us ∙ ar) (hold_slots q 1 (moved_all n us) hold) body.whole))
 
-    ends : (f : Bool) (c : State) → IsRest homes f l c → (n : ℕ) (depths : ℕ → Option Depth) (d : Depth) → HasDepths l depths d → (p : Places) (w : Caller) → InBody n homes depths p → Ends b w at ((code_of homes made_now (puts b.pool 1 free us) ++ back f) ++ (Execute e ∷ [])) p [] (goal.Call (moved n (made (atom_name b.pool s.name) us)) ∷ w.goals)
+    ends : (f : Bool) (c : State) → IsRest homes f l c → (n : ℕ) (depths : ℕ → Option Depth) (d : Depth) → HasDepths l depths d → (p : Places) (w : Caller)
+        → InBody n homes depths p → Ends b w at ((code_of homes made_now (puts b.pool 1 free us) ++ back f) ++ (Execute e ∷ [])) p []
+        (goal.Call (moved n (made (atom_name b.pool s.name) us)) ∷ w.goals)
     ends f x r n depths d hd p w body =
         let is : List Code = code_of homes made_now (puts b.pool 1 free us) in
         let gs : List Goal = goal.Call (moved n (made (atom_name b.pool s.name) us)) ∷ w.goals in
         let c = put f n depths at p x r body in
         let after : InBody n homes depths c.went.q =
-        body_at n homes depths apart (marked_by_all made_now (puts b.pool 1 free us)) p c.went.q c.went.t (λ y m. c.went.keeps.more y m (all y m)) c.went.there body.levels (no_home homes l fits depths d hd) c.went.keeps.depths in
+        body_at n homes depths apart (marked_by_all made_now (puts b.pool 1 free us)) p c.went.q c.went.t (λ y m. c.went.keeps.more y m (all y m)) c.went.there
+        body.levels (no_home homes l fits depths d hd) c.went.keeps.depths in
         subst (λ l. Ends b w at l p [] gs) (sym (append_assoc is (back f) (Execute e ∷ [])))
         (ends_behind b w at is (back f ++ (Execute e ∷ [])) p c.went.q [] [] gs gs (c.went.does gs) (last_ends f n depths (past at is) w c.went.q after c.hold))
 
     given : (t : State) → ((j : ℕ) → 1 ≤ j → j < suc (term_count us) → has t.regs j ≡ true) → are_given t (slice_get (unplaced b) e) ≡ true
     given t set = given_cells b e s t h (λ j l m. set j l (omega (arith, m, ar)))
 
-    flow : (f : Bool) (d : State) → IsRest homes f l d → (t : State) × (u : State) × Flows b at (code_of homes made_now (puts b.pool 1 free us) ++ back f) d t × (effect (unplaced b) (Execute e) t ≡ Some u)
+    flow : (f : Bool) (d : State) → IsRest homes f l d → (t : State) × (u : State) × Flows b at (code_of homes made_now (puts b.pool 1 free us) ++ back f) d t
+        × (effect (unplaced b) (Execute e) t ≡ Some u)
     flow false d r =
         let is : List Code = code_of homes made_now (puts b.pool 1 free us) in
         let c = put false 0 nothing_held at (between_goals 0 homes nothing_held) d r (between_in 0 homes nothing_held apart) in
@@ -492,7 +521,9 @@ tail_execute b homes apart l fits framed made_now free at all long e s us h ar l
           t,
           t,
           subst (λ l. Flows b at l d t) (sym (append-nil is)) (flows_runs b at is d t c.went.runs),
-          plain_of b (Execute e) t c.went.owed ∙ when_true _ t (both (no_frame t.frame) (are_given t (slice_get (unplaced b) e)) (no_frame_of t.frame (c.went.keeps.shape ∙ r.frame)) (given t (λ j l m. c.set j l (omega (arith, m))))),
+          plain_of b (Execute e) t c.went.owed ∙ when_true _ t
+              (both (no_frame t.frame) (are_given t (slice_get (unplaced b) e)) (no_frame_of t.frame (c.went.keeps.shape ∙ r.frame))
+              (given t (λ j l m. c.set j l (omega (arith, m))))),
         )
     flow true d r =
         let is : List Code = code_of homes made_now (puts b.pool 1 free us) in
@@ -515,7 +546,8 @@ inner_answers : (i : Code) → IsTrue (is_inner i) → i ≡ AnswerNow → ⊥
 inner_answers i h e = true≢false (sym h ∙ ap is_inner e)
 
 -- Its head, its goals and its end are its code.
-pub whole_clause : (b : Base) (homes : List Register) (framed : Bool) (l : Levels) (at : ℕ) (c : Clause) (is js ks : List Code) (i : Code) (gs hs : List Goal) → c.variables ≡ length homes → c.body ≡ gs ++ hs → Start b homes framed l at is (arguments c.head) → IsGoalsCode b homes framed l (past at is) js gs
+pub whole_clause : (b : Base) (homes : List Register) (framed : Bool) (l : Levels) (at : ℕ) (c : Clause) (is js ks : List Code) (i : Code) (gs hs : List Goal)
+    → c.variables ≡ length homes → c.body ≡ gs ++ hs → Start b homes framed l at is (arguments c.head) → IsGoalsCode b homes framed l (past at is) js gs
     → Tail b homes framed l (past at (is ++ js)) ks i hs → IsClauseCode b at ((is ++ js) ++ (ks ++ (i ∷ []))) c
 whole_clause b homes framed l at c is js ks i gs hs size body start goals tail =
     let w = tail.flows start.rest start.rested in
@@ -526,7 +558,8 @@ whole_clause b homes framed l at c is js ks i gs hs size body start goals tail =
       first = start.first;
       states = two.states ++ (w.0 ∷ []);
       begins = start.begins;
-      safe = subst (λ l. IsSafePiece b at l (two.states ++ (w.0 ∷ [])) start.first) (sym same) (safe_ends b at ((is ++ js) ++ ks) i start.first w.0 w.1 two w.3 tail.aims tail.last tail.plain tail.there);
+      safe = subst (λ l. IsSafePiece b at l (two.states ++ (w.0 ∷ [])) start.first) (sym same)
+          (safe_ends b at ((is ++ js) ++ ks) i start.first w.0 w.1 two w.3 tail.aims tail.last tail.plain tail.there);
       enters = enters_both (is ++ js) (ks ++ (i ∷ [])) (enters_both is js start.enters goals.enters) tail.enters;
       no_answer = λ n e. elim (get_both ((is ++ js) ++ ks) (i ∷ []) n AnswerNow (subst (λ l. slice_get l n ≡ Some AnswerNow) same e)) [
         | inl h ↦ inner_answers AnswerNow (two.inner n AnswerNow h) refl
@@ -543,7 +576,9 @@ whole_clause b homes framed l at c is js ks i gs hs size body start goals tail =
           let run : Does b at (is ++ js) p es all done.q [] rest = does_both b at is js p begun.q done.q es [] [] all all rest (begun.does all) done.does in
           let end : Ends b w (past at (is ++ js)) (ks ++ (i ∷ [])) done.q [] rest = tail.ends start.rest start.rested n begun.depths d begun.has done.q w done.there in
           let ended : Ends b w at ((is ++ js) ++ (ks ++ (i ∷ []))) p es all = ends_behind b w at (is ++ js) (ks ++ (i ∷ [])) p done.q es [] all rest run end in
-          let named : marked_all d.branches (map (rename_goal (λ x. n + x)) c.body) ++ after ≡ all = ap (λ hs. marked_all d.branches (map (rename_goal (λ x. n + x)) hs) ++ after) body ∙ renamed_both d.branches (λ x. n + x) gs hs after in
+          let named : marked_all d.branches (map (rename_goal (λ x. n + x)) c.body)
+          ++ after ≡ all = ap (λ hs. marked_all d.branches (map (rename_goal (λ x. n + x)) hs) ++ after) body
+          ∙ renamed_both d.branches (λ x. n + x) gs hs after in
           subst (λ l. Means area w at p es l) (sym named) (ended area base stand);
     }
 
@@ -556,9 +591,11 @@ InSlots homes k (x ∷ xs) = (x < length homes) × (home homes x ≡ Y k) × InS
 
 shows : (homes : List Register) (depths : ℕ → Option Depth) (p : Places) → InBody 0 homes depths p → (k : ℕ) (xs : List ℕ) → InSlots homes k xs → Shows p k xs
 shows homes depths p h k [] o = tt
-shows homes depths p h k (x ∷ xs) o = let z : 0 + x ≡ x = omega arith in (subst (λ r. read p r ≡ Some (Var (0 + x))) o.1 (h.held x o.0) ∙ ap (λ y. Some (Var y)) z, shows homes depths p h (suc k) xs o.2)
+shows homes depths p h k (x ∷ xs) o = let z : 0 + x ≡ x = omega arith in
+    (subst (λ r. read p r ≡ Some (Var (0 + x))) o.1 (h.held x o.0) ∙ ap (λ y. Some (Var y)) z, shows homes depths p h (suc k) xs o.2)
 
-cells : (homes : List Register) (l : Levels) (s : State) → IsRest homes true l s → (k : ℕ) (xs : List ℕ) → InSlots homes k xs → (j : ℕ) → k ≤ j → j < k + length xs → IsTrue (is_cell (slot_at s.frame j))
+cells : (homes : List Register) (l : Levels) (s : State) → IsRest homes true l s → (k : ℕ) (xs : List ℕ) → InSlots homes k xs → (j : ℕ) → k ≤ j
+    → j < k + length xs → IsTrue (is_cell (slot_at s.frame j))
 cells homes l s r k [] o j i m = absurd (omega (arith, i, m))
 cells homes l s r k (x ∷ xs) o j i m = elim (cases_eq j k) [
   | inl e ↦ subst (λ z. is_cell (slot_at s.frame z) ≡ true) (sym e) (subst (λ z. is_set s z ≡ true) o.1 (r.set x o.0))
@@ -572,7 +609,8 @@ same_goals gs = append-nil (marked_all 0 (map (rename_goal (λ x. 0 + x)) gs)) �
     plus_zero x = omega arith
 
 -- Its goals, and the answer behind them, are its code.
-pub whole_query : (b : Base) (homes : List Register) (l : Levels) (at : ℕ) (q : Query) (is js : List Code) → q.variables ≡ length homes → InSlots homes 1 q.shown → Start b homes true l at is no_terms → IsGoalsCode b homes true l (past at is) js q.goals
+pub whole_query : (b : Base) (homes : List Register) (l : Levels) (at : ℕ) (q : Query) (is js : List Code) → q.variables ≡ length homes
+    → InSlots homes 1 q.shown → Start b homes true l at is no_terms → IsGoalsCode b homes true l (past at is) js q.goals
     → IsQueryPiece b at ((is ++ js) ++ (AnswerNow ∷ [])) q
 whole_query b homes l at q is js size slots start goals =
     let rest : State = start.rest in
@@ -589,7 +627,8 @@ whole_query b homes l at q is js size slots start goals =
         | inl h ↦ absurd (inner_answers AnswerNow (one.inner n AnswerNow h) refl)
         | inr h ↦ let k = h.1 in let z = at_zero h.0 AnswerNow AnswerNow h.2 in omega (arith, k, z, total, last1)
       ];
-      last = λ n e. let z : n ≡ length (is ++ js) = omega (arith, e, total, last1) in subst (λ k. slice_get ((is ++ js) ++ (AnswerNow ∷ [])) k ≡ Some AnswerNow) (sym z) (get_last (is ++ js) AnswerNow);
+      last = λ n e. let z : n ≡ length (is ++ js) = omega (arith, e, total, last1) in
+          subst (λ k. slice_get ((is ++ js) ++ (AnswerNow ∷ [])) k ≡ Some AnswerNow) (sym z) (get_last (is ++ js) AnswerNow);
       shown = λ n s e h k i m.
           let z : n ≡ length one.states = omega (arith, e, total, last1, long) in
           let same : rest ≡ s = let y : Some rest ≡ Some s = sym (get_last one.states rest) ∙ subst (λ i. slice_get (one.states ++ (rest ∷ [])) i ≡ Some s) z h in cc in
@@ -609,7 +648,8 @@ whole_query b homes l at q is js size slots start goals =
           let all : List Goal = marked_all 0 (map (rename_goal (λ x. 0 + x)) q.goals) ++ [] in
           let done = goals.does rest start.rested 0 begun.depths no_depth begun.has begun.q [] begun.there in
           let run : Does b at (is ++ js) p [] all done.q [] [] = does_both b at is js p begun.q done.q [] [] [] all all [] (begun.does all) done.does in
-          let end : Ends b w (past at (is ++ js)) (AnswerNow ∷ []) done.q [] [] = ends_answer b w (past at (is ++ js)) done.q done.there.whole (shows homes begun.depths done.q done.there 1 q.shown slots) in
+          let end : Ends b w (past at (is ++ js)) (AnswerNow ∷ []) done.q [] [] = ends_answer b w (past at (is ++ js)) done.q done.there.whole
+          (shows homes begun.depths done.q done.there 1 q.shown slots) in
           let ended : Ends b w at ((is ++ js) ++ (AnswerNow ∷ [])) p [] all = ends_behind b w at (is ++ js) (AnswerNow ∷ []) p done.q [] [] all [] run end in
           subst (λ l. Means area w at p [] l) (same_goals q.goals) (ended area base stand);
     }

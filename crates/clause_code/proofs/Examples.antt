@@ -1,5 +1,7 @@
--- Two clauses by short code without a frame: append([H|T],L,[H|R]) :- append(T,L,R) with seven instructions, and skip([X,Y|T]) :- skip(T), whose inner list is read in place.
-use Rattle.std.proofs.Common.{◌≡◌, ℕ, suc, ◌+◌, ◌<◌, Bool, true, false, ◌==◌, if◌then◌else◌, List, [], ◌∷◌, ◌++◌, Some, slice_get, refl, sym, ◌∙◌, subst, arith, inl, inr}
+-- Two clauses by short code without a frame: append([H|T],L,[H|R]) :- append(T,L,R) with seven instructions, and skip([X,Y|T]) :- skip(T), whose inner list is
+-- read in place.
+use Rattle.std.proofs.Common.{◌≡◌, ℕ, suc, ◌+◌, ◌<◌, Bool, true, false, ◌==◌, if◌then◌else◌, List, [], ◌∷◌, ◌++◌, Some, slice_get, refl, sym, ◌∙◌, subst, arith}
+use Rattle.std.proofs.Common.{inl, inr}
 use Rattle.std.proofs.lemmas.Bool.{cases_eq}
 use Rattle.clause_code.proofs.Homes.{learnt_here, learnt_else}
 use Rattle.fd_language.specs.Term.{Term, Terms, Var, Comp, no_terms, term, term_count}
@@ -9,18 +11,18 @@ use Rattle.fd_model.specs.Goal.{Goal, Clause}
 use Rattle.fd_model.specs.Children.{paired}
 use Rattle.term_pool.specs.declared.AtomId.{AtomId}
 use Rattle.term_pool.specs.Contents.{atom_name}
-use Rattle.machine_relation.specs.Heap.{Of, AllOf, EquationsOf}
-use Rattle.machine_relation.proofs.Lemmas.{more_of}
+use Rattle.branch_meaning.specs.Heap.{Of, AllOf, EquationsOf}
+use Rattle.branch_meaning.proofs.Lemmas.{more_of}
 use Rattle.wam_code.specs.declared.instruction.Register.TheVariants.{X}
 use Rattle.wam_code.specs.declared.instruction.Code.{Code}
 use Rattle.wam_code.specs.declared.instruction.Code.TheVariants.{GetStructure, UnifyVariable, UnifyValue, UnifyVoid, Execute}
 use Rattle.wam_code.specs.Area.{Area}
 use Rattle.wam_code.specs.Places.{Places, learnt, learn, write, IsFresh, Has, IsWhole, Hold}
-use Rattle.wam_code.specs.Means.{Caller, Means}
+use Rattle.wam_code.specs.CodeMeaning.{Caller, Means}
 use Rattle.wam_code.specs.Tries.{IsBefore, IsClause}
 use Rattle.clause_code.specs.Pieces.{Base, base_of, Stand, past, Does, Ends}
-use Rattle.clause_code.specs.Splitting.{whole, apart}
-use Rattle.clause_code.proofs.Restating.{does_split}
+use Rattle.clause_code.specs.NestedStructures.{whole, apart}
+use Rattle.clause_code.proofs.NestedStructures.{does_split}
 use Rattle.clause_code.proofs.Pieces.{ends_behind, no_parts, part_variable, part_value, part_void, does_get_structure, does_learn, ends_execute, equation}
 
 learnt_still : (u v : ℕ) (known : ℕ → Bool) → known v ≡ true → learnt u known v ≡ true
@@ -77,7 +79,11 @@ module _ (b : Base) (cons name : AtomId) (k : ℕ) (there : slice_get b.predicat
     f2 = (learnt_else (n + 1) (n + 2) p1.known (λ e. omega (arith, e)) ∙ learnt_else (n + 0) (n + 2) p.known (λ e. omega (arith, e)) ∙ before.fresh (n + 2) (omega arith), omega (arith, before.top))
 
     f3 : IsFresh p3 (n + 3)
-    f3 = (learnt_else (n + 2) (n + 3) p2.known (λ e. omega (arith, e)) ∙ learnt_else (n + 1) (n + 3) p1.known (λ e. omega (arith, e)) ∙ learnt_else (n + 0) (n + 3) p.known (λ e. omega (arith, e)) ∙ before.fresh (n + 3) (omega arith), omega (arith, before.top))
+    f3 = (
+      learnt_else (n + 2) (n + 3) p2.known (λ e. omega (arith, e)) ∙ learnt_else (n + 1) (n + 3) p1.known (λ e. omega (arith, e))
+          ∙ learnt_else (n + 0) (n + 3) p.known (λ e. omega (arith, e)) ∙ before.fresh (n + 3) (omega arith),
+      omega (arith, before.top),
+    )
 
     append_made : IsWhole p4
     append_made v l =
@@ -127,7 +133,9 @@ module _ (b : Base) (cons name : AtomId) (k : ℕ) (there : slice_get b.predicat
   append_is_clause area at same stand = λ n as' d after shown p size below hold noted before. by n as' after shown p size hold before
     where
       by : (n : ℕ) (as' : Terms) (after : List Goal) (shown : List ℕ) (p : Places) → term_count as' ≡ 3 → Hold p 1 as' → IsBefore p n 4
-          → Means area (record { goals = after; shown = shown }) at p (paired as' (three (pair (Var (n + 0)) (Var (n + 1))) (Var (n + 2)) (pair (Var (n + 0)) (Var (n + 3))))) (goal.Call (Comp (atom_name b.pool name) (three (Var (n + 1)) (Var (n + 2)) (Var (n + 3)))) ∷ after)
+          → Means area (record { goals = after; shown = shown }) at p
+          (paired as' (three (pair (Var (n + 0)) (Var (n + 1))) (Var (n + 2)) (pair (Var (n + 0)) (Var (n + 3)))))
+          (goal.Call (Comp (atom_name b.pool name) (three (Var (n + 1)) (Var (n + 2)) (Var (n + 3)))) ∷ after)
       by n (term t1 (term t2 (term t3 no_terms))) after shown p size hold before = append_ends n t1 t2 t3 (record { goals = after; shown = shown }) p at hold before area same stand
       by n no_terms after shown p size hold before = absurd (omega (arith, size))
       by n (term t1 no_terms) after shown p size hold before = absurd (omega (arith, size))
@@ -187,10 +195,18 @@ module _ (b : Base) (cons name : AtomId) (k : ℕ) (there : slice_get b.predicat
     g1 = (learnt_else (n + 0) p.top p.known (λ e. omega (arith, e, before.top)) ∙ before.fresh p.top (omega (arith, before.top)), omega arith)
 
     g2 : IsFresh q2 (n + 1)
-    g2 = (learnt_else p.top (n + 1) q1.known (λ e. omega (arith, e, before.top)) ∙ learnt_else (n + 0) (n + 1) p.known (λ e. omega (arith, e)) ∙ before.fresh (n + 1) (omega arith), omega (arith, before.top))
+    g2 = (
+      learnt_else p.top (n + 1) q1.known (λ e. omega (arith, e, before.top)) ∙ learnt_else (n + 0) (n + 1) p.known (λ e. omega (arith, e))
+          ∙ before.fresh (n + 1) (omega arith),
+      omega (arith, before.top),
+    )
 
     g3 : IsFresh q3 (n + 2)
-    g3 = (learnt_else (n + 1) (n + 2) q2.known (λ e. omega (arith, e)) ∙ learnt_else p.top (n + 2) q1.known (λ e. omega (arith, e, before.top)) ∙ learnt_else (n + 0) (n + 2) p.known (λ e. omega (arith, e)) ∙ before.fresh (n + 2) (omega arith), omega (arith, before.top))
+    g3 = (
+      learnt_else (n + 1) (n + 2) q2.known (λ e. omega (arith, e)) ∙ learnt_else p.top (n + 2) q1.known (λ e. omega (arith, e, before.top))
+          ∙ learnt_else (n + 0) (n + 2) p.known (λ e. omega (arith, e)) ∙ before.fresh (n + 2) (omega arith),
+      omega (arith, before.top),
+    )
 
     old : (v : ℕ) → v < n → Has p v
     old v l = inl (before.known v l)
@@ -198,7 +214,8 @@ module _ (b : Base) (cons name : AtomId) (k : ℕ) (there : slice_get b.predicat
     whole_below : EquationsOf (Has p) (whole t (atom_name b.pool cons) (term (Var (n + 0)) no_terms) inside no_terms [])
     whole_below = ((more_of (λ v. v < n) (Has p) old t below, (inr (omega (arith, before.top)), ((inr (omega (arith, before.top)), (inr (omega (arith, before.top)), tt)), tt))), tt)
 
-    does_apart : Does b at [] p (whole t (atom_name b.pool cons) (term (Var (n + 0)) no_terms) inside no_terms []) goals q0 (apart p.top t (atom_name b.pool cons) (term (Var (n + 0)) no_terms) inside no_terms []) goals
+    does_apart : Does b at [] p (whole t (atom_name b.pool cons) (term (Var (n + 0)) no_terms) inside no_terms []) goals q0
+        (apart p.top t (atom_name b.pool cons) (term (Var (n + 0)) no_terms) inside no_terms []) goals
     does_apart = does_split b at t (atom_name b.pool cons) (term (Var (n + 0)) no_terms) inside no_terms [] p goals (before.fresh p.top (omega (arith, before.top))) whole_below
 
     does_outer : Does b at outer q0 (equation t (two (Var (n + 0)) (Var p.top)) ∷ equation (Var p.top) inside ∷ []) goals q2 (equation (Var p.top) inside ∷ []) goals
@@ -236,7 +253,8 @@ module _ (b : Base) (cons name : AtomId) (k : ℕ) (there : slice_get b.predicat
   skip_is_clause area at same stand = λ n as' d after shown p size below hold noted before. by n as' after shown p size below hold before
     where
       by : (n : ℕ) (as' : Terms) (after : List Goal) (shown : List ℕ) (p : Places) → term_count as' ≡ 1 → AllOf (λ v. v < n) as' → Hold p 1 as' → IsBefore p n 3
-          → Means area (record { goals = after; shown = shown }) at p (paired as' (term (two (Var (n + 0)) (two (Var (n + 1)) (Var (n + 2)))) no_terms)) (goal.Call (Comp (atom_name b.pool name) (term (Var (n + 2)) no_terms)) ∷ after)
+          → Means area (record { goals = after; shown = shown }) at p (paired as' (term (two (Var (n + 0)) (two (Var (n + 1)) (Var (n + 2)))) no_terms))
+          (goal.Call (Comp (atom_name b.pool name) (term (Var (n + 2)) no_terms)) ∷ after)
       by n (term t no_terms) after shown p size below hold before = skip_ends n t (record { goals = after; shown = shown }) p at hold.0 below.0 before area same stand
       by n no_terms after shown p size below hold before = absurd (omega (arith, size))
       by n (term t (term u us)) after shown p size below hold before = absurd (omega (arith, size))

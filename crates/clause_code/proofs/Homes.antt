@@ -3,7 +3,7 @@ use Rattle.std.proofs.Common.{◌≡◌, ℕ, ◌<◌, Bool, true, false, ◌&&�
 use Rattle.std.proofs.lemmas.Bool.{true≢false}
 use Rattle.fd_model.proofs.Lemmas.{below_test}
 use Rattle.fd_language.specs.Term.{Term, Terms, Var, Int, Atom, Comp, no_terms, term}
-use Rattle.machine_relation.specs.Heap.{Of, AllOf}
+use Rattle.branch_meaning.specs.Heap.{Of, AllOf}
 use Rattle.wam_code.specs.declared.instruction.Register.{Register}
 use Rattle.wam_code.specs.declared.instruction.Register.TheVariants.{X, Y}
 use Rattle.wam_code.specs.Places.{Places, read, write, learnt}

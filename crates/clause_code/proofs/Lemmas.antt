@@ -2,6 +2,6 @@
 -- What is left of a list of terms.
 pub use Rattle.clause_code.proofs.Rests.{count_terms}
 -- Lists of clauses, one choice after the other.
-pub use Rattle.clause_code.proofs.Trying.{list_tries}
+pub use Rattle.clause_code.proofs.ClauseChoices.{list_tries}
 -- Pieces that flow, one behind the other.
-pub use Rattle.clause_code.proofs.Flowing.{one_aim}
+pub use Rattle.clause_code.proofs.StateFlow.{one_aim}

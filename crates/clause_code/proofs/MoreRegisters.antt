@@ -1,20 +1,26 @@
 -- A place stands for the same with more registers.
-use Rattle.std.proofs.Common.{◌≡◌, ℕ, zero, suc, ◌<◌, ◌≤◌, Bool, true, false, ◌==◌, if◌then◌else◌, List, [], ◌∷◌, Option, Some, None, refl, ap, sym, ◌∙◌, subst, inl, inr}
+use Rattle.std.proofs.Common.{◌≡◌, ℕ, zero, suc, ◌<◌, ◌≤◌, Bool, true, false, ◌==◌, if◌then◌else◌, List, [], ◌∷◌, Option, Some, None, refl, ap, sym, ◌∙◌, subst}
+use Rattle.std.proofs.Common.{inl, inr}
 use Rattle.fd_language.specs.Term.{Term, Terms, Var, no_terms, term}
 use Rattle.fd_language.specs.Unifier.{Equation}
 use Rattle.fd_model.specs.Goal.{Goal}
-use Rattle.machine_relation.specs.Heap.{Below}
-use Rattle.machine_relation.specs.Says.{SaysSame}
-use Rattle.machine_relation.proofs.Lemmas.{more_each}
+use Rattle.branch_meaning.specs.Heap.{Below}
+use Rattle.branch_meaning.specs.EquivalentEquations.{SaysSame}
+use Rattle.branch_meaning.proofs.Lemmas.{more_each}
 use Rattle.wam_code.specs.declared.instruction.Register.{Register}
 use Rattle.wam_code.specs.declared.instruction.Register.TheVariants.{X, Y}
 use Rattle.wam_code.specs.declared.instruction.Code.{Code}
-use Rattle.wam_code.specs.declared.instruction.Code.TheVariants.{GetVariable, GetValue, GetConstant, GetInteger, GetStructure, UnifyVariable, UnifyValue, UnifyConstant, UnifyInteger, UnifyVoid, PutVariable, PutValue, PutConstant, PutInteger, PutStructure, Allocate, Deallocate, Call, Execute, Proceed, Jump, AnswerNow, Either, Builtin, Constrain, Label, Best, PostRange, Level, TestOnly, EnterTest, CutTo}
+use Rattle.wam_code.specs.declared.instruction.Code.TheVariants.{GetVariable, GetValue, GetConstant, GetInteger, GetStructure, UnifyVariable, UnifyValue}
+use Rattle.wam_code.specs.declared.instruction.Code.TheVariants.{UnifyConstant, UnifyInteger, UnifyVoid, PutVariable, PutValue, PutConstant, PutInteger}
+use Rattle.wam_code.specs.declared.instruction.Code.TheVariants.{PutStructure, Allocate, Deallocate, Call, Execute, Proceed, Jump, AnswerNow, Either, Builtin}
+use Rattle.wam_code.specs.declared.instruction.Code.TheVariants.{Constrain, Label, Best, PostRange, Level, TestOnly, EnterTest, CutTo}
 use Rattle.fd_model.specs.declared.kinds.BuiltinKind.{BuiltinKind}
 use Rattle.fd_model.specs.declared.kinds.BuiltinKind.TheVariants as kind
 use Rattle.wam_code.specs.Area.{Area}
-use Rattle.wam_code.specs.Places.{Depth, Places, put_at, drop_at, read, write, learn, without, put_level, no_registers, no_slots, IsFresh, Has, IsWhole, IsSettled, Hold}
-use Rattle.wam_code.specs.Means.{Rest, Rests, Caller, Owed, UnifyRule, BuiltinRule, HoldVars, Shows, Takes, Equates, RuleWith, Steps, no_steps, more_steps, Within, Means}
+use Rattle.wam_code.specs.Places.{Depth, Places, put_at, drop_at, read, write, learn, without, put_level, no_registers, no_slots, IsFresh, Has, IsWhole}
+use Rattle.wam_code.specs.Places.{IsSettled, Hold}
+use Rattle.wam_code.specs.CodeMeaning.{Rest, Rests, Caller, Owed, UnifyRule, BuiltinRule, HoldVars, Shows, Takes, Equates, RuleWith, Steps, no_steps}
+use Rattle.wam_code.specs.CodeMeaning.{more_steps, Within, Means}
 use Rattle.clause_code.specs.MoreRegisters.{HasMore}
 
 fresh_more : (p q : Places) → HasMore p q → (v : ℕ) → IsFresh q v → IsFresh p v
@@ -96,7 +102,11 @@ builtin_more p q m _ g h = (h.0, h.1, h.2, hold_more p q m 1 h.1 h.3, h.4)
 
 -- a unify instruction gives the same
 unify_more : (area : Area) (i : Code) (p q : Places) (t : Term) (voids : ℕ) (r : Places) → HasMore p q → UnifyRule area i q t voids r → (s : Places) × HasMore s r × UnifyRule area i p t voids s
-unify_more area (UnifyVariable g) p q t voids r m h = (write (learn p h.0) g (Var h.0), subst (HasMore (write (learn p h.0) g (Var h.0))) (sym h.4) (write_more (learn p h.0) (learn q h.0) (learn_more p q m h.0) g (Var h.0)), (h.0, fresh_more p q m h.0 h.1, h.2, h.3, refl))
+unify_more area (UnifyVariable g) p q t voids r m h = (
+  write (learn p h.0) g (Var h.0),
+  subst (HasMore (write (learn p h.0) g (Var h.0))) (sym h.4) (write_more (learn p h.0) (learn q h.0) (learn_more p q m h.0) g (Var h.0)),
+  (h.0, fresh_more p q m h.0 h.1, h.2, h.3, refl),
+)
 unify_more area (UnifyValue g) p q t voids r m h = (p, subst (HasMore p) (sym h.2) m, (read_more p q m g t h.0, h.1, refl))
 unify_more area (UnifyConstant c) p q t voids r m h = (p, subst (HasMore p) (sym h.2) m, (h.0, h.1, refl))
 unify_more area (UnifyInteger z) p q t voids r m h = (p, subst (HasMore p) (sym h.2) m, (h.0, h.1, refl))
@@ -104,7 +114,8 @@ unify_more area (UnifyVoid zero) p q t voids r m h = absurd h
 unify_more area (UnifyVoid (suc n)) p q t voids r m h = (learn p h.0, subst (HasMore (learn p h.0)) (sym h.4) (learn_more p q m h.0), (h.0, fresh_more p q m h.0 h.1, h.2, h.3, refl))
 unify_more area _ p q t voids r m h = absurd h
 
-owed_more : (area : Area) (voids at : ℕ) (p q : Places) (ts : Terms) (next : ℕ) (r : Places) → HasMore p q → Owed area voids at q ts next r → (s : Places) × HasMore s r × Owed area voids at p ts next s
+owed_more : (area : Area) (voids at : ℕ) (p q : Places) (ts : Terms) (next : ℕ) (r : Places) → HasMore p q → Owed area voids at q ts next r
+    → (s : Places) × HasMore s r × Owed area voids at p ts next s
 owed_more area voids at p q no_terms next r m h = (p, subst (HasMore p) (sym h.2) m, (h.0, h.1, refl))
 owed_more area zero at p q (term t ts) next r m h =
     let u = unify_more area h.0 p q t h.1 h.2 m h.4 in
@@ -136,7 +147,11 @@ takes_more : (R : Rest) (f g : Goal → Type 0) (at : ℕ) (p q : Places) (es : 
 takes_more R f g at p q es gs k m h = (h.0, h.1, h.2, k h.0 h.3, settled_more p q h.2 m h.4, h.5, h.6, h.7)
 
 rule_more : (area : Area) (w : Caller) (R : Rest) (T : Rests) → Widens R → (i : Code) → Widens (λ at p es gs. RuleWith area w R T i at p es gs)
-rule_more area w R T k (GetVariable r a) at p q es gs m h = (h.0, fresh_more p q m h.0 h.1, equates_more p q m a (Var h.0) es _ _ (λ ds. k _ _ _ ds gs (write_more _ _ (learn_more p q m h.0) r (Var h.0))) h.2)
+rule_more area w R T k (GetVariable r a) at p q es gs m h = (
+  h.0,
+  fresh_more p q m h.0 h.1,
+  equates_more p q m a (Var h.0) es _ _ (λ ds. k _ _ _ ds gs (write_more _ _ (learn_more p q m h.0) r (Var h.0))) h.2,
+)
 rule_more area w R T k (GetValue r a) at p q es gs m h = (h.0, read_more p q m r h.0 h.1, equates_more p q m a h.0 es _ _ (λ ds. k _ _ _ ds gs m) h.2)
 rule_more area w R T k (GetConstant c a) at p q es gs m h = equates_more p q m a _ es _ _ (λ ds. k _ _ _ ds gs m) h
 rule_more area w R T k (GetInteger z a) at p q es gs m h = equates_more p q m a _ es _ _ (λ ds. k _ _ _ ds gs m) h
@@ -175,7 +190,15 @@ within_more area w (more_steps n f) at p q es gs m (inl h) = inl (h.0, h.1, rule
 within_more area w (more_steps n f) at p q es gs m (inr (inl h)) =
     inr (inl (h.0, h.1, fresh_more p q m h.1 h.2, equates_more p q m h.0 (Var h.1) es _ _ (λ ds. within_more area w n at _ _ ds gs (write_more _ _ (learn_more p q m h.1) (X h.0) (Var h.1))) h.3))
 within_more area w (more_steps n f) at p q es gs m (inr (inr h)) =
-    inr (inr (h.0, h.1, subst (λ k. k ≤ h.0) (sym m.top) h.2, (λ v l u. ap (λ k. k v) m.known ∙ h.3 v (subst (λ k. k ≤ v) m.top l) u), more_each (Has (record q { top = h.0 })) (Has (record p { top = h.0 })) (has_more _ _ (top_more p q m h.0)) h.1 h.4, says_more p q m h.1 es h.5, within_more area w n at _ _ h.1 gs (top_more p q m h.0) h.6))
+    inr (inr (
+      h.0,
+      h.1,
+      subst (λ k. k ≤ h.0) (sym m.top) h.2,
+      (λ v l u. ap (λ k. k v) m.known ∙ h.3 v (subst (λ k. k ≤ v) m.top l) u),
+      more_each (Has (record q { top = h.0 })) (Has (record p { top = h.0 })) (has_more _ _ (top_more p q m h.0)) h.1 h.4,
+      says_more p q m h.1 es h.5,
+      within_more area w n at _ _ h.1 gs (top_more p q m h.0) h.6,
+    ))
 
 -- What a place stands for, it stands for with more registers too.
 pub means_more : (area : Area) (w : Caller) (at : ℕ) (p q : Places) (es : List Equation) (gs : List Goal) → HasMore p q → Means area w at q es gs → Means area w at p es gs

@@ -1,5 +1,6 @@
 -- Functors, and the numbers of predicates.
-use Rattle.std.proofs.Common.{◌≡◌, ℕ, zero, suc, ◌+◌, ◌<◌, Bool, true, false, cond, not, ◌&&◌, ◌==◌, nat_lt, List, [], ◌∷◌, map, Option, Some, None, option_map, length, slice_get, get_or, position, IfSome, IfNone, refl, ap, ap₂, sym, ◌∙◌, arith}
+use Rattle.std.proofs.Common.{◌≡◌, ℕ, zero, suc, ◌+◌, ◌<◌, Bool, true, false, cond, not, ◌&&◌, ◌==◌, nat_lt, List, [], ◌∷◌, map, Option, Some, None, option_map}
+use Rattle.std.proofs.Common.{length, slice_get, get_or, position, IfSome, IfNone, refl, ap, ap₂, sym, ◌∙◌, arith}
 use Rattle.std.specs.List.{position_or_len}
 use Rattle.std.proofs.lemmas.Bool.{true≢false, eqb-true, eq-eqb, and_parts}
 use Rattle.std.proofs.lemmas.Bool.Decides.{nat_tests}
@@ -29,7 +30,8 @@ module _ {X : Type 0} where
   none_there p [] e k x f = absurd cc
   none_there p (y ∷ ys) e k x f = by (p y) refl e k f (λ g j. none_there p ys g j x)
     where
-      by : (b : Bool) → p y ≡ b → cond (not b) (1 + position_or_len p ys) 0 ≡ suc (length ys) → (k : ℕ) → slice_get (y ∷ ys) k ≡ Some x → (position_or_len p ys ≡ length ys → (j : ℕ) → slice_get ys j ≡ Some x → p x ≡ false) → p x ≡ false
+      by : (b : Bool) → p y ≡ b → cond (not b) (1 + position_or_len p ys) 0 ≡ suc (length ys) → (k : ℕ) → slice_get (y ∷ ys) k ≡ Some x
+          → (position_or_len p ys ≡ length ys → (j : ℕ) → slice_get ys j ≡ Some x → p x ≡ false) → p x ≡ false
       by true h e k f rest = absurd (omega (arith, e))
       by false h e zero f rest = let same : y ≡ x = cc in ap p (sym same) ∙ h
       by false h e (suc k) f rest = rest (omega (arith, e)) k f
@@ -68,10 +70,12 @@ number_absent keys f e n h = by (slice_get keys n) refl (sym (slice_get-map pred
         let same : x ≡ f = ap₂ functor_by names arities in
         true≢false (sym (functor_itself f) ∙ ap (same_functor f) (sym same) ∙ position_none (same_functor f) keys e n x g)
 
-pub if_found : (r : Option ℕ) (keys : List Functor) (f : Functor) (ps : List Predicate) → ps ≡ map predicate_in keys → r ≡ position (same_functor f) keys → IfSome r (λ n. slice_get ps n ≡ Some (predicate_in f))
+pub if_found : (r : Option ℕ) (keys : List Functor) (f : Functor) (ps : List Predicate) → ps ≡ map predicate_in keys → r ≡ position (same_functor f) keys
+    → IfSome r (λ n. slice_get ps n ≡ Some (predicate_in f))
 if_found None keys f ps e h = tt
 if_found (Some n) keys f ps e h = ap (λ l. slice_get l n) e ∙ number_found keys f n (sym h)
 
-pub if_absent : (r : Option ℕ) (keys : List Functor) (f : Functor) (ps : List Predicate) → ps ≡ map predicate_in keys → r ≡ position (same_functor f) keys → IfNone r ((n : ℕ) → slice_get ps n ≡ Some (predicate_in f) → ⊥)
+pub if_absent : (r : Option ℕ) (keys : List Functor) (f : Functor) (ps : List Predicate) → ps ≡ map predicate_in keys → r ≡ position (same_functor f) keys
+    → IfNone r ((n : ℕ) → slice_get ps n ≡ Some (predicate_in f) → ⊥)
 if_absent None keys f ps e h = λ n g. number_absent keys f (sym h) n (ap (λ l. slice_get l n) (sym e) ∙ g)
 if_absent (Some n) keys f ps e h = tt

@@ -17,11 +17,16 @@ use Rattle.term_pool.specs.Contents.{atom_name}
 use Rattle.wam_code.specs.declared.instruction.Register.{Register}
 use Rattle.wam_code.specs.declared.instruction.Register.TheVariants.{X}
 use Rattle.wam_code.specs.declared.instruction.Code.{Code}
-use Rattle.wam_code.specs.declared.instruction.Code.TheVariants.{GetVariable, GetValue, GetConstant, GetInteger, GetStructure, UnifyVariable, UnifyValue, UnifyConstant, UnifyInteger, UnifyVoid, PutVariable, PutValue, PutConstant, PutInteger, PutStructure, Allocate, Deallocate, Call, Execute, Proceed, Jump, AnswerNow, Either, Builtin, Constrain, Label, Best, PostRange, Level, TestOnly, EnterTest, CutTo}
+use Rattle.wam_code.specs.declared.instruction.Code.TheVariants.{GetVariable, GetValue, GetConstant, GetInteger, GetStructure, UnifyVariable, UnifyValue}
+use Rattle.wam_code.specs.declared.instruction.Code.TheVariants.{UnifyConstant, UnifyInteger, UnifyVoid, PutVariable, PutValue, PutConstant, PutInteger}
+use Rattle.wam_code.specs.declared.instruction.Code.TheVariants.{PutStructure, Allocate, Deallocate, Call, Execute, Proceed, Jump, AnswerNow, Either, Builtin}
+use Rattle.wam_code.specs.declared.instruction.Code.TheVariants.{Constrain, Label, Best, PostRange, Level, TestOnly, EnterTest, CutTo}
 use Rattle.wam_code.specs.declared.parts.Entry.{Entry}
 use Rattle.wam_code.specs.Area.{Area, HasEntry, name_of, range_at}
-use Rattle.wam_code.specs.Places.{Depth, deeper, one_deeper, Places, read, write, learn, without, put_level, drop_level, no_registers, no_slots, IsFresh, IsWhole, IsSettled, AreWithin, IsDeepest, Hold, made}
-use Rattle.wam_code.specs.Means.{Caller, UnifyRule, BuiltinRule, ConstrainRule, LabelRule, BestRule, CallRule, tested, HasTest, HoldVars, Shows, Rule, Restates, Means}
+use Rattle.wam_code.specs.Places.{Depth, deeper, one_deeper, Places, read, write, learn, without, put_level, drop_level, no_registers, no_slots, IsFresh}
+use Rattle.wam_code.specs.Places.{IsWhole, IsSettled, AreWithin, IsDeepest, Hold, made}
+use Rattle.wam_code.specs.CodeMeaning.{Caller, UnifyRule, BuiltinRule, ConstrainRule, LabelRule, BestRule, CallRule, tested, HasTest, HoldVars, Shows, Rule}
+use Rattle.wam_code.specs.CodeMeaning.{Restates, Means}
 use Rattle.wam_code.proofs.Lemmas.{from_rule, from_learning, from_restating}
 use Rattle.clause_code.specs.Pieces.{Predicate, predicate_of, Base, base_of, Stand, past, Does, Parts, Ends}
 
@@ -88,16 +93,20 @@ does_get_integer b at z a t p es gs h = one b at (GetInteger z a) p _ _ es gs gs
 pub no_parts : (b : Base) (at : ℕ) (p : Places) → Parts b at [] p no_terms p
 no_parts b at p = λ area e s. (refl, refl, refl)
 
-part_by : (b : Base) (at : ℕ) (i : Code) (is : List Code) (t : Term) (ts : Terms) (p mid q : Places) → ((area : Area) → base_of area ≡ b → UnifyRule area i p t 0 mid) → Parts b (suc at) is mid ts q → Parts b at (i ∷ is) p (term t ts) q
+part_by : (b : Base) (at : ℕ) (i : Code) (is : List Code) (t : Term) (ts : Terms) (p mid q : Places)
+    → ((area : Area) → base_of area ≡ b → UnifyRule area i p t 0 mid) → Parts b (suc at) is mid ts q → Parts b at (i ∷ is) p (term t ts) q
 part_by b at i is t ts p mid q k f = λ area e s. (i, 0, mid, s.0, k area e, f area e s.1)
 
-pub part_variable : (b : Base) (at : ℕ) (r : Register) (v : ℕ) (is : List Code) (ts : Terms) (p q : Places) → IsFresh p v → Parts b (suc at) is (write (learn p v) r (Var v)) ts q → Parts b at (UnifyVariable r ∷ is) p (term (Var v) ts) q
+pub part_variable : (b : Base) (at : ℕ) (r : Register) (v : ℕ) (is : List Code) (ts : Terms) (p q : Places) → IsFresh p v
+    → Parts b (suc at) is (write (learn p v) r (Var v)) ts q → Parts b at (UnifyVariable r ∷ is) p (term (Var v) ts) q
 part_variable b at r v is ts p q f g = part_by b at (UnifyVariable r) is (Var v) ts p _ q (λ area e. (v, f, refl, refl, refl)) g
 
-pub part_value : (b : Base) (at : ℕ) (r : Register) (t : Term) (is : List Code) (ts : Terms) (p q : Places) → read p r ≡ Some t → Parts b (suc at) is p ts q → Parts b at (UnifyValue r ∷ is) p (term t ts) q
+pub part_value : (b : Base) (at : ℕ) (r : Register) (t : Term) (is : List Code) (ts : Terms) (p q : Places) → read p r ≡ Some t → Parts b (suc at) is p ts q
+    → Parts b at (UnifyValue r ∷ is) p (term t ts) q
 part_value b at r t is ts p q h g = part_by b at (UnifyValue r) is t ts p p q (λ area e. (h, refl, refl)) g
 
-pub part_constant : (b : Base) (at : ℕ) (c : AtomId) (is : List Code) (ts : Terms) (p q : Places) → Parts b (suc at) is p ts q → Parts b at (UnifyConstant c ∷ is) p (term (Atom (atom_name b.pool c)) ts) q
+pub part_constant : (b : Base) (at : ℕ) (c : AtomId) (is : List Code) (ts : Terms) (p q : Places) → Parts b (suc at) is p ts q
+    → Parts b at (UnifyConstant c ∷ is) p (term (Atom (atom_name b.pool c)) ts) q
 part_constant b at c is ts p q g = part_by b at (UnifyConstant c) is _ ts p p q (λ area e. (ap Atom (named b area c e), refl, refl)) g
 
 pub part_integer : (b : Base) (at : ℕ) (z : ℤ) (is : List Code) (ts : Terms) (p q : Places) → Parts b (suc at) is p ts q → Parts b at (UnifyInteger z ∷ is) p (term (Int z) ts) q
@@ -107,29 +116,40 @@ pub part_void : (b : Base) (at v : ℕ) (is : List Code) (ts : Terms) (p q : Pla
 part_void b at v is ts p q f g = part_by b at (UnifyVoid 1) is (Var v) ts p _ q (λ area e. (v, f, refl, refl, refl)) g
 
 -- The structure is equated with what a register holds.
-pub does_get_structure : (b : Base) (at : ℕ) (c : AtomId) (n a : ℕ) (is : List Code) (t : Term) (us : Terms) (p q : Places) (es : List Equation) (gs : List Goal) → p.x a ≡ Some t → term_count us ≡ n → Parts b (suc at) is p us q
+pub does_get_structure : (b : Base) (at : ℕ) (c : AtomId) (n a : ℕ) (is : List Code) (t : Term) (us : Terms) (p q : Places) (es : List Equation)
+    (gs : List Goal) → p.x a ≡ Some t → term_count us ≡ n → Parts b (suc at) is p us q
     → Does b at (GetStructure c n a ∷ is) p (equation t (Comp (atom_name b.pool c) us) ∷ es) gs q es gs
 does_get_structure b at c n a is t us p q es gs h k f = λ area w e s m.
     from_rule area w at p _ gs (GetStructure c n a) s.0 (us, past (suc at) is, q, (k, f area e s.1), (t, es, h, ap (λ x. equation t (Comp x us) ∷ es) (named b area c e), m))
 
 -- ---- the arguments of goals
 
-pub does_put_variable : (b : Base) (at : ℕ) (r : Register) (a v : ℕ) (p : Places) (es : List Equation) (gs : List Goal) → IsFresh p v → Does b at (PutVariable r a ∷ []) p es gs (write (write (learn p v) r (Var v)) (X a) (Var v)) es gs
+pub does_put_variable : (b : Base) (at : ℕ) (r : Register) (a v : ℕ) (p : Places) (es : List Equation) (gs : List Goal) → IsFresh p v
+    → Does b at (PutVariable r a ∷ []) p es gs (write (write (learn p v) r (Var v)) (X a) (Var v)) es gs
 does_put_variable b at r a v p es gs f = one b at (PutVariable r a) p _ es es gs gs (λ area w e m. (v, f, m))
 
-pub does_put_value : (b : Base) (at : ℕ) (r : Register) (a : ℕ) (t : Term) (p : Places) (es : List Equation) (gs : List Goal) → read p r ≡ Some t → Does b at (PutValue r a ∷ []) p es gs (write p (X a) t) es gs
+pub does_put_value : (b : Base) (at : ℕ) (r : Register) (a : ℕ) (t : Term) (p : Places) (es : List Equation) (gs : List Goal) → read p r ≡ Some t
+    → Does b at (PutValue r a ∷ []) p es gs (write p (X a) t) es gs
 does_put_value b at r a t p es gs h = one b at (PutValue r a) p _ es es gs gs (λ area w e m. (t, h, m))
 
-pub does_put_constant : (b : Base) (at : ℕ) (c : AtomId) (a : ℕ) (p : Places) (es : List Equation) (gs : List Goal) → Does b at (PutConstant c a ∷ []) p es gs (write p (X a) (Atom (atom_name b.pool c))) es gs
+pub does_put_constant : (b : Base) (at : ℕ) (c : AtomId) (a : ℕ) (p : Places) (es : List Equation) (gs : List Goal)
+    → Does b at (PutConstant c a ∷ []) p es gs (write p (X a) (Atom (atom_name b.pool c))) es gs
 does_put_constant b at c a p es gs = one b at (PutConstant c a) p _ es es gs gs (λ area w e m. subst (λ x. Means area w (suc at) (write p (X a) (Atom x)) es gs) (named b area c e) m)
 
 pub does_put_integer : (b : Base) (at : ℕ) (z : ℤ) (a : ℕ) (p : Places) (es : List Equation) (gs : List Goal) → Does b at (PutInteger z a ∷ []) p es gs (write p (X a) (Int z)) es gs
 does_put_integer b at z a p es gs = one b at (PutInteger z a) p _ es es gs gs (λ area w e m. m)
 
-pub does_put_structure : (b : Base) (at : ℕ) (c : AtomId) (n a : ℕ) (is : List Code) (us : Terms) (p q : Places) (es : List Equation) (gs : List Goal) → term_count us ≡ n → Parts b (suc at) is (without p a) us q
+pub does_put_structure : (b : Base) (at : ℕ) (c : AtomId) (n a : ℕ) (is : List Code) (us : Terms) (p q : Places) (es : List Equation) (gs : List Goal)
+    → term_count us ≡ n → Parts b (suc at) is (without p a) us q
     → Does b at (PutStructure c n a ∷ is) p es gs (write q (X a) (Comp (atom_name b.pool c) us)) es gs
 does_put_structure b at c n a is us p q es gs k f = λ area w e s m.
-    from_rule area w at p es gs (PutStructure c n a) s.0 (us, past (suc at) is, q, (k, f area e s.1), subst (λ x. Means area w (past (suc at) is) (write q (X a) (Comp x us)) es gs) (named b area c e) m)
+    from_rule area w at p es gs (PutStructure c n a) s.0 (
+      us,
+      past (suc at) is,
+      q,
+      (k, f area e s.1),
+      subst (λ x. Means area w (past (suc at) is) (write q (X a) (Comp x us)) es gs) (named b area c e) m,
+    )
 
 -- ---- frames
 
@@ -142,7 +162,8 @@ does_deallocate b at p es gs = one b at Deallocate p _ es es gs gs (λ area w e 
 -- ---- steps that no instruction takes
 
 -- A variable of the head is what a register holds.
-pub does_learn : (b : Base) (at a v : ℕ) (t : Term) (p : Places) (es : List Equation) (gs : List Goal) → IsFresh p v → p.x a ≡ Some t → Does b at [] p (equation t (Var v) ∷ es) gs (write (learn p v) (X a) (Var v)) es gs
+pub does_learn : (b : Base) (at a v : ℕ) (t : Term) (p : Places) (es : List Equation) (gs : List Goal) → IsFresh p v → p.x a ≡ Some t
+    → Does b at [] p (equation t (Var v) ∷ es) gs (write (learn p v) (X a) (Var v)) es gs
 does_learn b at a v t p es gs f h = λ area w e s m. from_learning area w at p _ gs (a, v, f, (t, es, h, refl, m))
 
 -- The equations are restated.
@@ -175,19 +196,22 @@ entry_there b area n s e h = found area.entries n (slice_get area.entries n) s r
 abbrev pub call_of : Base → Predicate → Terms → Goal
 call_of b s ts = goal.Call (made (atom_name b.pool s.name) ts)
 
-call_rule : (b : Base) (area : Area) (n : ℕ) (s : Predicate) (ts : Terms) (p : Places) → base_of area ≡ b → slice_get b.predicates n ≡ Some s → term_count ts ≡ s.arity → Hold p 1 ts → CallRule area n p (call_of b s ts)
+call_rule : (b : Base) (area : Area) (n : ℕ) (s : Predicate) (ts : Terms) (p : Places) → base_of area ≡ b → slice_get b.predicates n ≡ Some s
+    → term_count ts ≡ s.arity → Hold p 1 ts → CallRule area n p (call_of b s ts)
 call_rule b area n s ts p e h k l =
     let w = entry_there b area n s e h in
     (w.0, ts, w.1, k ∙ sym (ap (λ x. x.arity) w.2), l, ap (λ x. goal.Call (made x ts)) (ap (λ c. atom_name b.pool c) (sym (ap (λ x. x.name) w.2)) ∙ named b area w.0.name e))
 
-pub does_call : (b : Base) (at n : ℕ) (s : Predicate) (ts : Terms) (p q : Places) (gs : List Goal) → slice_get b.predicates n ≡ Some s → term_count ts ≡ s.arity → Hold p 1 ts → IsSettled (no_registers p) q
+pub does_call : (b : Base) (at n : ℕ) (s : Predicate) (ts : Terms) (p q : Places) (gs : List Goal) → slice_get b.predicates n ≡ Some s → term_count ts ≡ s.arity
+    → Hold p 1 ts → IsSettled (no_registers p) q
     → Does b at (Call n ∷ []) p [] (call_of b s ts ∷ gs) q [] gs
 does_call b at n s ts p q gs h k l f = one b at (Call n) p q [] [] (call_of b s ts ∷ gs) gs (λ area w e m. (call_of b s ts, gs, q, call_rule b area n s ts p e h k l, f, refl, refl, m))
 
 abbrev pub range_in : Base → ℕ → Range
 range_in b r = slice_index_or b.ranges r empty_range
 
-pub does_post : (b : Base) (at r n : ℕ) (t : Term) (f : ℕ → ℕ) (p q : Places) (gs : List Goal) → ((x y : ℕ) → f x ≡ f y → x ≡ y) → p.x 1 ≡ Some t → HoldVars p 2 f (slots_of (range_in b r)) → IsSettled p q
+pub does_post : (b : Base) (at r n : ℕ) (t : Term) (f : ℕ → ℕ) (p q : Places) (gs : List Goal) → ((x y : ℕ) → f x ≡ f y → x ≡ y) → p.x 1 ≡ Some t
+    → HoldVars p 2 f (slots_of (range_in b r)) → IsSettled p q
     → Does b at (PostRange r n ∷ []) p [] (goal.Post t (rename_range f (range_in b r)) ∷ gs) q [] gs
 does_post b at r n t f p q gs apart h k l = one b at (PostRange r n) p q [] [] _ gs (λ area w e m.
     let same : range_in b r ≡ range_at area r = sym (ap (λ x. slice_index_or x.ranges r empty_range) e) in
@@ -212,7 +236,8 @@ pub does_level : (b : Base) (at n : ℕ) (d : Depth) (p : Places) (es : List Equ
 does_level b at n d p es gs h = one b at (Level n) p _ es es gs gs (λ area w e m. (d, h, m))
 
 -- A cut to a slot's depth.
-pub does_cut : (b : Base) (at n : ℕ) (d : Depth) (p q : Places) (gs : List Goal) → p.levels n ≡ Some d → IsSettled p q → AreWithin q d → Does b at (CutTo n ∷ []) p [] (goal.Cut (Some d.branches) ∷ gs) q [] gs
+pub does_cut : (b : Base) (at n : ℕ) (d : Depth) (p q : Places) (gs : List Goal) → p.levels n ≡ Some d → IsSettled p q → AreWithin q d
+    → Does b at (CutTo n ∷ []) p [] (goal.Cut (Some d.branches) ∷ gs) q [] gs
 does_cut b at n d p q gs h f g = one b at (CutTo n) p q [] [] _ gs (λ area w e m. (d, gs, q, h, f, g, refl, refl, m))
 
 -- ---- tests
@@ -224,9 +249,12 @@ pub does_test_only : (b : Base) (at n : ℕ) (is : List Code) (test holds : Goal
 does_test_only b at n is test holds p q r kept gs f k h = λ area w e s m. from_rule area w at p [] _ (TestOnly n) s.0 (test, holds, gs, q, kept, f, k, refl, refl, λ more. h more area w e s.1 m)
 
 -- A test with another way, which is behind the code of the first one.
-pub does_enter_test : (b : Base) (at n m to : ℕ) (is : List Code) (g : Goal) (test : Goals) (holds other : List Goal) (p q r : Places) (kept : Depth) (gs : List Goal) → IsSettled p q → IsDeepest q kept → HasTest g test holds other
-    → ((more : Depth) → Does b (suc at) is (put_level (put_level q n (deeper kept more)) m (one_deeper (deeper kept more))) [] (tested (suc (deeper kept more).branches) (deeper kept more).branches test (holds ++ gs)) r [] gs)
-    → ((more : Depth) → (area : Area) (w : Caller) → base_of area ≡ b → Stand area (suc at) is → Means area w (past (suc at) is) r [] gs → Means area w to (drop_level (put_level q n (deeper kept more)) m) [] (other ++ gs))
+pub does_enter_test : (b : Base) (at n m to : ℕ) (is : List Code) (g : Goal) (test : Goals) (holds other : List Goal) (p q r : Places) (kept : Depth)
+    (gs : List Goal) → IsSettled p q → IsDeepest q kept → HasTest g test holds other
+    → ((more : Depth) → Does b (suc at) is (put_level (put_level q n (deeper kept more)) m (one_deeper (deeper kept more))) []
+    (tested (suc (deeper kept more).branches) (deeper kept more).branches test (holds ++ gs)) r [] gs)
+    → ((more : Depth) → (area : Area) (w : Caller) → base_of area ≡ b → Stand area (suc at) is → Means area w (past (suc at) is) r [] gs
+    → Means area w to (drop_level (put_level q n (deeper kept more)) m) [] (other ++ gs))
     → Does b at (EnterTest n m to ∷ is) p [] (g ∷ gs) r [] gs
 does_enter_test b at n m to is g test holds other p q r kept gs f k t h o = λ area w e s x.
     from_rule area w at p [] (g ∷ gs) (EnterTest n m to) s.0 (g, test, holds, other, gs, q, kept, f, k, refl, refl, t, λ more. (h more area w e s.1 x, o more area w e s.1 x))
@@ -243,7 +271,8 @@ does_ways b at is js p r gs ks f = λ area w e s m.
 
 -- And the second stands behind the jump.
 pub other_way : (b : Base) (at : ℕ) (is js : List Code) (q r : Places) (hs ks : List Goal) → Does b (suc (past at is)) js q [] hs r [] ks
-    → (area : Area) (w : Caller) → base_of area ≡ b → Stand area at (is ++ (Jump (past (suc (past at is)) js) ∷ js)) → Means area w (past at (is ++ (Jump (past (suc (past at is)) js) ∷ js))) r [] ks → Means area w (suc (past at is)) q [] hs
+    → (area : Area) (w : Caller) → base_of area ≡ b → Stand area at (is ++ (Jump (past (suc (past at is)) js) ∷ js))
+    → Means area w (past at (is ++ (Jump (past (suc (past at is)) js) ∷ js))) r [] ks → Means area w (suc (past at is)) q [] hs
 other_way b at is js q r hs ks g = λ area w e s m.
     let mid : ℕ = past at is in
     let last : past at (is ++ (Jump (past (suc mid) js) ∷ js)) ≡ past (suc mid) js = past_both at is (Jump (past (suc mid) js) ∷ js) in

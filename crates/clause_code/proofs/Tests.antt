@@ -1,5 +1,6 @@
 -- Cuts and tests: what their code does, and how states flow through it.
-use Rattle.std.proofs.Common.{◌≡◌, ◌⊎◌, ℕ, zero, suc, ◌+◌, ◌<◌, ◌≤◌, Bool, true, IsTrue, List, [], ◌∷◌, ◌++◌, Option, Some, None, option_map, length, slice_get, slice_set, refl, ap, sym, ◌∙◌, subst, arith, inl, inr}
+use Rattle.std.proofs.Common.{◌≡◌, ◌⊎◌, ℕ, zero, suc, ◌+◌, ◌<◌, ◌≤◌, Bool, true, IsTrue, List, [], ◌∷◌, ◌++◌, Option, Some, None, option_map, length, slice_get}
+use Rattle.std.proofs.Common.{slice_set, refl, ap, sym, ◌∙◌, subst, arith, inl, inr}
 use Rattle.std.proofs.lemmas.Bool.{cases_eq, true≢false}
 use Rattle.fd_language.specs.Term.{Var}
 use Rattle.fd_model.specs.declared.kinds.BuiltinKind.TheVariants as kind
@@ -13,20 +14,20 @@ use Rattle.wam_code.specs.declared.instruction.Code.TheVariants.{Jump, Builtin, 
 use Rattle.wam_code.specs.Area.{Slot, Unset, Cell, Level, State}
 use Rattle.wam_code.specs.Effect.{slot_at, is_level, may_be_level, with_mark, with_level, effect}
 use Rattle.wam_code.specs.Places.{Depth, deeper, one_deeper, Places, put_at, read, put_level, drop_level, AreWithin, IsDeepest}
-use Rattle.wam_code.specs.Means.{tested, Means}
+use Rattle.wam_code.specs.CodeMeaning.{tested, Means}
 use Rattle.wam_code.proofs.Lemmas.{covers_self, put_here, put_else}
 use Rattle.clause_code.specs.Pieces.{Base, past, Does}
 use Rattle.clause_code.specs.Laws.{other_side, ways}
 use Rattle.clause_code.specs.MoreRegisters.{HasMore}
-use Rattle.clause_code.specs.Safe.{unplaced, may_enter}
-use Rattle.clause_code.specs.Flowing.{Flows, MayEnter}
+use Rattle.clause_code.specs.SafeCode.{unplaced, may_enter}
+use Rattle.clause_code.specs.StateFlow.{Flows, MayEnter}
 use Rattle.clause_code.specs.Steps.{home}
 use Rattle.clause_code.specs.Bodies.{is_y, Levels, HasCut, in_test, HasDepths, AreFree, between_goals, InBody, IsRest, IsGoalsCode}
 use Rattle.clause_code.proofs.MoreRegisters.{means_more}
 use Rattle.clause_code.proofs.Pieces.{does_both, does_builtin, does_cut, does_test_only, does_enter_test, does_ways, other_way, past_both}
-use Rattle.clause_code.proofs.Making.{drop_else, AreApart}
-use Rattle.clause_code.proofs.Going.{when_true, both, plain_of}
-use Rattle.clause_code.proofs.Flowing.{flows_both, flows_simple, flows_ways, flows_over}
+use Rattle.clause_code.proofs.FreshVariables.{drop_else, AreApart}
+use Rattle.clause_code.proofs.StepEffects.{when_true, both, plain_of}
+use Rattle.clause_code.proofs.StateFlow.{flows_both, flows_simple, flows_ways, flows_over}
 use Rattle.clause_code.proofs.Bodies.{found_is, y_is, between_in, between_settled, single_enters, listed_renamed, listed_marked, does_between}
 
 -- ---- a slot that is a level
@@ -82,10 +83,12 @@ once l c depths d e hd m = record { cut = λ g. put_here l.next e depths; others
     by k x g (inr o) = open_by k x g o
 
 -- and to the second
-twice : (l : Levels) → HasCut l → (depths : ℕ → Option Depth) (d e : Depth) → HasDepths l depths d → d.points ≤ e.points → HasDepths (in_test l (suc l.next)) (put_at (suc l.next) (one_deeper e) (put_at l.next e depths)) (one_deeper e)
+twice : (l : Levels) → HasCut l → (depths : ℕ → Option Depth) (d e : Depth) → HasDepths l depths d → d.points ≤ e.points
+    → HasDepths (in_test l (suc l.next)) (put_at (suc l.next) (one_deeper e) (put_at l.next e depths)) (one_deeper e)
 twice l c depths d e hd m = record { cut = λ g. put_here (suc l.next) (one_deeper e) (put_at l.next e depths); others = λ k x g. by k x g (cases_eq k (suc l.next)) }
   where
-    by : (k : ℕ) (x : Depth) → put_at (suc l.next) (one_deeper e) (put_at l.next e depths) k ≡ Some x → (k ≡ suc l.next) ⊎ (k ≡ suc l.next → ⊥) → (l.first ≤ k) × (k < suc (suc l.next)) × (x.points ≤ suc e.points)
+    by : (k : ℕ) (x : Depth) → put_at (suc l.next) (one_deeper e) (put_at l.next e depths) k ≡ Some x → (k ≡ suc l.next) ⊎ (k ≡ suc l.next → ⊥)
+        → (l.first ≤ k) × (k < suc (suc l.next)) × (x.points ≤ suc e.points)
     by k x g (inl o) =
         let same : Some (one_deeper e) ≡ Some x = sym (put_here (suc l.next) (one_deeper e) (put_at l.next e depths)) ∙ ap (put_at (suc l.next) (one_deeper e) (put_at l.next e depths)) (sym o) ∙ g in
         let is : one_deeper e ≡ x = cc in
@@ -139,8 +142,10 @@ module _ (b : Base) (homes : List Register) (apart : AreApart homes) (framed : B
     test_rest cut s r = record { set = r.set; levels = r.levels; owed = r.owed; frame = r.frame; regs = r.regs }
 
     -- The code of a test and its cut: only the outer depths are left.
-    test_does : (cut at : ℕ) (is : List Code) (test : Goals) → IsGoalsCode b homes framed (in_test l cut) at is (listed test) → (s : State) → IsRest homes framed l s → (n : ℕ) (depths : ℕ → Option Depth) (d : Depth) → HasDepths l depths d
-        → (e k : Depth) (inner : ℕ → Option Depth) → HasDepths (in_test l cut) inner k → d.points ≤ e.points → ((j : ℕ) → j < l.next → inner j ≡ depths j) → inner l.next ≡ Some e → (p : Places) → InBody n homes inner p → (later : List Goal)
+    test_does : (cut at : ℕ) (is : List Code) (test : Goals) → IsGoalsCode b homes framed (in_test l cut) at is (listed test) → (s : State)
+        → IsRest homes framed l s → (n : ℕ) (depths : ℕ → Option Depth) (d : Depth) → HasDepths l depths d
+        → (e k : Depth) (inner : ℕ → Option Depth) → HasDepths (in_test l cut) inner k → d.points ≤ e.points → ((j : ℕ) → j < l.next → inner j ≡ depths j)
+        → inner l.next ≡ Some e → (p : Places) → InBody n homes inner p → (later : List Goal)
         → Does b at (is ++ (CutTo l.next ∷ [])) p [] (tested k.branches e.branches (rename_goals (λ x. n + x) test) later) (between_goals n homes depths) [] later
     test_does cut at is test g s r n depths d hd e k inner hk m same here p h later =
         let q : Places = between_goals n homes depths in
@@ -158,16 +163,19 @@ module _ (b : Base) (homes : List Register) (apart : AreApart homes) (framed : B
         does_cut b (past at is) l.next e w.q q later (w.there.levels l.next e here) (between_settled n homes depths apart w.q outer) (within_mine l n homes depths d e hd m) in
         does_both b at is (CutTo l.next ∷ []) p w.q q [] [] [] (marked_all k.branches (listed (rename_goals (λ x. n + x) test)) ++ cuts) cuts later first second
 
-    test_flows : (cut at : ℕ) (is : List Code) (test : Goals) → IsGoalsCode b homes framed (in_test l cut) at is (listed test) → (s : State) → IsRest homes framed l s → Flows b at (is ++ (CutTo l.next ∷ [])) s s
+    test_flows : (cut at : ℕ) (is : List Code) (test : Goals) → IsGoalsCode b homes framed (in_test l cut) at is (listed test) → (s : State)
+        → IsRest homes framed l s → Flows b at (is ++ (CutTo l.next ∷ [])) s s
     test_flows cut at is test g s r =
         let there : is_level (slot_at s.frame l.next) ≡ true = r.levels l.next in_first (omega (arith, room)) in
-        flows_both b at is (CutTo l.next ∷ []) s s s (g.flows s (test_rest cut s r)) (flows_simple b (past at is) (CutTo l.next) s s s (plain_of b (CutTo l.next) s r.owed ∙ when_true _ s there) (covers_self s) refl tt)
+        flows_both b at is (CutTo l.next ∷ []) s s s (g.flows s (test_rest cut s r))
+        (flows_simple b (past at is) (CutTo l.next) s s s (plain_of b (CutTo l.next) s r.owed ∙ when_true _ s there) (covers_self s) refl tt)
 
     deepest : (n : ℕ) (depths : ℕ → Option Depth) (d : Depth) → HasDepths l depths d → IsDeepest (between_goals n homes depths) d
     deepest n depths d hd = record { within = within_mine l n homes depths d d hd (omega arith); kept = inr (inl (l.cut, hd.cut c)) }
 
     -- the goals of a way
-    way_does : (at : ℕ) (js : List Code) (gs : Goals) → IsGoalsCode b homes framed l at js (listed gs) → (s : State) → IsRest homes framed l s → (n : ℕ) (depths : ℕ → Option Depth) (d : Depth) → HasDepths l depths d → (later : List Goal)
+    way_does : (at : ℕ) (js : List Code) (gs : Goals) → IsGoalsCode b homes framed l at js (listed gs) → (s : State) → IsRest homes framed l s
+        → (n : ℕ) (depths : ℕ → Option Depth) (d : Depth) → HasDepths l depths d → (later : List Goal)
         → Does b at js (between_goals n homes depths) [] (listed (marked_goals d.branches (rename_goals (λ x. n + x) gs)) ++ later) (between_goals n homes depths) [] later
     way_does at js gs g s r n depths d hd later =
         let q : Places = between_goals n homes depths in
@@ -175,7 +183,8 @@ module _ (b : Base) (homes : List Register) (apart : AreApart homes) (framed : B
 
     -- ---- C -> A
 
-    pub goal_if : (at : ℕ) (is js : List Code) (test holds : Goals) → IsGoalsCode b homes framed (in_test l l.next) (suc at) is (listed test) → IsGoalsCode b homes framed l (past (suc at) (is ++ (CutTo l.next ∷ []))) js (listed holds)
+    pub goal_if : (at : ℕ) (is js : List Code) (test holds : Goals) → IsGoalsCode b homes framed (in_test l l.next) (suc at) is (listed test)
+        → IsGoalsCode b homes framed l (past (suc at) (is ++ (CutTo l.next ∷ []))) js (listed holds)
         → IsGoalsCode b homes framed l at (TestOnly l.next ∷ ((is ++ (CutTo l.next ∷ [])) ++ js)) (goal.If test holds ∷ [])
     goal_if at is js test holds f g = record {
       does = λ s r n depths d hd p later h.
@@ -186,11 +195,14 @@ module _ (b : Base) (homes : List Register) (apart : AreApart homes) (framed : B
             q = q;
             there = in';
             same = λ e. refl;
-            does = does_test_only b at l.next ((is ++ (CutTo l.next ∷ [])) ++ js) (rename_goals (λ x. n + x) test) (marked_goals d.branches (rename_goals (λ x. n + x) holds)) p q q d later (between_settled n homes depths apart p h) (deepest n depths d hd) (λ more.
+            does = does_test_only b at l.next ((is ++ (CutTo l.next ∷ [])) ++ js) (rename_goals (λ x. n + x) test)
+                (marked_goals d.branches (rename_goals (λ x. n + x) holds)) p q q d later (between_settled n homes depths apart p h)
+                (deepest n depths d hd) (λ more.
                 let e : Depth = deeper d more in
                 let start : Places = put_level q l.next e in
                 let first : Does b (suc at) (is ++ (CutTo l.next ∷ [])) start [] (tested e.branches e.branches (rename_goals (λ x. n + x) test) behind) q [] behind =
-                test_does l.next (suc at) is test f s r n depths d hd e e (put_at l.next e depths) (once l c depths d e hd (omega arith)) (omega arith) (λ j m. put_below l.next e depths j m) (put_here l.next e depths) start
+                test_does l.next (suc at) is test f s r n depths d hd e e (put_at l.next e depths) (once l c depths d e hd (omega arith)) (omega arith)
+                (λ j m. put_below l.next e depths j m) (put_here l.next e depths) start
                 (in_put n depths q l.next e in_first (omega (arith, room)) in') behind in
                 does_both b (suc at) (is ++ (CutTo l.next ∷ [])) js start q q [] [] [] (tested e.branches e.branches (rename_goals (λ x. n + x) test) behind) behind later first
                 (way_does (past (suc at) (is ++ (CutTo l.next ∷ []))) js holds g s r n depths d hd later));
@@ -198,7 +210,8 @@ module _ (b : Base) (homes : List Register) (apart : AreApart homes) (framed : B
       flows = λ s r.
           let there : is_level (slot_at s.frame l.next) ≡ true = r.levels l.next in_first (omega (arith, room)) in
           flows_both b at (TestOnly l.next ∷ []) ((is ++ (CutTo l.next ∷ [])) ++ js) s s s
-          (flows_simple b at (TestOnly l.next) s s s (plain_of b (TestOnly l.next) s r.owed ∙ when_true _ (with_level s l.next) (level_may (slot_at s.frame l.next) there) ∙ ap Some (level_as_is s l.next there)) (covers_self s) refl tt)
+          (flows_simple b at (TestOnly l.next) s s s (plain_of b (TestOnly l.next) s r.owed
+          ∙ when_true _ (with_level s l.next) (level_may (slot_at s.frame l.next) there) ∙ ap Some (level_as_is s l.next there)) (covers_self s) refl tt)
           (flows_both b (suc at) (is ++ (CutTo l.next ∷ [])) js s s s (test_flows l.next (suc at) is test f s r) (g.flows s r));
       enters = first_enters (TestOnly l.next) ((is ++ (CutTo l.next ∷ [])) ++ js) refl;
     }
@@ -214,8 +227,11 @@ module _ (b : Base) (homes : List Register) (apart : AreApart homes) (framed : B
         ∙ ap Some (ap (λ t. with_level t (suc l.next)) (level_as_is s l.next one) ∙ level_as_is s (suc l.next) two)
 
     -- the test of the one way, with its depths
-    entered : (at : ℕ) (is : List Code) (test : Goals) → IsGoalsCode b homes framed (in_test l (suc l.next)) at is (listed test) → (s : State) → IsRest homes framed l s → (n : ℕ) (depths : ℕ → Option Depth) (d : Depth) → HasDepths l depths d → (e : Depth) → d.points ≤ e.points → (later : List Goal)
-        → Does b at (is ++ (CutTo l.next ∷ [])) (put_level (put_level (between_goals n homes depths) l.next e) (suc l.next) (one_deeper e)) [] (tested (suc e.branches) e.branches (rename_goals (λ x. n + x) test) later) (between_goals n homes depths) [] later
+    entered : (at : ℕ) (is : List Code) (test : Goals) → IsGoalsCode b homes framed (in_test l (suc l.next)) at is (listed test) → (s : State)
+        → IsRest homes framed l s → (n : ℕ) (depths : ℕ → Option Depth) (d : Depth) → HasDepths l depths d → (e : Depth) → d.points ≤ e.points
+        → (later : List Goal)
+        → Does b at (is ++ (CutTo l.next ∷ [])) (put_level (put_level (between_goals n homes depths) l.next e) (suc l.next) (one_deeper e)) []
+        (tested (suc e.branches) e.branches (rename_goals (λ x. n + x) test) later) (between_goals n homes depths) [] later
     entered at is test f s r n depths d hd e m later =
         let q : Places = between_goals n homes depths in
         let one : ℕ → Option Depth = put_at l.next e depths in
@@ -224,10 +240,12 @@ module _ (b : Base) (homes : List Register) (apart : AreApart homes) (framed : B
         (λ j k. put_below (suc l.next) (one_deeper e) one j (omega (arith, k)) ∙ put_below l.next e depths j k)
         (put_below (suc l.next) (one_deeper e) one l.next (omega arith) ∙ put_here l.next e depths)
         (put_level (put_level q l.next e) (suc l.next) (one_deeper e))
-        (in_put n one (put_level q l.next e) (suc l.next) (one_deeper e) (omega (arith, a)) (omega (arith, room)) (in_put n depths q l.next e a (omega (arith, room)) (between_in n homes depths apart))) later
+        (in_put n one (put_level q l.next e) (suc l.next) (one_deeper e) (omega (arith, a)) (omega (arith, room))
+        (in_put n depths q l.next e a (omega (arith, room)) (between_in n homes depths apart))) later
 
     -- the places of the other way have all that is counted on
-    other_more : (n : ℕ) (depths : ℕ → Option Depth) (d e : Depth) → HasDepths l depths d → HasMore (drop_level (put_level (between_goals n homes depths) l.next e) (suc l.next)) (between_goals n homes depths)
+    other_more : (n : ℕ) (depths : ℕ → Option Depth) (d e : Depth) → HasDepths l depths d
+        → HasMore (drop_level (put_level (between_goals n homes depths) l.next e) (suc l.next)) (between_goals n homes depths)
     other_more n depths d e hd = record {
       xs = λ i t h. h;
       ys = λ i t h.
@@ -247,9 +265,12 @@ module _ (b : Base) (homes : List Register) (apart : AreApart homes) (framed : B
     }
 
     -- both ways of a test
-    pub goal_if_else : (at : ℕ) (is hs js : List Code) (test holds other : Goals) → IsGoalsCode b homes framed (in_test l (suc l.next)) (suc at) is (listed test) → IsGoalsCode b homes framed l (past (suc at) (is ++ (CutTo l.next ∷ []))) hs (listed holds)
+    pub goal_if_else : (at : ℕ) (is hs js : List Code) (test holds other : Goals)
+        → IsGoalsCode b homes framed (in_test l (suc l.next)) (suc at) is (listed test)
+        → IsGoalsCode b homes framed l (past (suc at) (is ++ (CutTo l.next ∷ []))) hs (listed holds)
         → IsGoalsCode b homes framed l (other_side at ((is ++ (CutTo l.next ∷ [])) ++ hs) js) js (listed other)
-        → IsGoalsCode b homes framed l at (ways (EnterTest l.next (suc l.next) (other_side at ((is ++ (CutTo l.next ∷ [])) ++ hs) js)) at ((is ++ (CutTo l.next ∷ [])) ++ hs) js) (goal.IfElse test holds other ∷ [])
+        → IsGoalsCode b homes framed l at (ways (EnterTest l.next (suc l.next) (other_side at ((is ++ (CutTo l.next ∷ [])) ++ hs) js)) at
+        ((is ++ (CutTo l.next ∷ [])) ++ hs) js) (goal.IfElse test holds other ∷ [])
     goal_if_else at is hs js test holds other f g o = record {
       does = λ s r n depths d hd p later h.
           let q : Places = between_goals n homes depths in
@@ -267,7 +288,8 @@ module _ (b : Base) (homes : List Register) (apart : AreApart homes) (framed : B
             q = q;
             there = in';
             same = λ e. refl;
-            does = does_enter_test b at l.next (suc l.next) to (body ++ (Jump (past (suc (past (suc at) body)) js) ∷ js)) (goal.IfElse test' holds' other') test' (listed holds') (listed other') p q q d later
+            does = does_enter_test b at l.next (suc l.next) to (body ++ (Jump (past (suc (past (suc at) body)) js) ∷ js)) (goal.IfElse test' holds' other')
+                test' (listed holds') (listed other') p q q d later
                 (between_settled n homes depths apart p h) (deepest n depths d hd) (refl, refl, refl)
                 (λ more.
                 let e : Depth = deeper d more in
@@ -279,18 +301,21 @@ module _ (b : Base) (homes : List Register) (apart : AreApart homes) (framed : B
                 (λ more area w x stand z.
                 let e : Depth = deeper d more in
                 let there = other_way b (suc at) body js q q (listed other' ++ later) later last area w x stand z in
-                means_more area w to (drop_level (put_level q l.next e) (suc l.next)) q [] (listed other' ++ later) (other_more n depths d e hd) (subst (λ k. Means area w k q [] (listed other' ++ later)) (sym target) there));
+                means_more area w to (drop_level (put_level q l.next e) (suc l.next)) q [] (listed other' ++ later) (other_more n depths d e hd)
+                (subst (λ k. Means area w k q [] (listed other' ++ later)) (sym target) there));
           };
       flows = λ s r.
           let body : List Code = (is ++ (CutTo l.next ∷ [])) ++ hs in
           flows_ways b at (EnterTest l.next (suc l.next) (other_side at body js)) body js s (enter_effect (other_side at body js) s r) refl refl tt r.owed
           (flows_both b (suc at) (is ++ (CutTo l.next ∷ [])) hs s s s (test_flows (suc l.next) (suc at) is test f s r) (g.flows s r)) (o.flows s r);
-      enters = (let body : List Code = (is ++ (CutTo l.next ∷ [])) ++ hs in first_enters (EnterTest l.next (suc l.next) (other_side at body js)) (body ++ (Jump (past (suc (past (suc at) body)) js) ∷ js)) refl);
+      enters = (let body : List Code = (is ++ (CutTo l.next ∷ [])) ++ hs in
+          first_enters (EnterTest l.next (suc l.next) (other_side at body js)) (body ++ (Jump (past (suc (past (suc at) body)) js) ∷ js)) refl);
     }
 
     -- A negation: where the test holds, the code fails.
     pub goal_not : (at : ℕ) (is : List Code) (test : Goals) → IsGoalsCode b homes framed (in_test l (suc l.next)) (suc at) is (listed test)
-        → IsGoalsCode b homes framed l at (EnterTest l.next (suc l.next) (past (suc at) ((is ++ (CutTo l.next ∷ [])) ++ (Builtin kind.Fail ∷ []))) ∷ ((is ++ (CutTo l.next ∷ [])) ++ (Builtin kind.Fail ∷ []))) (goal.Not test ∷ [])
+        → IsGoalsCode b homes framed l at (EnterTest l.next (suc l.next) (past (suc at) ((is ++ (CutTo l.next ∷ [])) ++ (Builtin kind.Fail ∷ [])))
+        ∷ ((is ++ (CutTo l.next ∷ [])) ++ (Builtin kind.Fail ∷ []))) (goal.Not test ∷ [])
     goal_not at is test f = record {
       does = λ s r n depths d hd p later h.
           let q : Places = between_goals n homes depths in
@@ -302,7 +327,8 @@ module _ (b : Base) (homes : List Register) (apart : AreApart homes) (framed : B
             q = q;
             there = in';
             same = λ e. refl;
-            does = does_enter_test b at l.next (suc l.next) to body (goal.Not test') test' (goal.Fail ∷ []) [] p q q d later (between_settled n homes depths apart p h) (deepest n depths d hd) (refl, refl, refl)
+            does = does_enter_test b at l.next (suc l.next) to body (goal.Not test') test' (goal.Fail ∷ []) [] p q q d later
+                (between_settled n homes depths apart p h) (deepest n depths d hd) (refl, refl, refl)
                 (λ more.
                 let e : Depth = deeper d more in
                 let start : Places = put_level (put_level q l.next e) (suc l.next) (one_deeper e) in

@@ -1,13 +1,13 @@
 -- Variables that stay in argument registers: which homes suit a head, and which suit a goal.
 use Rattle.std.specs.Prelude.{◌≡◌, ◌⊎◌, ℕ, zero, suc, ◌+◌, ◌<◌, ◌≤◌, List, [], ◌∷◌, ◌++◌, Option, Some, None, All, length, slice_set}
 use Rattle.fd_language.specs.Term.{Term, Terms, Var, no_terms, term, term_count}
-use Rattle.machine_relation.specs.Heap.{Of, AllOf}
+use Rattle.branch_meaning.specs.Heap.{Of, AllOf}
 use Rattle.term_pool.specs.declared.TermId.{TermId}
 use Rattle.term_pool.specs.Contents.{Contents}
 use Rattle.term_pool.specs.Terms.{term_of, terms_by, total_size}
 use Rattle.wam_code.specs.declared.instruction.Register.{Register}
 use Rattle.wam_code.specs.declared.instruction.Register.TheVariants.{X}
-use Rattle.clause_code.specs.Simple.{IsOwn}
+use Rattle.clause_code.specs.SimpleGoals.{IsOwn}
 use Rattle.clause_code.specs.Steps.{home}
 
 -- ---- a head

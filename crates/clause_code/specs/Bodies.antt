@@ -10,7 +10,7 @@ use Rattle.wam_code.specs.Area.{State}
 use Rattle.wam_code.specs.Effect.{slot_at, is_level, is_set, has_frame}
 use Rattle.wam_code.specs.Places.{Depth, Places, read, IsWhole}
 use Rattle.clause_code.specs.Pieces.{Base, Does}
-use Rattle.clause_code.specs.Flowing.{Flows, MayEnter}
+use Rattle.clause_code.specs.StateFlow.{Flows, MayEnter}
 use Rattle.clause_code.specs.Steps.{home}
 pub use Rattle.clause_code.specs.declared.levels.Levels.{Levels}
 
@@ -81,6 +81,7 @@ pub record DoesGoals (b : Base) (homes : List Register) (n : ℕ) (depths : ℕ 
 
 -- It is the code of these goals, which runs from a state between goals to the same one.
 pub record IsGoalsCode (b : Base) (homes : List Register) (framed : Bool) (l : Levels) (at : ℕ) (is : List Code) (gs : List Goal) : Type 0 where
-  pub does : (s : State) → IsRest homes framed l s → (n : ℕ) (depths : ℕ → Option Depth) (d : Depth) → HasDepths l depths d → (p : Places) (later : List Goal) → InBody n homes depths p → DoesGoals b homes n depths d at is gs p later
+  pub does : (s : State) → IsRest homes framed l s → (n : ℕ) (depths : ℕ → Option Depth) (d : Depth) → HasDepths l depths d → (p : Places) (later : List Goal)
+      → InBody n homes depths p → DoesGoals b homes n depths d at is gs p later
   pub flows : (s : State) → IsRest homes framed l s → Flows b at is s s
   pub enters : MayEnter is

@@ -4,17 +4,17 @@ use Rattle.fd_language.specs.Term.{Name, Term, Terms}
 use Rattle.fd_language.specs.Unifier.{Equation}
 use Rattle.fd_model.specs.Goal as goal
 use Rattle.fd_model.specs.Goal.{Goal, Goals, listed, Clause}
-use Rattle.machine_relation.specs.Heap.{EquationsOf}
+use Rattle.branch_meaning.specs.Heap.{EquationsOf}
 use Rattle.wam_code.specs.declared.instruction.Code.{Code}
 use Rattle.wam_code.specs.declared.instruction.Code.TheVariants.{Jump, Either}
 use Rattle.wam_code.specs.Area.{Area}
 use Rattle.wam_code.specs.Places.{Places, Has, IsSettled}
-use Rattle.wam_code.specs.Means.{Caller, Means}
+use Rattle.wam_code.specs.CodeMeaning.{Caller, Means}
 use Rattle.wam_code.specs.Tries.{Shape, Tries}
 use Rattle.clause_code.specs.Pieces.{Base, Stand, past, Does}
 use Rattle.clause_code.specs.MoreRegisters.{HasMore}
-use Rattle.clause_code.specs.Splitting.{whole, apart}
-use Rattle.clause_code.specs.Trying.{EachTries, list_of}
+use Rattle.clause_code.specs.NestedStructures.{whole, apart}
+use Rattle.clause_code.specs.ClauseChoices.{EachTries, list_of}
 
 abbrev pub MoreRegisters : Type 0
 MoreRegisters = (area : Area) (w : Caller) (at : ℕ) (p q : Places) (es : List Equation) (gs : List Goal) → HasMore p q → Means area w at q es gs → Means area w at p es gs
@@ -22,11 +22,13 @@ MoreRegisters = (area : Area) (w : Caller) (at : ℕ) (p q : Places) (es : List 
 -- The structure that t is to be has the part u. It may be read with a variable of the code's own for the part, which is equated with it next.
 abbrev pub PartsApart : Type 0
 PartsApart =
-    (b : Base) (at : ℕ) (t : Term) (f : Name) (xs : Terms) (u : Term) (ys : Terms) (later : List Equation) (p : Places) (gs : List Goal) → p.known p.top ≡ false → EquationsOf (Has p) (whole t f xs u ys later)
+    (b : Base) (at : ℕ) (t : Term) (f : Name) (xs : Terms) (u : Term) (ys : Terms) (later : List Equation) (p : Places) (gs : List Goal) → p.known p.top ≡ false
+    → EquationsOf (Has p) (whole t f xs u ys later)
     → Does b at [] p (whole t f xs u ys later) gs (record p { top = suc p.top }) (apart p.top t f xs u ys later) gs
 
 abbrev pub AnyOrder : Type 0
-AnyOrder = (b : Base) (at : ℕ) (es : List Equation) (e : Equation) (ds : List Equation) (p : Places) (gs : List Goal) → EquationsOf (Has p) (es ++ (e ∷ ds)) → Does b at [] p (es ++ (e ∷ ds)) gs p (e ∷ (es ++ ds)) gs
+AnyOrder = (b : Base) (at : ℕ) (es : List Equation) (e : Equation) (ds : List Equation) (p : Places) (gs : List Goal) → EquationsOf (Has p) (es ++ (e ∷ ds))
+    → Does b at [] p (es ++ (e ∷ ds)) gs p (e ∷ (es ++ ds)) gs
 
 -- the place of the code js of B, behind the code is of A and a jump
 abbrev pub other_side : ℕ → List Code → List Code → ℕ

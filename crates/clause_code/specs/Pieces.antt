@@ -10,7 +10,7 @@ use Rattle.wam_code.specs.declared.instruction.Code.{Code}
 use Rattle.wam_code.specs.declared.parts.Entry.{Entry}
 use Rattle.wam_code.specs.Area.{Area, Holds}
 use Rattle.wam_code.specs.Places.{Places}
-use Rattle.wam_code.specs.Means.{Caller, Owed, Means}
+use Rattle.wam_code.specs.CodeMeaning.{Caller, Owed, Means}
 
 -- a predicate, wherever its code is
 pub record Predicate : Type 0 where

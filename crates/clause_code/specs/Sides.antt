@@ -2,7 +2,7 @@
 use Rattle.std.specs.Prelude.{◌≡◌, ◌⊎◌, ℕ, suc, ◌+◌, ◌<◌, ◌≤◌, true, List, [], ◌∷◌, ◌++◌, Some, None, length, slice_set}
 use Rattle.fd_model.specs.Goal as model
 use Rattle.fd_model.specs.Goal.{Goals, no_goals, goal}
-use Rattle.fd_model.specs.Sound.{EachBelow}
+use Rattle.fd_model.specs.RunnablePrograms.{EachBelow}
 use Rattle.clause_check.specs.declared.program.Part.{Part}
 use Rattle.clause_check.specs.declared.program.FlatGoal.{FlatGoal}
 use Rattle.clause_check.specs.declared.program.FlatGoal.TheVariants as flat
@@ -11,12 +11,12 @@ use Rattle.wam_code.specs.declared.instruction.Register.{Register}
 use Rattle.wam_code.specs.declared.instruction.Code.{Code}
 use Rattle.fd_model.specs.declared.kinds.BuiltinKind.TheVariants as kind
 use Rattle.wam_code.specs.declared.instruction.Code.TheVariants.{Jump, Either, Builtin, TestOnly, EnterTest, CutTo}
-use Rattle.clause_code.specs.declared.either.Side.{Side}
-use Rattle.clause_code.specs.declared.either.Side.TheVariants.{Left, Right, Test, Held, Choice, Chosen, Denial}
+use Rattle.clause_code.specs.declared.open_sides.Side.{Side}
+use Rattle.clause_code.specs.declared.open_sides.Side.TheVariants.{Left, Right, Test, Held, Choice, Chosen, Denial}
 use Rattle.clause_code.specs.Pieces.{Base, past}
 use Rattle.clause_code.specs.Bodies.{Levels, in_test, AreFree, IsGoalsCode}
-use Rattle.clause_code.specs.Fitting.{EachFits}
-use Rattle.clause_code.specs.Codable.{EachCodable}
+use Rattle.clause_code.specs.LevelSlots.{EachFits}
+use Rattle.clause_code.specs.CodablePrograms.{EachCodable}
 
 -- ---- one part
 
@@ -121,7 +121,8 @@ pub record IsOther (p : FlatProgram) (b : Base) (homes : List Register) (start :
   pub waits : Waits p b homes start low now (flat.If test holds (Some high.part)) rest
   pub code : IsGoalsCode b homes true (in_test low.levels (suc low.levels.next)) (suc (start + length now)) is (goals_in p test)
   pub way : IsGoalsCode b homes true low.levels (past (suc (start + length now)) (tested_code low.levels is)) hs (goals_in p holds)
-  pub before : high.before ≡ now ++ (EnterTest low.levels.next (suc low.levels.next) (start + (length now + length (tested_code low.levels is ++ hs) + 2)) ∷ ((tested_code low.levels is ++ hs) ++ (Jump 0 ∷ [])))
+  pub before : high.before ≡ now ++ (EnterTest low.levels.next (suc low.levels.next) (start + (length now + length (tested_code low.levels is ++ hs) + 2))
+      ∷ ((tested_code low.levels is ++ hs) ++ (Jump 0 ∷ [])))
   pub levels : high.levels ≡ low.levels
   pub place : jump ≡ length now + suc (length (tested_code low.levels is ++ hs))
 
@@ -159,7 +160,8 @@ pub record Stands (p : FlatProgram) (b : Base) (homes : List Register) (start : 
 
 -- ---- what a goal and the end of a side change
 
--- Behind the first instruction of an A ; B its left side is next, behind that of a test the test, and behind another goal the rest. In a test cuts go to its own slots.
+-- Behind the first instruction of an A ; B its left side is next, behind that of a test the test, and behind another goal the rest. In a test cuts go to its
+-- own slots.
 abbrev pub Enters : FlatGoal → ℕ → Part → Levels → List Side → List Side → Part → Levels → Type 0
 Enters (flat.Either a c) at rest l old new next m = (new ≡ old ++ (Left at c rest ∷ [])) × (next ≡ a) × (m ≡ l)
 Enters (flat.If a c None) at rest l old new next m = (new ≡ old ++ (Test l c rest ∷ [])) × (next ≡ a) × (m ≡ in_test l l.next)
@@ -176,7 +178,8 @@ HasPlace (Chosen at other rest) code = at < length code
 HasPlace (Denial at outer rest) code = at < length code
 HasPlace _ code = Unit {0}
 
--- Behind the left side a jump is written, the choice leads behind it, and the right side is next; behind that the jump leads, and the rest is next. Behind a test its cut is written, and then what follows where it holds; a negation fails there.
+-- Behind the left side a jump is written, the choice leads behind it, and the right side is next; behind that the jump leads, and the rest is next. Behind a
+-- test its cut is written, and then what follows where it holds; a negation fails there.
 abbrev pub Leaves : ℕ → Side → Levels → List Code → List Side → List Code → List Side → Part → Levels → Type 0
 Leaves start (Left either right rest) l old sides new later next m =
     (new ≡ slice_set (old ++ (Jump 0 ∷ [])) either (Either (start + (length old + 1)))) × (later ≡ sides ++ (Right (length old) rest ∷ [])) × (next ≡ right) × (m ≡ l)

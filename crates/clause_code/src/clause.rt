@@ -3,13 +3,13 @@
 ghost use Rattle.std.specs.Prelude.{◌≡◌, ◌<◌, ◌≤◌, ◌+◌, ◌-◌, [], length, map, IfOk, IfSome, OnOk};
 ghost use Rattle.clause_check.specs.declared.program.FlatGoal.TheVariants.{Call};
 ghost use Rattle.clause_check.specs.Programs.{IsPart, goal_at, clause_at, clause_in, program_in};
-ghost use Rattle.clause_code.specs.Codable.{IsCodable};
-ghost use Rattle.clause_code.specs.Fitting.{each_need, AreNeeds};
+ghost use Rattle.clause_code.specs.CodablePrograms.{IsCodable};
+ghost use Rattle.clause_code.specs.LevelSlots.{each_need, AreNeeds};
 ghost use Rattle.clause_code.specs.Predicates.{ArePredicates, Appends, base_in};
-ghost use Rattle.clause_code.specs.Safe.{IsClauseCode};
-ghost use Rattle.clause_code.specs.Whole.{levels_behind, unmade, InOrder};
+ghost use Rattle.clause_code.specs.SafeCode.{IsClauseCode};
+ghost use Rattle.clause_code.specs.ClauseParts.{levels_behind, unmade, InOrder};
 
-use crate::frameless::{Body, body_of, compile_short};
+use crate::frameless_clauses::{Body, body_of, compile_short};
 use crate::goals::{execute, write_goals};
 use crate::heads::write_head;
 use crate::levels::Levels;

@@ -1,24 +1,24 @@
 //! The code of goals.
 
 ghost use Rattle.std.specs.Prelude.{◌≡◌, ◌+◌, ◌<◌, ◌≤◌, true, [], ◌++◌, length, map, All, OnOk};
-ghost use Rattle.fd_model.specs.Sound.{EachBelow};
+ghost use Rattle.fd_model.specs.RunnablePrograms.{EachBelow};
 ghost use Rattle.fd_language.specs.Term.{term};
-ghost use Rattle.fd_model.specs.Constraining.{arguments};
+ghost use Rattle.fd_model.specs.ConstraintExpansion.{arguments};
 ghost use Rattle.range_code.specs.Slots.{slots_of};
 ghost use Rattle.term_pool.specs.Terms.{term_of, terms_by};
 ghost use Rattle.clause_check.specs.Programs.{goals_in, range_at};
 ghost use Rattle.wam_code.specs.declared.instruction.Code.TheVariants.{PostRange};
 ghost use Rattle.clause_code.specs.Bodies.{AreFree, IsGoalsCode};
-ghost use Rattle.clause_code.specs.Codable.{EachCodable};
-ghost use Rattle.clause_code.specs.Fitting.{EachFits};
+ghost use Rattle.clause_code.specs.CodablePrograms.{EachCodable};
+ghost use Rattle.clause_code.specs.LevelSlots.{EachFits};
 ghost use Rattle.clause_code.specs.Predicates.{Appends, base_in};
-ghost use Rattle.clause_code.specs.Simple.{variables, loads, AreMade, CallWritten, GoalWritten, IsOwn, IsWritable};
+ghost use Rattle.clause_code.specs.SimpleGoals.{variables, loads, AreMade, CallWritten, GoalWritten, IsOwn, IsWritable};
 ghost use Rattle.clause_code.specs.Steps.{puts, AllSuit};
-ghost use Rattle.clause_code.specs.Whole.{AreSlots, Executes};
-ghost use Rattle.clause_code.specs.Works.{Writes};
+ghost use Rattle.clause_code.specs.ClauseParts.{AreSlots, Executes};
+ghost use Rattle.clause_code.specs.BuildStack.{Writes};
 
-use crate::either::{Next, enter, leave};
 use crate::levels::Levels;
+use crate::open_sides::{Next, enter, leave};
 use crate::predicates::Predicates;
 use crate::terms::{Work, put, put_all, put_variable};
 use clause_check::{FlatGoal, Part, Program};

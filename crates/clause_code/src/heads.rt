@@ -1,12 +1,12 @@
 //! The heads of clauses.
 
 ghost use Rattle.std.specs.Prelude.{◌≡◌, suc, ◌<◌, ◌≤◌, [], ◌++◌, length, All, OnOk};
-ghost use Rattle.fd_model.specs.Constraining.{arguments};
+ghost use Rattle.fd_model.specs.ConstraintExpansion.{arguments};
 ghost use Rattle.term_pool.specs.Terms.{term_of, terms_by};
 ghost use Rattle.fd_language.specs.Term.{term_count};
-ghost use Rattle.clause_code.specs.Simple.{AreMade, IsOwn};
+ghost use Rattle.clause_code.specs.SimpleGoals.{AreMade, IsOwn};
 ghost use Rattle.clause_code.specs.Steps.{AllSuit};
-ghost use Rattle.clause_code.specs.Whole.{begin_code, head_code, levels_code, unmade};
+ghost use Rattle.clause_code.specs.ClauseParts.{begin_code, head_code, levels_code, unmade};
 
 use crate::levels::Levels;
 use crate::terms::{Work, fill_all, get_all};

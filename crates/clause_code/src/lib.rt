@@ -1,17 +1,17 @@
 //! The code of a clause and of a query, and the laws of pieces of code from which it is proved.
 #![tactic(auto)]
 
+mod argument_homes;
 mod clause;
-mod either;
-mod frameless;
+mod frameless_clauses;
 mod goals;
 mod heads;
 pub mod laws;
 mod levels;
 mod needs;
+mod open_sides;
 mod predicates;
 mod query;
-mod staying;
 mod terms;
 
 pub use crate::clause::compile_clause;

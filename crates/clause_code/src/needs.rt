@@ -2,8 +2,8 @@
 
 ghost use Rattle.std.specs.Prelude.{◌≡◌, ◌-◌, ◌+◌, ◌<◌, ◌≤◌, length, max, IfOk, suc, ◌^◌, MatchResult};
 ghost use Rattle.clause_check.specs.Programs.{goal_at, goal_in, goals_in, IsGoal};
-ghost use Rattle.clause_code.specs.Fitting.{need, each_need, AreNeeds};
-ghost use Rattle.clause_code.specs.Whole.{levels_behind};
+ghost use Rattle.clause_code.specs.LevelSlots.{need, each_need, AreNeeds};
+ghost use Rattle.clause_code.specs.ClauseParts.{levels_behind};
 
 use crate::levels::Levels;
 use clause_check::{FlatGoal, Part, Program};

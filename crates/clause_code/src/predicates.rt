@@ -3,7 +3,7 @@
 ghost use Rattle.std.specs.Prelude.{◌≡◌, ◌+◌, ◌<◌, ℕ, Some, length, slice_get, IfOk, IfSome, IfNone, OnOk};
 ghost use Rattle.term_pool.specs.Terms.{term_of};
 ghost use Rattle.clause_check.specs.Programs.{program_in};
-ghost use Rattle.clause_code.specs.Codable.{IsCodable};
+ghost use Rattle.clause_code.specs.CodablePrograms.{IsCodable};
 ghost use Rattle.clause_code.specs.Pieces.{Predicate};
 ghost use Rattle.clause_code.specs.Predicates.{ArePredicates, IsNumberOf, HasFunctor, Gathers, Gathered, predicate_at};
 

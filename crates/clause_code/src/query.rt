@@ -3,12 +3,12 @@
 ghost use Rattle.std.specs.Prelude.{◌≡◌, ℕ, ◌<◌, ◌+◌, [], length, map, All, IfOk, OnOk, suc, ◌^◌, ◌≤◌, OnErr};
 ghost use Rattle.clause_check.specs.Programs.{query_at, query_in, program_in};
 ghost use Rattle.wam_code.specs.declared.instruction.Register.TheVariants.{Y};
-ghost use Rattle.clause_code.specs.Codable.{AreOnce, IsCodable};
-ghost use Rattle.clause_code.specs.Fitting.{each_need, AreNeeds};
+ghost use Rattle.clause_code.specs.CodablePrograms.{AreOnce, IsCodable};
+ghost use Rattle.clause_code.specs.LevelSlots.{each_need, AreNeeds};
 ghost use Rattle.clause_code.specs.Predicates.{ArePredicates, Appends, base_in};
-ghost use Rattle.clause_code.specs.Safe.{IsQueryPiece};
+ghost use Rattle.clause_code.specs.SafeCode.{IsQueryPiece};
 ghost use Rattle.clause_code.specs.Slots.{AreAll, AreGiven, AreShown, IsFrame, slot};
-ghost use Rattle.clause_code.specs.Whole.{levels_behind, unmade};
+ghost use Rattle.clause_code.specs.ClauseParts.{levels_behind, unmade};
 
 use crate::goals::write_goals;
 use crate::heads::{read_arguments, write_levels};
@@ -25,7 +25,7 @@ use wam_code::{Code, Register};
 
 /// The slots of a frame, one for each variable, and how many there are.
 #[derive(Drop)]
-struct Frame {
+struct QuerySlots {
     homes: Vec<Register>,
     slots: usize,
 }
@@ -86,7 +86,7 @@ fn homes_of(alloc: Global, slots: &[usize]) -> Result<Vec<Register>, NoMemory>
 }
 
 /// The frame of a query: the shown variables are in its first slots, in their order.
-fn frame_of(alloc: Global, variables: usize, shown: &[u64]) -> Result<Frame, NoMemory>
+fn frame_of(alloc: Global, variables: usize, shown: &[u64]) -> Result<QuerySlots, NoMemory>
     requires below { All (λ x. x < variables) shown.now }
     requires once { AreOnce shown.now }
     ensures { IfOk result (λ f. IsFrame variables shown.now f.homes.items f.slots) }
@@ -94,7 +94,7 @@ fn frame_of(alloc: Global, variables: usize, shown: &[u64]) -> Result<Frame, NoM
     let mut slots = shown_slots(alloc, variables, shown)?;
     let behind = give_others(&mut slots, shown.len() + 1)?;
     let homes = homes_of(alloc, &slots)?;
-    Ok(Frame {
+    Ok(QuerySlots {
         homes,
         slots: behind - 1,
     })

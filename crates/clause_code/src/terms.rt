@@ -4,10 +4,10 @@ ghost use Rattle.std.specs.Prelude.{◌≡◌, ◌+◌, ◌<◌, ◌≤◌, [], 
 ghost use Rattle.fd_language.specs.Term.{Comp};
 ghost use Rattle.term_pool.specs.Contents.{atom_name};
 ghost use Rattle.term_pool.specs.Terms.{term_of, terms_by};
-ghost use Rattle.term_pool.specs.Valid.{IsPool};
+ghost use Rattle.term_pool.specs.PoolInvariant.{IsPool};
 ghost use Rattle.clause_code.specs.declared.terms.Work.TheVariants.{Read};
 ghost use Rattle.clause_code.specs.Steps.{get_variable, unify_variable, put_variable, is_made, marked, is_register, inner_code, behind as behind_term, compounds, part, parts, put, puts, get, gets, filled, fill, fills, Suits, AllSuit};
-ghost use Rattle.clause_code.specs.Works.{Writes, closing, opening, stack_steps, work_of, IsWork, Pushes, Opens, Turns, read_or_build};
+ghost use Rattle.clause_code.specs.BuildStack.{Writes, closing, opening, stack_steps, work_of, IsWork, Pushes, Opens, Turns, read_or_build};
 
 use fd_language::NoMemory;
 use term_pool::{AtomId, Node, Pool, TermId};
@@ -150,7 +150,7 @@ fn unify_inner(read: bool, register: usize) -> Code
 }
 
 /// An argument of a structure. A compound one is in the register, or gets it where the structure is read.
-#[tactic(auto, using(crate::proofs::Writing::atom_known))]
+#[tactic(auto, using(crate::proofs::WrittenSteps::atom_known))]
 fn unify_part(
     pool: &Pool,
     homes: &[Register],
@@ -417,7 +417,7 @@ fn work_all(
 }
 
 /// A goal's argument, into the register.
-#[tactic(auto, using(crate::proofs::Writing::atom_known))]
+#[tactic(auto, using(crate::proofs::WrittenSteps::atom_known))]
 pub(crate) fn put(
     pool: &Pool,
     homes: &[Register],
@@ -449,7 +449,7 @@ pub(crate) fn put(
 }
 
 /// A head's argument, which is in the register.
-#[tactic(auto, using(crate::proofs::Writing::atom_known))]
+#[tactic(auto, using(crate::proofs::WrittenSteps::atom_known))]
 fn get(
     pool: &Pool,
     homes: &[Register],

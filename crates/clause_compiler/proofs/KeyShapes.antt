@@ -2,11 +2,11 @@
 use Rattle.std.proofs.Common.{◌≡◌, ℕ, ℤ, Bool, true, false, leb, if◌then◌else◌, [], ◌∷◌, length, Option, Some, None, refl, sym, ◌∙◌, subst}
 use Rattle.clause_compiler.proofs.Lists.{no}
 use Rattle.fd_language.specs.Term.{Name}
-use Rattle.fd_model.specs.Constraining.{arguments}
+use Rattle.fd_model.specs.ConstraintExpansion.{arguments}
 use Rattle.term_pool.specs.declared.TermId.{TermId}
 use Rattle.term_pool.specs.Contents.{Contents, Shape, var, int, atom, comp, shape_at}
 use Rattle.term_pool.specs.Terms.{shape_term}
-use Rattle.term_pool.specs.Valid.{IsPool}
+use Rattle.term_pool.specs.PoolInvariant.{IsPool}
 use Rattle.term_pool.proofs.Lemmas.{term_of_shape}
 use Rattle.wam_code.specs.declared.instruction.Key.{Key}
 use Rattle.wam_code.specs.declared.instruction.Key.TheVariants as key
@@ -42,7 +42,8 @@ module _ (c : Contents) where
       by false h = no h
 
 -- A clause clashes by the key of its first argument, where each term with a key that fails the test does.
-module _ (c : Contents) (v : IsPool c) (s : tries.Shape) (test : Option Key → Bool) (none : test None ≡ true) (clash : (t : TermId) (r : Shape) → shape_at c t ≡ Some r → test (shape_key r) ≡ false → Clash s (shape_term c r)) where
+module _ (c : Contents) (v : IsPool c) (s : tries.Shape) (test : Option Key → Bool) (none : test None ≡ true) (clash : (t : TermId) (r : Shape)
+    → shape_at c t ≡ Some r → test (shape_key r) ≡ false → Clash s (shape_term c r)) where
   pub first_clash : (r : Shape) → test (argument_key c (Some r)) ≡ false → ClashFirst s (arguments (shape_term c r))
   first_clash (var x) e = no (sym none ∙ e)
   first_clash (int z) e = no (sym none ∙ e)

@@ -8,7 +8,7 @@ use Rattle.wam_code.specs.declared.instruction.Code.TheVariants.{Jump, FailNow, 
 use Rattle.wam_code.specs.Area.{Area, Holds}
 use Rattle.wam_code.specs.VerifiedCode.{named, is_before, is_behind, IsThere}
 use Rattle.clause_code.specs.Pieces.{Stand}
-use Rattle.clause_code.specs.Trying.{rest_of_list, list_of}
+use Rattle.clause_code.specs.ClauseChoices.{rest_of_list, list_of}
 use Rattle.clause_compiler.specs.Layout.{is_switch, is_listing, is_first, Passes, AreChoicesOf}
 
 pub only_one : (is : Code) (n : ℕ) (i : Code) → slice_get (is ∷ []) n ≡ Some i → (n ≡ 0) × (is ≡ i)
@@ -118,5 +118,8 @@ each_of P f (n ∷ ns) h = (h 0 n refl, each_of P f ns (λ k. h (suc k)))
 -- Code whose instructions are each at their places.
 pub stand_at : (a : Area) (at : ℕ) (is : List Code) → ((n : ℕ) (i : Code) → slice_get is n ≡ Some i → Holds a (at + n) i) → Stand a at is
 stand_at a at [] h = tt
-stand_at a at (i ∷ is) h =
-    (subst (λ o. Holds a o i) (let e : at + 0 ≡ at = omega arith in e) (h 0 i refl), stand_at a (suc at) is (λ n j e. subst (λ o. Holds a o j) (let g : at + suc n ≡ suc at + n = omega arith in g) (h (suc n) j e)))
+stand_at a at (i ∷ is) h = (
+  subst (λ o. Holds a o i) (let e : at + 0 ≡ at = omega arith in
+      e) (h 0 i refl),
+  stand_at a (suc at) is (λ n j e. subst (λ o. Holds a o j) (let g : at + suc n ≡ suc at + n = omega arith in g) (h (suc n) j e)),
+)

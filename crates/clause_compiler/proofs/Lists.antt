@@ -1,5 +1,6 @@
 -- Lists, one behind the other.
-use Rattle.std.proofs.Common.{◌≡◌, ◌⊎◌, ℕ, zero, suc, ◌+◌, ◌<◌, ◌≤◌, true, false, List, [], ◌∷◌, ◌++◌, map, Some, length, slice_get, refl, ap, sym, ◌∙◌, subst, inl, inr, arith}
+use Rattle.std.proofs.Common.{◌≡◌, ◌⊎◌, ℕ, zero, suc, ◌+◌, ◌<◌, ◌≤◌, true, false, List, [], ◌∷◌, ◌++◌, map, Some, length, slice_get, refl, ap, sym, ◌∙◌, subst}
+use Rattle.std.proofs.Common.{inl, inr, arith}
 use Rattle.std.proofs.lemmas.List.{length-append, map-append}
 use Rattle.std.proofs.lemmas.Bool.{true≢false}
 use Rattle.std.specs.List.Sorted.{IsPermutation}
@@ -58,7 +59,8 @@ module _ {X : Type 0} where
       let g : slice_get zs n ≡ Some x = subst (λ l. slice_get l n ≡ Some x) (sym same) f in
       ap (slice_get (zs ++ joined xss)) (let h : 0 + n ≡ n = omega arith in h) ∙ get_left zs (joined xss) n x g
   get_joined (zs ∷ xss) (suc k) n xs x e f =
-      ap (slice_get (zs ++ joined xss)) (let h : (length zs + offset xss k) + n ≡ length zs + (offset xss k + n) = omega arith in h) ∙ get_right zs (joined xss) (offset xss k + n) ∙ get_joined xss k n xs x e f
+      ap (slice_get (zs ++ joined xss)) (let h : (length zs + offset xss k) + n ≡ length zs + (offset xss k + n) = omega arith in
+      h) ∙ get_right zs (joined xss) (offset xss k + n) ∙ get_joined xss k n xs x e f
 
   -- where an element of all of them is
   pub record Found (xss : List (List X)) (n : ℕ) (x : X) : Type 0 where
@@ -73,7 +75,8 @@ module _ {X : Type 0} where
   find_joined [] n x e = absurd cc
   find_joined (zs ∷ xss) n x e = by (split_get zs (joined xss) n x e) (find_joined xss)
     where
-      by : (slice_get zs n ≡ Some x) ⊎ ((m : ℕ) × (n ≡ length zs + m) × (slice_get (joined xss) m ≡ Some x)) → ((m : ℕ) (y : X) → slice_get (joined xss) m ≡ Some y → Found xss m y) → Found (zs ∷ xss) n x
+      by : (slice_get zs n ≡ Some x) ⊎ ((m : ℕ) × (n ≡ length zs + m) × (slice_get (joined xss) m ≡ Some x))
+          → ((m : ℕ) (y : X) → slice_get (joined xss) m ≡ Some y → Found xss m y) → Found (zs ∷ xss) n x
       by (inl f) rest = record { list = zero; index = n; elements = zs; at_list = refl; at_index = f; sum = omega arith }
       by (inr f) rest =
           let g = rest f.0 x f.2 in
@@ -91,7 +94,8 @@ module _ {X : Type 0} where
   offset_order (zs ∷ xss) (suc k) (suc l) xs h e b = let r = offset_order xss k l xs (omega (arith, h)) e (omega (arith, b)) in omega (arith, r)
 
   -- The lists have no place in common.
-  pub one_list : (xss : List (List X)) (k l m n : ℕ) (xs ys : List X) → slice_get xss k ≡ Some xs → slice_get xss l ≡ Some ys → m < length xs → n < length ys → offset xss k + m ≡ offset xss l + n → k ≡ l
+  pub one_list : (xss : List (List X)) (k l m n : ℕ) (xs ys : List X) → slice_get xss k ≡ Some xs → slice_get xss l ≡ Some ys → m < length xs → n < length ys
+      → offset xss k + m ≡ offset xss l + n → k ≡ l
   one_list xss k l m n xs ys e f g h same =
       let less : k < l → ⊥ = λ o. let w = offset_order xss k l xs o e (let b = slice_get_within xss l ys f in omega (arith, b)) in omega (arith, w, g, same) in
       let more : l < k → ⊥ = λ o. let w = offset_order xss l k ys o f (let b = slice_get_within xss k xs e in omega (arith, b)) in omega (arith, w, h, same) in
@@ -99,14 +103,18 @@ module _ {X : Type 0} where
 
 module _ {X Y : Type 0} where
   -- Lists of the same lengths begin at the same places.
-  pub same_offset : (xss : List (List X)) (yss : List (List Y)) → length yss ≡ length xss → ((k : ℕ) (xs : List X) (ys : List Y) → slice_get xss k ≡ Some xs → slice_get yss k ≡ Some ys → length ys ≡ length xs) → (k : ℕ) → offset yss k ≡ offset xss k
+  pub same_offset : (xss : List (List X)) (yss : List (List Y)) → length yss ≡ length xss
+      → ((k : ℕ) (xs : List X) (ys : List Y) → slice_get xss k ≡ Some xs → slice_get yss k ≡ Some ys → length ys ≡ length xs) → (k : ℕ)
+      → offset yss k ≡ offset xss k
   same_offset [] [] e h k = refl
   same_offset [] (ys ∷ yss) e h k = absurd (omega (arith, e))
   same_offset (xs ∷ xss) [] e h k = absurd (omega (arith, e))
   same_offset (xs ∷ xss) (ys ∷ yss) e h zero = refl
   same_offset (xs ∷ xss) (ys ∷ yss) e h (suc k) = let one = h 0 xs ys refl refl in let rest = same_offset xss yss (omega (arith, e)) (λ n. h (suc n)) k in omega (arith, one, rest)
 
-  pub same_length : (xss : List (List X)) (yss : List (List Y)) → length yss ≡ length xss → ((k : ℕ) (xs : List X) (ys : List Y) → slice_get xss k ≡ Some xs → slice_get yss k ≡ Some ys → length ys ≡ length xs) → length (joined yss) ≡ length (joined xss)
+  pub same_length : (xss : List (List X)) (yss : List (List Y)) → length yss ≡ length xss
+      → ((k : ℕ) (xs : List X) (ys : List Y) → slice_get xss k ≡ Some xs → slice_get yss k ≡ Some ys → length ys ≡ length xs)
+      → length (joined yss) ≡ length (joined xss)
   same_length [] [] e h = refl
   same_length [] (ys ∷ yss) e h = absurd (omega (arith, e))
   same_length (xs ∷ xss) [] e h = absurd (omega (arith, e))

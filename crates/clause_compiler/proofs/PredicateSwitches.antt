@@ -1,5 +1,6 @@
 -- Which clauses the first argument tells apart.
-use Rattle.std.proofs.Common.{◌≡◌, ◌≢◌, ℕ, zero, suc, ◌<◌, ◌≤◌, Bool, true, ◌&&◌, leb, if◌then◌else◌, List, [], ◌∷◌, Some, None, is_some, option_map, length, slice_get, refl, ap, ap₂, sym, ◌∙◌, subst, arith}
+use Rattle.std.proofs.Common.{◌≡◌, ◌≢◌, ℕ, zero, suc, ◌<◌, ◌≤◌, Bool, true, ◌&&◌, leb, if◌then◌else◌, List, [], ◌∷◌, Some, None, is_some, option_map, length}
+use Rattle.std.proofs.Common.{slice_get, refl, ap, ap₂, sym, ◌∙◌, subst, arith}
 use Rattle.std.specs.List.{list_any, list_all}
 use Rattle.std.proofs.lemmas.Bool.{and_parts}
 use Rattle.std.proofs.lemmas.Bool.Decides.{nat_tests}
@@ -7,11 +8,11 @@ use Rattle.std.proofs.lemmas.Slice.Eq.{bytes_eq-Decides}
 use Rattle.fd_language.specs.Term.{Name, Term, Terms, no_terms, term, term_count}
 use Rattle.fd_model.specs.Goal.{Clause}
 use Rattle.fd_model.specs.Children.{same_count, fits_head}
-use Rattle.fd_model.specs.Constraining.{arguments}
+use Rattle.fd_model.specs.ConstraintExpansion.{arguments}
 use Rattle.term_pool.specs.declared.TermId.{TermId}
 use Rattle.term_pool.specs.Contents.{Contents, Entry, Shape, var, int, atom, comp, shape_at}
 use Rattle.term_pool.specs.Terms.{term_of, terms_by, shape_term}
-use Rattle.term_pool.specs.Valid.{IsPool}
+use Rattle.term_pool.specs.PoolInvariant.{IsPool}
 use Rattle.term_pool.proofs.Lemmas.{term_of_shape, shape_within}
 use Rattle.clause_check.specs.Codable.{IsNarrow, ClausesCodable}
 use Rattle.clause_check.specs.Programs.{FlatProgram}
@@ -87,7 +88,8 @@ module _ (c : Contents) (v : IsPool c) where
       ap (λ (b : Bool). is_some (if b then Some (key.Struct f (length us)) else None)) fits
 
   -- A first argument that is no variable has a key.
-  pub shown_key : (h : TermId) → h.number < length c.entries → (r : Shape) → shape_at c h ≡ Some r → IsNarrow (shape_term c r) → ShowsKind (arguments (shape_term c r)) → is_some (argument_key c (Some r)) ≡ true
+  pub shown_key : (h : TermId) → h.number < length c.entries → (r : Shape) → shape_at c h ≡ Some r → IsNarrow (shape_term c r)
+      → ShowsKind (arguments (shape_term c r)) → is_some (argument_key c (Some r)) ≡ true
   shown_key h inside (var x) at narrow shown = absurd shown
   shown_key h inside (int z) at narrow shown = absurd shown
   shown_key h inside (atom a) at narrow shown = absurd shown

@@ -8,9 +8,9 @@ use Rattle.wam_code.specs.Area.{Area, Span, HasQuery}
 use Rattle.wam_code.specs.VerifiedCode.{named, goes_on, Names, Falls, IsIn}
 use Rattle.clause_compiler.specs.Layout.{joined, offset, is_first, IsSpanOf, Passes, IsLaidOut, BeginsClause}
 use Rattle.clause_compiler.proofs.Lists.{get_there, offset_within, one_list, same_some}
-use Rattle.clause_compiler.proofs.Placing.{piece_some, piece_names, piece_falls}
+use Rattle.clause_compiler.proofs.SafePieces.{piece_some, piece_names, piece_falls}
 use Rattle.clause_compiler.proofs.Sorts.{listing_falls}
-use Rattle.clause_compiler.proofs.Spots.{from_clauses, from_queries, code_long, InChoice, InClause, InQuery, locate}
+use Rattle.clause_compiler.proofs.CodePlaces.{from_clauses, from_queries, code_long, InChoice, InClause, InQuery, locate}
 
 module _ (a : Area) (prog : Program) (l : IsLaidOut a prog) where
   -- ---- queries

@@ -1,5 +1,6 @@
 -- Rows of a table: the first one whose key is a shape, and the terms that clash with it.
-use Rattle.std.proofs.Common.{◌≡◌, ◌⊎◌, ℕ, zero, suc, ◌<◌, Bool, true, false, not, ◌||◌, ◌==◌, leb, if◌then◌else◌, IsTrue, List, [], ◌∷◌, option_map, Option, Some, None, length, slice_get, refl, ap, ap₂, sym, ◌∙◌, subst, inl, inr}
+use Rattle.std.proofs.Common.{◌≡◌, ◌⊎◌, ℕ, zero, suc, ◌<◌, Bool, true, false, not, ◌||◌, ◌==◌, leb, if◌then◌else◌, IsTrue, List, [], ◌∷◌, option_map, Option}
+use Rattle.std.proofs.Common.{Some, None, length, slice_get, refl, ap, ap₂, sym, ◌∙◌, subst, inl, inr}
 use Rattle.std.proofs.lemmas.Bool.{eqb-true, cases_eq, not-false}
 use Rattle.fd_language.proofs.Lemmas.{decide_name, decide_int}
 use Rattle.clause_compiler.proofs.Lists.{never, no}
@@ -8,7 +9,7 @@ use Rattle.fd_model.specs.Goal.{Clause}
 use Rattle.term_pool.specs.declared.TermId.{TermId}
 use Rattle.term_pool.specs.Contents.{Entry, Shape, var, int, atom, comp, shape_at}
 use Rattle.term_pool.specs.Terms.{term_of, shape_term}
-use Rattle.term_pool.specs.Valid.{IsPool, IsWithin}
+use Rattle.term_pool.specs.PoolInvariant.{IsPool, IsWithin}
 use Rattle.wam_code.specs.declared.instruction.Key.{Key}
 use Rattle.wam_code.specs.declared.instruction.Key.TheVariants as key
 use Rattle.wam_code.specs.Area.{Area, Table, name_of}
@@ -18,7 +19,7 @@ use Rattle.wam_code.specs.Tries.{Clash, IsShape, Rows}
 use Rattle.clause_code.proofs.Lemmas.{count_terms}
 use Rattle.clause_compiler.specs.Keys.{shape_key, some_key, term_key, argument_key}
 use Rattle.clause_compiler.specs.ClauseKeys.{same_key, may_have}
-use Rattle.clause_compiler.proofs.Keying.{same_means, same_itself}
+use Rattle.clause_compiler.proofs.ClauseKeys.{same_means, same_itself}
 
 -- ---- where a table leads
 
@@ -27,7 +28,8 @@ pub row_of : (table : Table) (to : ℕ) → IsTrue (has (arms table) to) → (r 
 row_of [] to h = never h
 row_of ((x, n) ∷ rows) to h = by (n == to) refl h (row_of rows to)
   where
-    by : (b : Bool) → (n == to) ≡ b → (b || has (arms rows) to) ≡ true → (IsTrue (has (arms rows) to) → (r : ℕ) × (y : Key) × (slice_get rows r ≡ Some (y, to))) → (r : ℕ) × (y : Key) × (slice_get ((x, n) ∷ rows) r ≡ Some (y, to))
+    by : (b : Bool) → (n == to) ≡ b → (b || has (arms rows) to) ≡ true → (IsTrue (has (arms rows) to) → (r : ℕ) × (y : Key) × (slice_get rows r ≡ Some (y, to)))
+        → (r : ℕ) × (y : Key) × (slice_get ((x, n) ∷ rows) r ≡ Some (y, to))
     by true e g rest = (0, x, ap (λ m. Some (x, m)) (eqb-true n to e))
     by false e g rest = let w = rest g in (suc w.0, w.1, w.2)
 
@@ -79,7 +81,8 @@ module _ (a : Area) where
     first_row [] = inr (record { none = λ r x to e. absurd cc; rows = refl })
     first_row ((x, to) ∷ rows) = by (is_shape x s) (first_row rows)
       where
-        not_here : (IsShape a x s → ⊥) → ((r : ℕ) (y : Key) (n : ℕ) → slice_get rows r ≡ Some (y, n) → IsShape a y s → ⊥) → (r : ℕ) (y : Key) (n : ℕ) → slice_get ((x, to) ∷ rows) r ≡ Some (y, n) → IsShape a y s → ⊥
+        not_here : (IsShape a x s → ⊥) → ((r : ℕ) (y : Key) (n : ℕ) → slice_get rows r ≡ Some (y, n) → IsShape a y s → ⊥) → (r : ℕ) (y : Key) (n : ℕ)
+            → slice_get ((x, to) ∷ rows) r ≡ Some (y, n) → IsShape a y s → ⊥
         not_here h g zero y n e f = let pair : ◌≡◌ {A = Key × ℕ} (x, to) (y, n) = cc in let same : x ≡ y = ap (λ z. z.0) pair in h (subst (λ k. IsShape a k s) (sym same) f)
         not_here h g (suc r) y n e f = g r y n e f
 

@@ -1,5 +1,6 @@
 -- Segments are safe as the choices of a predicate.
-use Rattle.std.proofs.Common.{◌≡◌, ◌⊎◌, ℕ, suc, ◌+◌, ◌<◌, ◌≤◌, IsTrue, List, [], ◌∷◌, map, option_map, Some, length, slice_get, refl, ap, sym, ◌∙◌, subst, inl, inr, arith}
+use Rattle.std.proofs.Common.{◌≡◌, ◌⊎◌, ℕ, suc, ◌+◌, ◌<◌, ◌≤◌, IsTrue, List, [], ◌∷◌, map, option_map, Some, length, slice_get, refl, ap, sym, ◌∙◌, subst, inl}
+use Rattle.std.proofs.Common.{inr, arith}
 use Rattle.std.proofs.lemmas.List.{length-map}
 use Rattle.std.proofs.lemmas.Option.{slice_get-map}
 use Rattle.fd_language.specs.Family.{has}
@@ -8,7 +9,7 @@ use Rattle.wam_code.specs.declared.instruction.Code.TheVariants.{SwitchOnTerm, S
 use Rattle.wam_code.specs.Area.{Area}
 use Rattle.wam_code.specs.VerifiedCode.{named, is_before, is_behind, IsThere}
 use Rattle.clause_compiler.specs.Layout.{offset, is_switch, is_listing, is_first, Passes, AreChoicesOf}
-use Rattle.clause_compiler.specs.Switching.{Segment, listing, switch, segment_code, code_of, place_of}
+use Rattle.clause_compiler.specs.Switches.{Segment, listing, switch, segment_code, code_of, place_of}
 use Rattle.clause_compiler.proofs.Lists.{get_there, get_joined, find_joined, offset_order, got_map, never}
 use Rattle.clause_compiler.proofs.Listing.{Each, only_one, list_listed, list_first, list_next, list_previous, not_switch}
 
@@ -57,7 +58,8 @@ code_at : (ss : List Segment) (k : ℕ) (s : Segment) → slice_get ss k ≡ Som
 code_at ss k s e = slice_get-map segment_code ss k ∙ ap (λ o. option_map segment_code o) e
 
 -- An instruction of a segment is one of them all.
-pub from_segment : (ss : List Segment) (k : ℕ) (s : Segment) (j : ℕ) (i : Code) → slice_get ss k ≡ Some s → slice_get (segment_code s) j ≡ Some i → slice_get (code_of ss) (offset (map segment_code ss) k + j) ≡ Some i
+pub from_segment : (ss : List Segment) (k : ℕ) (s : Segment) (j : ℕ) (i : Code) → slice_get ss k ≡ Some s → slice_get (segment_code s) j ≡ Some i
+    → slice_get (code_of ss) (offset (map segment_code ss) k + j) ≡ Some i
 from_segment ss k s j i e f = get_joined (map segment_code ss) k j (segment_code s) i (code_at ss k s e) f
 
 -- Lists of places where clauses begin, and switches that lead ahead to them.
@@ -87,7 +89,8 @@ module _ (a : Area) (begins : ℕ → Type 0) (at arity : ℕ) (ss : List Segmen
       let f = first_of k s e in
       (f.0, subst (λ n. slice_get (code_of ss) n ≡ Some f.0) (let z : offset (map segment_code ss) k + 0 ≡ offset (map segment_code ss) k = omega arith in z) (from_segment ss k s 0 f.0 e f.1), f.2)
 
-  leads_on : (n k j : ℕ) (s : Segment) (i : Code) (to : ℕ) → n ≡ offset (map segment_code ss) k + j → slice_get ss k ≡ Some s → slice_get (segment_code s) j ≡ Some i → IsTrue (has (named a i) to) → begins to ⊎ ((m : ℕ) × (to ≡ at + m) × (n < m) × Passes (code_of ss) is_first m)
+  leads_on : (n k j : ℕ) (s : Segment) (i : Code) (to : ℕ) → n ≡ offset (map segment_code ss) k + j → slice_get ss k ≡ Some s
+      → slice_get (segment_code s) j ≡ Some i → IsTrue (has (named a i) to) → begins to ⊎ ((m : ℕ) × (to ≡ at + m) × (n < m) × Passes (code_of ss) is_first m)
   leads_on n k j (listing ls) i to sum e f h = inl ((list_listed a begins ls (w.listings k ls e) j i f).leads to h)
   leads_on n k j (switch x) i to sum e f h =
       let one = only_one x j i f in
@@ -99,13 +102,15 @@ module _ (a : Area) (begins : ℕ → Type 0) (at arity : ℕ) (ss : List Segmen
       let s = get_there ss g.0 inside in
       inr (offset (map segment_code ss) g.0, g.3, omega (arith, sum, first, before), first_at g.0 s.0 s.1)
 
-  goes_behind : (n k j : ℕ) (s : Segment) (i : Code) → n ≡ offset (map segment_code ss) k + j → slice_get ss k ≡ Some s → slice_get (segment_code s) j ≡ Some i → IsTrue (is_before i) → Passes (code_of ss) is_behind (suc n)
+  goes_behind : (n k j : ℕ) (s : Segment) (i : Code) → n ≡ offset (map segment_code ss) k + j → slice_get ss k ≡ Some s → slice_get (segment_code s) j ≡ Some i
+      → IsTrue (is_before i) → Passes (code_of ss) is_behind (suc n)
   goes_behind n k j (listing ls) i sum e f h =
       let g = list_next a begins ls j (i, f, h) in
       (g.0, subst (λ m. slice_get (code_of ss) m ≡ Some g.0) (let z : offset (map segment_code ss) k + suc j ≡ suc n = omega (arith, sum) in z) (from_segment ss k (listing ls) (suc j) g.0 e g.1), g.2)
   goes_behind n k j (switch x) i sum e f h = absurd (switch_not_before x (w.switches k x e) (subst (λ y. IsTrue (is_before y)) (sym (only_one x j i f).1) h))
 
-  stands_before : (n k j : ℕ) (s : Segment) (i : Code) → n ≡ offset (map segment_code ss) k + j → slice_get ss k ≡ Some s → slice_get (segment_code s) j ≡ Some i → IsTrue (is_behind i) → (m : ℕ) × (n ≡ suc m) × Passes (code_of ss) is_before m
+  stands_before : (n k j : ℕ) (s : Segment) (i : Code) → n ≡ offset (map segment_code ss) k + j → slice_get ss k ≡ Some s
+      → slice_get (segment_code s) j ≡ Some i → IsTrue (is_behind i) → (m : ℕ) × (n ≡ suc m) × Passes (code_of ss) is_before m
   stands_before n k j (listing ls) i sum e f h =
       let g = list_previous a begins ls j (i, f, h) in
       let next = g.1 in

@@ -2,9 +2,10 @@
 use Rattle.std.proofs.Common.{◌⊎◌, ℕ, IsTrue, refl, inl, inr}
 use Rattle.clause_compiler.proofs.Lists.{never}
 use Rattle.wam_code.specs.declared.instruction.Code.{Code}
-use Rattle.wam_code.specs.declared.instruction.Code.TheVariants.{Jump, FailNow, AnswerNow, TryMeElse, RetryMeElse, TrustMe, Try, Retry, Trust, SwitchOnTerm, SwitchOnConstant, SwitchOnInteger, SwitchOnStructure}
+use Rattle.wam_code.specs.declared.instruction.Code.TheVariants.{Jump, FailNow, AnswerNow, TryMeElse, RetryMeElse, TrustMe, Try, Retry, Trust, SwitchOnTerm}
+use Rattle.wam_code.specs.declared.instruction.Code.TheVariants.{SwitchOnConstant, SwitchOnInteger, SwitchOnStructure}
 use Rattle.wam_code.specs.VerifiedCode.{goes_on, is_other, is_before, is_behind}
-use Rattle.clause_code.specs.Safe.{is_plain}
+use Rattle.clause_code.specs.SafeCode.{is_plain}
 use Rattle.clause_compiler.specs.Layout.{is_switch, is_listing, is_first}
 
 -- a choice or a switch

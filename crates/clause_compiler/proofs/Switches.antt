@@ -1,5 +1,6 @@
 -- Choices that the first argument decides: where they lead, and what they try.
-use Rattle.std.proofs.Common.{◌≡◌, ◌⊎◌, ℕ, zero, suc, ◌+◌, ◌<◌, ◌≤◌, Bool, true, false, IsTrue, not, ◌&&◌, List, [], ◌∷◌, map, filter, All, option_map, Option, Some, None, length, slice_get, refl, ap, sym, ◌∙◌, subst, inl, inr, arith}
+use Rattle.std.proofs.Common.{◌≡◌, ◌⊎◌, ℕ, zero, suc, ◌+◌, ◌<◌, ◌≤◌, Bool, true, false, IsTrue, not, ◌&&◌, List, [], ◌∷◌, map, filter, All, option_map, Option}
+use Rattle.std.proofs.Common.{Some, None, length, slice_get, refl, ap, sym, ◌∙◌, subst, inl, inr, arith}
 use Rattle.std.proofs.lemmas.Bool.{and_cases}
 use Rattle.std.proofs.lemmas.Bool.Decides.{nat_tests}
 use Rattle.std.proofs.lemmas.List.{length-map}
@@ -7,11 +8,11 @@ use Rattle.std.proofs.lemmas.Option.{slice_get-map, slice_get_within, get_or_fro
 use Rattle.range_code.proofs.Lemmas.{keeps_none}
 use Rattle.fd_language.specs.Family.{has}
 use Rattle.fd_model.specs.Goal.{Clause}
-use Rattle.fd_model.specs.Constraining.{arguments}
+use Rattle.fd_model.specs.ConstraintExpansion.{arguments}
 use Rattle.term_pool.specs.declared.TermId.{TermId}
 use Rattle.term_pool.specs.Contents.{Shape, shape_at}
 use Rattle.term_pool.specs.Terms.{term_of, shape_term}
-use Rattle.term_pool.specs.Valid.{IsPool}
+use Rattle.term_pool.specs.PoolInvariant.{IsPool}
 use Rattle.clause_check.specs.Programs.{FlatProgram, clause_at, IsProgram}
 use Rattle.wam_code.specs.declared.instruction.Key.{Key}
 use Rattle.wam_code.specs.declared.instruction.Code.{Code}
@@ -23,7 +24,7 @@ use Rattle.wam_code.specs.Tries.{Clash, ClashFirst, IsShape, Rows, TryRule, Trie
 use Rattle.wam_code.proofs.Lemmas.{try_from_rule}
 use Rattle.clause_code.specs.Pieces.{Predicate}
 use Rattle.clause_code.specs.Predicates.{ArePredicates}
-use Rattle.clause_code.specs.Trying.{list_of}
+use Rattle.clause_code.specs.ClauseChoices.{list_of}
 use Rattle.clause_code.proofs.Lemmas.{list_tries}
 use Rattle.clause_compiler.specs.declared.keys.Kind.{Kind}
 use Rattle.clause_compiler.specs.declared.keys.Kind.TheVariants as kind
@@ -31,17 +32,18 @@ use Rattle.clause_compiler.specs.Keys.{shape_key, argument_key, key_of, of_kind,
 use Rattle.clause_compiler.specs.ClauseKeys.{may_have, key_numbers}
 use Rattle.clause_compiler.specs.Layout.{offset, is_switch}
 use Rattle.clause_compiler.specs.Sections.{place_in, IsNumbered}
-use Rattle.clause_compiler.specs.Switching.{Segment, listing, switch, segment_code, code_of, place_of, LeadsTo, AreAmong, switch_on, IsTableOf, IsKeySwitch, SwitchesTo, KindAt, IsBehind, IsSwitching, AreChoicesBy}
+use Rattle.clause_compiler.specs.Switches.{Segment, listing, switch, segment_code, code_of, place_of, LeadsTo, AreAmong, switch_on, IsTableOf, IsKeySwitch}
+use Rattle.clause_compiler.specs.Switches.{SwitchesTo, KindAt, IsBehind, IsSwitching, AreChoicesBy}
 use Rattle.clause_compiler.proofs.Lists.{get_there, got_map, no, same_some}
 use Rattle.clause_compiler.proofs.Listing.{Each, only_one, each_of, stand_at}
-use Rattle.clause_compiler.proofs.Numbering.{list_numbered, placed_segment, IsSegment, placed_offset, switch_numbered}
+use Rattle.clause_compiler.proofs.ClausePlaces.{list_numbered, placed_segment, IsSegment, placed_offset, switch_numbered}
 use Rattle.clause_compiler.proofs.Segments.{AreSafe, spot, from_segment, offset_none}
-use Rattle.clause_compiler.proofs.Sifting.{sifted_one, sifted_in, sift_both, sift_all}
-use Rattle.clause_compiler.proofs.Keying.{same_itself}
-use Rattle.clause_compiler.proofs.Fitting.{head_shape}
+use Rattle.clause_compiler.proofs.ClauseFilters.{sifted_one, sifted_in, sift_both, sift_all}
+use Rattle.clause_compiler.proofs.ClauseKeys.{same_itself}
+use Rattle.clause_compiler.proofs.GoalClauses.{head_shape}
 use Rattle.clause_compiler.proofs.Rows.{row_of, FirstRow, NoRow, first_row, key_within, row_clash, may_be_other, other_clash}
 use Rattle.clause_compiler.proofs.KeyShapes.{atom_clash, integer_clash, structure_clash, first_clash}
-use Rattle.clause_compiler.proofs.Trying.{Enters, each_tries}
+use Rattle.clause_compiler.proofs.TriedClauses.{Enters, each_tries}
 
 -- one of four
 one_of : (v c i s to : ℕ) → IsTrue (has (v ∷ c ∷ i ∷ s ∷ []) to) → (to ≡ v) ⊎ ((to ≡ c) ⊎ ((to ≡ i) ⊎ (to ≡ s)))
@@ -112,7 +114,8 @@ module _ (p : FlatProgram) (tables : List Table) (ns : List ℕ) (at : ℕ) (ss 
         subst (λ x. slice_get ss k ≡ Some x) (switched_from i g.0 g.2) g.1
 
     -- the place of a segment behind this one
-    ahead_at : (j to m : ℕ) (x : Segment) → j < m → to ≡ place_of at ss m → slice_get ss m ≡ Some x → (m : ℕ) × (j < m) × (m < length (map (placed_segment places) ss)) × (to ≡ place_of at (map (placed_segment places) ss) m)
+    ahead_at : (j to m : ℕ) (x : Segment) → j < m → to ≡ place_of at ss m → slice_get ss m ≡ Some x
+        → (m : ℕ) × (j < m) × (m < length (map (placed_segment places) ss)) × (to ≡ place_of at (map (placed_segment places) ss) m)
     ahead_at j to m x h e f =
         let o = placed_offset places ss each_segment m in
         let b = slice_get_within ss m x f in
@@ -131,13 +134,16 @@ module _ (p : FlatProgram) (tables : List Table) (ns : List ℕ) (at : ℕ) (ss 
       table_is : (t : ℕ) (table : Table) → slice_get tables t ≡ Some table → table_at a t ≡ table
       table_is t table e = get_or_from_slice_get a.tables t table [] (ap (λ l. slice_get l t) same ∙ e)
 
-      ahead_top : (k to : ℕ) → k ≡ 0 → (to ≡ w.v) ⊎ ((to ≡ w.c) ⊎ ((to ≡ w.i) ⊎ (to ≡ w.s))) → (m : ℕ) × (k < m) × (m < length (map (placed_segment places) ss)) × (to ≡ place_of at (map (placed_segment places) ss) m)
+      ahead_top : (k to : ℕ) → k ≡ 0 → (to ≡ w.v) ⊎ ((to ≡ w.c) ⊎ ((to ≡ w.i) ⊎ (to ≡ w.s))) → (m : ℕ) × (k < m) × (m < length (map (placed_segment places) ss))
+          × (to ≡ place_of at (map (placed_segment places) ss) m)
       ahead_top k to e (inl f) = let g = lead 0 w.v ns w.all in (g.0, (let b = g.1 in omega (arith, b, e)), g.2, f ∙ g.3)
       ahead_top k to e (inr (inl f)) = let g = lead_kind kind.Atom w.c w.atoms in (g.0, (let b = g.1 in omega (arith, b, e)), g.2, f ∙ g.3)
       ahead_top k to e (inr (inr (inl f))) = let g = lead_kind kind.Integer w.i w.integers in (g.0, (let b = g.1 in omega (arith, b, e)), g.2, f ∙ g.3)
       ahead_top k to e (inr (inr (inr f))) = let g = lead_kind kind.Structure w.s w.structures in (g.0, (let b = g.1 in omega (arith, b, e)), g.2, f ∙ g.3)
 
-      ahead_by : (k : ℕ) (i : Code) (to : ℕ) → ((k ≡ 0) × (i ≡ SwitchOnTerm w.v w.c w.i w.s)) ⊎ ((q : Kind) × IsKeySwitch p tables q ns at ss k i) → IsTrue (has (named a i) to) → (m : ℕ) × (k < m) × (m < length (map (placed_segment places) ss)) × (to ≡ place_of at (map (placed_segment places) ss) m)
+      ahead_by : (k : ℕ) (i : Code) (to : ℕ) → ((k ≡ 0) × (i ≡ SwitchOnTerm w.v w.c w.i w.s)) ⊎ ((q : Kind) × IsKeySwitch p tables q ns at ss k i)
+          → IsTrue (has (named a i) to) → (m : ℕ) × (k < m) × (m < length (map (placed_segment places) ss))
+          × (to ≡ place_of at (map (placed_segment places) ss) m)
       ahead_by k i to (inl f) h = ahead_top k to f.0 (one_of w.v w.c w.i w.s to (subst (λ x. IsTrue (has (named a x) to)) f.1 h))
       ahead_by k i to (inr f) h =
           let x = f.1 in
@@ -158,7 +164,8 @@ module _ (p : FlatProgram) (tables : List Table) (ns : List ℕ) (at : ℕ) (ss 
       there_by k i (inr f) =
           let x = f.1 in
           let within = slice_get_within tables x.number x.table x.there in
-          subst (IsThere a) (sym x.code) (table_there a f.0 x.number (subst (λ l. x.number < length l) (sym same) within) (subst (All (λ row. IsTrue (of_kind f.0 row.0))) (sym (table_is x.number x.table x.there)) (keys_of_kind f.0 k x.table x.keys)))
+          subst (IsThere a) (sym x.code) (table_there a f.0 x.number (subst (λ l. x.number < length l) (sym same) within)
+          (subst (All (λ row. IsTrue (of_kind f.0 row.0))) (sym (table_is x.number x.table x.there)) (keys_of_kind f.0 k x.table x.keys)))
 
       -- The segments, with places in place of numbers, are lists and switches that lead ahead.
       pub switch_safe : (begins : ℕ → Type 0) (arity : ℕ) → 1 ≤ arity → ((k n : ℕ) → slice_get ns k ≡ Some n → begins (place_in places n)) → AreSafe a begins at arity (map (placed_segment places) ss)
@@ -176,7 +183,8 @@ module _ (p : FlatProgram) (tables : List Table) (ns : List ℕ) (at : ℕ) (ss 
       }
 
       -- ---- what they try
-      module _ (clause : ℕ → Clause) (stand : (n : ℕ) (i : Code) → slice_get (code_of (map (placed_segment places) ss)) n ≡ Some i → Holds a (at + n) i) (enter : (k n : ℕ) → slice_get ns k ≡ Some n → Enters a (place_in places n) (clause n)) where
+      module _ (clause : ℕ → Clause) (stand : (n : ℕ) (i : Code) → slice_get (code_of (map (placed_segment places) ss)) n ≡ Some i → Holds a (at + n) i)
+          (enter : (k n : ℕ) → slice_get ns k ≡ Some n → Enters a (place_in places n) (clause n)) where
         list_tried : (s : tries.Shape) (j to : ℕ) (ms : List ℕ) → LeadsTo at ss j to ms → Tries a s to (map clause ms)
         list_tried s j to ms h =
             let among = each_list h.0 ms h.3 in
@@ -186,7 +194,8 @@ module _ (p : FlatProgram) (tables : List Table) (ns : List ℕ) (at : ℕ) (ss 
             (stand_at a to (list_of (map (place_in places) ms))
             (λ n i e.
             subst (λ x. Holds a x i) (let z : at + (offset (map segment_code (map (placed_segment places) ss)) h.0 + n) ≡ to + n = omega (arith, place, o) in z)
-            (stand (offset (map segment_code (map (placed_segment places) ss)) h.0 + n) i (from_segment (map (placed_segment places) ss) h.0 (listing (map (place_in places) ms)) n i (placed_at h.0 (listing ms) h.3) e))))
+            (stand (offset (map segment_code (map (placed_segment places) ss)) h.0 + n) i
+            (from_segment (map (placed_segment places) ss) h.0 (listing (map (place_in places) ms)) n i (placed_at h.0 (listing ms) h.3) e))))
 
         -- a switch stands at its segment's place
         switch_holds : (j : ℕ) (x : Code) → slice_get ss j ≡ Some (switch x) → Holds a (place_of at ss j) x
@@ -205,7 +214,9 @@ module _ (p : FlatProgram) (tables : List Table) (ns : List ℕ) (at : ℕ) (ss 
           valid : IsPool a.pool
           valid = subst IsPool (sym pool) v.pool
 
-          clash_by : (s : tries.Shape) (test : Option Key → Bool) → test None ≡ true → ((t : TermId) (r : Shape) → shape_at p.pool t ≡ Some r → test (shape_key r) ≡ false → Clash s (shape_term p.pool r)) → (n : ℕ) → n < length p.clauses → test (key_of p n) ≡ false → ClashFirst s (arguments (term_of p.pool (clause_at p n).head))
+          clash_by : (s : tries.Shape) (test : Option Key → Bool) → test None ≡ true
+              → ((t : TermId) (r : Shape) → shape_at p.pool t ≡ Some r → test (shape_key r) ≡ false → Clash s (shape_term p.pool r)) → (n : ℕ)
+              → n < length p.clauses → test (key_of p n) ≡ false → ClashFirst s (arguments (term_of p.pool (clause_at p n).head))
           clash_by s test none clash n l e =
               let h = head_shape p v ps q n l in
               subst (λ t. ClashFirst s (arguments t)) (sym h.2) (first_clash p.pool v.pool s test none clash h.0 (ap (λ o. test (argument_key p.pool o)) (sym h.1) ∙ e))
@@ -213,7 +224,8 @@ module _ (p : FlatProgram) (tables : List Table) (ns : List ℕ) (at : ℕ) (ss 
           key_there : (n : ℕ) (x : Key) → key_of p n ≡ Some x → IsKey a x
           key_there n x e = key_within a valid (shape_at a.pool (clause_at p n).head) x (ap (λ c. argument_key c (shape_at c (clause_at p n).head)) pool ∙ e)
 
-          module _ (s : tries.Shape) (closed : s ≡ tries.is_open → ⊥) (k : Kind) (to : ℕ) (top : (cs : List Clause) → Tries a s to cs → Tries a s at cs) (clash_kind : (t : TermId) (r : Shape) → shape_at p.pool t ≡ Some r → may_be k (shape_key r) ≡ false → Clash s (shape_term p.pool r)) where
+          module _ (s : tries.Shape) (closed : s ≡ tries.is_open → ⊥) (k : Kind) (to : ℕ) (top : (cs : List Clause) → Tries a s to cs → Tries a s at cs)
+              (clash_kind : (t : TermId) (r : Shape) → shape_at p.pool t ≡ Some r → may_be k (shape_key r) ≡ false → Clash s (shape_term p.pool r)) where
             -- by a row of the table
             by_row : (h : SwitchesTo p tables k ns at ss to) → FirstRow a s (Tries a s) (table_at a h.key_switch.number) → Chosen p a s at ns clause
             by_row h f = record {
@@ -266,7 +278,8 @@ module _ (p : FlatProgram) (tables : List Table) (ns : List ℕ) (at : ℕ) (ss 
                     let not_is = f.none row.0 row.1 row.2 (ap (λ t. slice_get t row.0) (table_is x.number x.table x.there) ∙ row.3) in
                     clash_by s (may_be_other row.1) refl (clash_other row.1 not_is) n (within j n g) (ap (may_be_other row.1) row.4 ∙ ap not (same_itself row.1))
 
-            by_key : (h : SwitchesTo p tables k ns at ss to) → FirstRow a s (Tries a s) (table_at a h.key_switch.number) ⊎ NoRow a s (Tries a s) (table_at a h.key_switch.number) → Chosen p a s at ns clause
+            by_key : (h : SwitchesTo p tables k ns at ss to) → FirstRow a s (Tries a s) (table_at a h.key_switch.number)
+                ⊎ NoRow a s (Tries a s) (table_at a h.key_switch.number) → Chosen p a s at ns clause
             by_key h (inl f) = by_row h f
             by_key h (inr f) = by_none h f
 
@@ -283,16 +296,22 @@ module _ (p : FlatProgram) (tables : List Table) (ns : List ℕ) (at : ℕ) (ss 
           switch_chooses tries.is_open = record {
             test = λ n. true;
             clash = λ j n g e. no e;
-            means = subst (λ ms. Tries a tries.is_open at (map clause ms)) (sym (sift_all ns)) (try_from_rule a tries.is_open (SwitchOnTerm w.v w.c w.i w.s) at (map clause ns) begins_with (list_tried tries.is_open 0 w.v ns w.all));
+            means = subst (λ ms. Tries a tries.is_open at (map clause ms)) (sym (sift_all ns))
+                (try_from_rule a tries.is_open (SwitchOnTerm w.v w.c w.i w.s) at (map clause ns) begins_with (list_tried tries.is_open 0 w.v ns w.all));
           }
-          switch_chooses (tries.is_atom x) = by_kind (tries.is_atom x) (λ e. absurd cc) kind.Atom w.c (λ cs h. try_from_rule a (tries.is_atom x) (SwitchOnTerm w.v w.c w.i w.s) at cs begins_with h) (λ t r g. atom_clash p.pool x r) w.atoms
-          switch_chooses (tries.is_integer z) = by_kind (tries.is_integer z) (λ e. absurd cc) kind.Integer w.i (λ cs h. try_from_rule a (tries.is_integer z) (SwitchOnTerm w.v w.c w.i w.s) at cs begins_with h) (λ t r g. integer_clash p.pool z r) w.integers
-          switch_chooses (tries.is_structure f m) = by_kind (tries.is_structure f m) (λ e. absurd cc) kind.Structure w.s (λ cs h. try_from_rule a (tries.is_structure f m) (SwitchOnTerm w.v w.c w.i w.s) at cs begins_with h) (λ t r g. structure_clash p.pool f m r) w.structures
+          switch_chooses (tries.is_atom x) = by_kind (tries.is_atom x) (λ e. absurd cc) kind.Atom w.c
+              (λ cs h. try_from_rule a (tries.is_atom x) (SwitchOnTerm w.v w.c w.i w.s) at cs begins_with h) (λ t r g. atom_clash p.pool x r) w.atoms
+          switch_chooses (tries.is_integer z) = by_kind (tries.is_integer z) (λ e. absurd cc) kind.Integer w.i
+              (λ cs h. try_from_rule a (tries.is_integer z) (SwitchOnTerm w.v w.c w.i w.s) at cs begins_with h) (λ t r g. integer_clash p.pool z r) w.integers
+          switch_chooses (tries.is_structure f m) = by_kind (tries.is_structure f m) (λ e. absurd cc) kind.Structure w.s
+              (λ cs h. try_from_rule a (tries.is_structure f m) (SwitchOnTerm w.v w.c w.i w.s) at cs begins_with h) (λ t r g. structure_clash p.pool f m r)
+              w.structures
 
 -- ---- numbers
 
 -- The choices of clauses name those alone.
-pub choices_numbered : (p : FlatProgram) (tables : List Table) (many : ℕ) (ns : List ℕ) (arity at : ℕ) (is : List Code) → ((k n : ℕ) → slice_get ns k ≡ Some n → n < many) → AreChoicesBy p tables ns arity at is → (n : ℕ) (i : Code) → slice_get is n ≡ Some i → IsNumbered many i
+pub choices_numbered : (p : FlatProgram) (tables : List Table) (many : ℕ) (ns : List ℕ) (arity at : ℕ) (is : List Code)
+    → ((k n : ℕ) → slice_get ns k ≡ Some n → n < many) → AreChoicesBy p tables ns arity at is → (n : ℕ) (i : Code) → slice_get is n ≡ Some i → IsNumbered many i
 choices_numbered p tables many ns arity at is below (inl h) n i e = list_numbered many ns below n i (subst (λ l. slice_get l n ≡ Some i) h.1 e)
 choices_numbered p tables many ns arity at is below (inr h) n i e =
     let x = spot h.1.0 n i (subst (λ l. slice_get l n ≡ Some i) h.1.1 e) in

@@ -10,13 +10,21 @@ use Rattle.clause_compiler.specs.declared.keys.Kind.TheVariants as kind
 use Rattle.clause_compiler.specs.Keys.{key_of}
 use Rattle.clause_compiler.specs.Layout.{offset}
 use Rattle.clause_compiler.specs.Sections.{ArePut}
-use Rattle.clause_compiler.specs.Switching.{Segment, switch, IsSwitching, AreChoicesBy, AreKeysIn, AreRising, TablesGrow}
+use Rattle.clause_compiler.specs.Switches.{Segment, switch, IsSwitching, AreChoicesBy, AreKeysIn, AreRising, TablesGrow}
 use Rattle.clause_compiler.proofs.Lists.{split_get, get_left}
-use Rattle.clause_compiler.proofs.KindPut.{Keeps, leads_more, kind_more, behind_more}
+use Rattle.clause_compiler.proofs.KindChoices.{Keeps, leads_more, kind_more, behind_more}
 
 -- Of the same pieces another thing is true.
-pub put_lift : {X : Type 0} (item : ℕ → ℕ → List Code → X) (P Q : ℕ → ℕ → List Code → Type 0) → ((k at : ℕ) (is : List Code) → P k at is → Q k at is) → (n : ℕ) (old new : List Code) (items : List X) → ArePut item P n old new items → ArePut item Q n old new items
-put_lift item P Q f n old new items h = record { pieces = h.pieces; code = h.code; many = h.many; size = h.size; each = h.each; piece = λ k is e. f k (length old + offset h.pieces k) is (h.piece k is e) }
+pub put_lift : {X : Type 0} (item : ℕ → ℕ → List Code → X) (P Q : ℕ → ℕ → List Code → Type 0) → ((k at : ℕ) (is : List Code) → P k at is → Q k at is)
+    → (n : ℕ) (old new : List Code) (items : List X) → ArePut item P n old new items → ArePut item Q n old new items
+put_lift item P Q f n old new items h = record {
+  pieces = h.pieces;
+  code = h.code;
+  many = h.many;
+  size = h.size;
+  each = h.each;
+  piece = λ k is e. f k (length old + offset h.pieces k) is (h.piece k is e);
+}
 
 module _ (p : FlatProgram) (one two : List Table) (keeps : Keeps one two) (ns : List ℕ) (at : ℕ) where
   switching_keeps : (ss : List Segment) → IsSwitching p one ns at ss → IsSwitching p two ns at ss

@@ -1,5 +1,6 @@
 -- What is read and written by an index.
-use Rattle.std.proofs.Common.{◌≡◌, ℕ, zero, suc, ◌+◌, ◌<◌, List, [], ◌∷◌, ◌++◌, map, set, take, drop, get_or, slice_set, length, Vec, Global, refl, ap, ap₂, sym, ◌∙◌, arith}
+use Rattle.std.proofs.Common.{◌≡◌, ℕ, zero, suc, ◌+◌, ◌<◌, List, [], ◌∷◌, ◌++◌, map, set, take, drop, get_or, slice_set, length, Vec, Global, refl, ap, ap₂}
+use Rattle.std.proofs.Common.{sym, ◌∙◌, arith}
 use Rattle.std.proofs.lemmas.List.{length-map, get_or-map}
 
 -- the elements of a vector
@@ -7,7 +8,8 @@ abbrev pub items : Vec ℕ Global → List ℕ
 items v = v.items
 
 -- One number more in one of many vectors.
-pub list_put : (vs : List (Vec ℕ Global)) (i n : ℕ) (found : Vec ℕ Global) (x : List ℕ) → x ≡ found.items ++ n ∷ [] → found ≡ get_or vs i found → i < length vs → x ≡ get_or (map items vs) i [] ++ n ∷ []
+pub list_put : (vs : List (Vec ℕ Global)) (i n : ℕ) (found : Vec ℕ Global) (x : List ℕ) → x ≡ found.items ++ n ∷ [] → found ≡ get_or vs i found → i < length vs
+    → x ≡ get_or (map items vs) i [] ++ n ∷ []
 list_put vs i n found x e h l = e ∙ ap (λ (ys : List ℕ). ys ++ n ∷ []) (ap items h ∙ sym (get_or-map items vs i found [] l))
 
 -- Two lists have the same images: so have their elements with one index.
@@ -27,7 +29,8 @@ module _ {X : Type 0} (f : X → X) where
   unchanged_at (x ∷ xs) zero d h = refl
   unchanged_at (x ∷ xs) (suc i) d h = unchanged_at xs i d (omega (arith, h))
 
-  pub change_more : (old is : List X) (i : ℕ) (x d : X) → i < length old → is ≡ map f (take i old) ++ drop i old → x ≡ f (get_or is i d) → slice_set is i x ≡ map f (take (i + 1) old) ++ drop (i + 1) old
+  pub change_more : (old is : List X) (i : ℕ) (x d : X) → i < length old → is ≡ map f (take i old) ++ drop i old → x ≡ f (get_or is i d)
+      → slice_set is i x ≡ map f (take (i + 1) old) ++ drop (i + 1) old
   change_more old is i x d h e g =
       let value : x ≡ f (get_or old i d) = g ∙ ap (λ l. f (get_or l i d)) e ∙ ap f (unchanged_at old i d h) in
       let next : i + 1 ≡ suc i = omega arith in

@@ -2,9 +2,10 @@
 use Rattle.std.specs.Prelude.{◌≡◌, ◌⊎◌, ℕ, zero, suc, ◌+◌, ◌<◌, ◌≤◌, Bool, true, false, IsTrue, List, [], ◌∷◌, ◌++◌, map, length, slice_get, All, Some}
 use Rattle.fd_language.specs.Family.{has}
 use Rattle.fd_model.specs.Goal.{Clause, Query, Program}
-use Rattle.fd_model.specs.Constraining.{arguments}
+use Rattle.fd_model.specs.ConstraintExpansion.{arguments}
 use Rattle.wam_code.specs.declared.instruction.Code.{Code}
-use Rattle.wam_code.specs.declared.instruction.Code.TheVariants.{Jump, FailNow, Try, Retry, Trust, SwitchOnTerm, SwitchOnConstant, SwitchOnInteger, SwitchOnStructure}
+use Rattle.wam_code.specs.declared.instruction.Code.TheVariants.{Jump, FailNow, Try, Retry, Trust, SwitchOnTerm, SwitchOnConstant, SwitchOnInteger}
+use Rattle.wam_code.specs.declared.instruction.Code.TheVariants.{SwitchOnStructure}
 use Rattle.wam_code.specs.declared.parts.Entry.{Entry}
 use Rattle.wam_code.specs.Area.{Area, Span, HasEntry, HasQuery, name_of}
 use Rattle.wam_code.specs.VerifiedCode.{named, is_before, is_behind, IsAtom, IsKey, IsThere}
@@ -12,7 +13,7 @@ use Rattle.fd_language.specs.Term.{term_count}
 use Rattle.wam_code.specs.Tries.{IsPredicate}
 use Rattle.wam_code.specs.Keys.{HasRisingTables}
 use Rattle.clause_code.specs.Pieces.{base_of}
-use Rattle.clause_code.specs.Safe.{IsClauseCode, IsQueryPiece}
+use Rattle.clause_code.specs.SafeCode.{IsClauseCode, IsQueryPiece}
 use Rattle.clause_compiler.specs.PredicateSwitches.{HasSwitches}
 
 -- ---- lists, one behind the other
@@ -55,7 +56,8 @@ is_first (Retry to) = false
 is_first (Trust to) = false
 is_first _ = true
 
--- The choices of a predicate with so many arguments stand at the place: lists and switches that lead to each other, ahead, and to places where the predicate's clauses may begin.
+-- The choices of a predicate with so many arguments stand at the place: lists and switches that lead to each other, ahead, and to places where the predicate's
+-- clauses may begin.
 pub record AreChoicesOf (a : Area) (begins : ℕ → Type 0) (at arity : ℕ) (is : List Code) : Type 0 where
   pub first : Passes is is_first 0
   pub lists : (n : ℕ) (i : Code) → slice_get is n ≡ Some i → IsTrue (is_switch i) ⊎ IsTrue (is_listing i)
@@ -92,7 +94,8 @@ pub record IsLaidOut (a : Area) (prog : Program) : Type 0 where
   pub each_query : length queries ≡ length prog.queries
   pub each_span : length a.queries ≡ length prog.queries
   pub entry : (k : ℕ) (e : Entry) → HasEntry a k e → e.at ≡ offset choices k
-  pub choice : (k : ℕ) (e : Entry) (is : List Code) → HasEntry a k e → slice_get choices k ≡ Some is → AreChoicesOf a (BeginsClause prog.clauses (length (joined choices)) clauses e.arity) e.at e.arity is
+  pub choice : (k : ℕ) (e : Entry) (is : List Code) → HasEntry a k e → slice_get choices k ≡ Some is
+      → AreChoicesOf a (BeginsClause prog.clauses (length (joined choices)) clauses e.arity) e.at e.arity is
   pub clause : (k : ℕ) (c : Clause) (is : List Code) → slice_get prog.clauses k ≡ Some c → slice_get clauses k ≡ Some is → IsClauseCode (base_of a) (length (joined choices) + offset clauses k) is c
   pub query : (k : ℕ) (q : Query) (s : Span) (is : List Code) → slice_get prog.queries k ≡ Some q → HasQuery a k s → slice_get queries k ≡ Some is
       → IsSpanOf a (length (joined choices) + (length (joined clauses) + offset queries k)) q s is

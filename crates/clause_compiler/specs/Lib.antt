@@ -1,4 +1,4 @@
-pub mod First
+pub mod EntryState
 pub mod Groups
 pub mod ClauseKeys
 pub mod Keys
@@ -7,4 +7,4 @@ pub mod Listing
 pub mod Parts
 pub mod Sections
 pub mod PredicateSwitches
-pub mod Switching
+pub mod Switches

@@ -9,11 +9,11 @@ use Rattle.wam_code.specs.declared.instruction.Key.TheVariants as key
 use Rattle.wam_code.specs.Area.{Span, Table}
 use Rattle.clause_code.specs.Pieces.{Predicate}
 use Rattle.clause_code.specs.Predicates.{base_in, predicate_at}
-use Rattle.clause_code.specs.Safe.{IsClauseCode, IsQueryPiece}
-use Rattle.clause_code.specs.Trying.{list_of}
+use Rattle.clause_code.specs.SafeCode.{IsClauseCode, IsQueryPiece}
+use Rattle.clause_code.specs.ClauseChoices.{list_of}
 use Rattle.clause_compiler.specs.Groups.{numbers_of}
 use Rattle.clause_compiler.specs.Layout.{joined, offset}
-use Rattle.clause_compiler.specs.Switching.{AreChoicesBy}
+use Rattle.clause_compiler.specs.Switches.{AreChoicesBy}
 
 -- Behind the old code stand n pieces, of each of which P is true, by its number, its place and its instructions; and there is an item of each.
 pub record ArePut {X : Type 0} (item : ℕ → ℕ → List Code → X) (P : ℕ → ℕ → List Code → Type 0) (n : ℕ) (old new : List Code) (items : List X) : Type 0 where

@@ -2,7 +2,7 @@
 
 ghost use Rattle.std.specs.Prelude.{◌≡◌, ℕ, true, List, [], ◌<◌, ◌≤◌, ◌++◌, length, map, take, drop, IfOk, OnOk, All};
 ghost use Rattle.clause_code.specs.Predicates.{Appends, ArePredicates};
-ghost use Rattle.clause_code.specs.Trying.{list_of};
+ghost use Rattle.clause_code.specs.ClauseChoices.{list_of};
 ghost use Rattle.clause_compiler.specs.Groups.{AreGroups};
 ghost use Rattle.clause_compiler.specs.Sections.{ArePut, IsChoiceOf, IsListIn, IsNumbered, its_entry, its_row, placed_code};
 ghost use Rattle.clause_compiler.specs.Keys.{is_tabled, kind_numbers};
@@ -10,7 +10,7 @@ ghost use Rattle.clause_compiler.specs.Listing.{listed_at};
 ghost use Rattle.clause_check.specs.Programs.{FlatProgram};
 ghost use Rattle.clause_compiler.specs.ClauseKeys.{AreKeyed};
 ghost use Rattle.clause_compiler.specs.Parts.{tables_in};
-ghost use Rattle.clause_compiler.specs.Switching.{AreChoicesBy, AreKeysIn, AreRising, IsSwitchCode, PutsKind, switch_on, TablesGrow};
+ghost use Rattle.clause_compiler.specs.Switches.{AreChoicesBy, AreKeysIn, AreRising, IsSwitchCode, PutsKind, switch_on, TablesGrow};
 
 use crate::keys::{Kind, are_told_apart, clauses_of_kind};
 use crate::tables::{Keyed, keyed_of, label_of};

@@ -2,8 +2,8 @@
 
 ghost use Rattle.std.specs.Prelude.{◌≡◌, length, map, IfOk};
 ghost use Rattle.clause_check.specs.Programs.{program_in};
-ghost use Rattle.clause_code.specs.Codable.{IsCodable};
-ghost use Rattle.clause_code.specs.Fitting.{AreNeeds};
+ghost use Rattle.clause_code.specs.CodablePrograms.{IsCodable};
+ghost use Rattle.clause_code.specs.LevelSlots.{AreNeeds};
 ghost use Rattle.clause_code.specs.Predicates.{ArePredicates};
 ghost use Rattle.clause_compiler.specs.Sections.{ArePut, IsClausePiece, IsQueryOf, its_place, its_span};
 ghost use Rattle.wam_code.specs.Area.{span_of};

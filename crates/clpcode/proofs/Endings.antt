@@ -101,7 +101,8 @@ counts_of old new result st out whole kept (inr (inr h)) =
 
 counts_short : (old new : Ends) (result : Status) → new.source_faults ≡ old.source_faults → IsShort (sink_of old) (sink_of new) result → Counts old new result
 counts_short old new result kept short =
-    counts_of old new result Done [] tt kept (subst (λ (r : Status). Ending (sink_of old) (sink_of new) r Done []) (sym short.0) (subst (λ (s : SinkState). Ending (sink_of old) s NoMemory Done []) (sym short.1) (no_memory (sink_of old) Done [])))
+    counts_of old new result Done [] tt kept (subst (λ (r : Status). Ending (sink_of old) (sink_of new) r Done []) (sym short.0)
+    (subst (λ (s : SinkState). Ending (sink_of old) s NoMemory Done []) (sym short.1) (no_memory (sink_of old) Done [])))
 
 counts_fault : (old new : Ends) → sink_of new ≡ sink_of old → Rose old.source_faults new.source_faults → old.source_faults ≤ new.source_faults → Counts old new ReadFault
 counts_fault old new same rose later =
@@ -126,7 +127,8 @@ not_both : {P : Type 0} (words : List (List ℕ)) (t : Task) → task_of words �
 not_both words t e f = absurd (let g : Some t ≡ None = sym e ∙ f in cc (g))
 
 -- refused words
-pub with_usage : (words : List (List ℕ)) (old new : Ends) (result : Status) → task_of words ≡ None → new.left ≡ old.left → new.source_faults ≡ old.source_faults → Ending (sink_of old) (sink_of new) result Usage usage → Headline words old new result
+pub with_usage : (words : List (List ℕ)) (old new : Ends) (result : Status) → task_of words ≡ None → new.left ≡ old.left → new.source_faults ≡ old.source_faults
+    → Ending (sink_of old) (sink_of new) result Usage usage → Headline words old new result
 with_usage words old new result none same kept h =
     let k = counts_of old new result Usage usage tt kept h in record {
       usage = λ e. h;
@@ -144,12 +146,16 @@ with_usage words old new result none same kept h =
     }
 
 module _ (words : List (List ℕ)) (t : Task) (asks : task_of words ≡ Some t) (old new : Ends) (result : Status) (rest : (front : List ℕ) × Took old.left new.left front) where
-  headline : (result ≡ Usage → ⊥) → (IsUnanswered old new result ⊎ ((text : List ℕ) × IsText old new text × Answers t (Ending (sink_of old) (sink_of new) result) result text)) → Counts old new result → Headline words old new result
+  headline : (result ≡ Usage → ⊥) → (IsUnanswered old new result
+      ⊎ ((text : List ℕ) × IsText old new text × Answers t (Ending (sink_of old) (sink_of new) result) result text)) → Counts old new result
+      → Headline words old new result
   headline other answers k = record {
     usage = λ e. not_both words t asks e;
     untouched = λ e. not_both words t asks e;
     usage_only = λ e. absurd (other e);
-    answers = λ u e. subst (λ (x : Task). IsUnanswered old new result ⊎ ((text : List ℕ) × IsText old new text × Answers x (Ending (sink_of old) (sink_of new) result) result text)) (let f : Some t ≡ Some u = sym asks ∙ e in let g : t ≡ u = cc (f) in g) answers;
+    answers = λ u e. subst (λ (x : Task). IsUnanswered old new result
+        ⊎ ((text : List ℕ) × IsText old new text × Answers x (Ending (sink_of old) (sink_of new) result) result text))
+        (let f : Some t ≡ Some u = sym asks ∙ e in let g : t ≡ u = cc (f) in g) answers;
     read_fault = k.read_fault;
     read_told = k.read_told;
     write_fault = k.write_fault;
@@ -171,11 +177,13 @@ module _ (words : List (List ℕ)) (t : Task) (asks : task_of words ≡ Some t) 
       headline (not_usage (sink_of old) (sink_of new) result s.status s.out s.asked s.gives) (inr (text, is, h)) (counts_of old new result s.status s.out s.whole kept s.gives)
 
   -- either
-  pub with_read : (text : List ℕ) → IsText old new text → new.source_faults ≡ old.source_faults → IsShort (sink_of old) (sink_of new) result ⊎ Answers t (Ending (sink_of old) (sink_of new) result) result text → Headline words old new result
+  pub with_read : (text : List ℕ) → IsText old new text → new.source_faults ≡ old.source_faults
+      → IsShort (sink_of old) (sink_of new) result ⊎ Answers t (Ending (sink_of old) (sink_of new) result) result text → Headline words old new result
   with_read text is kept (inl h) = with_short kept h
   with_read text is kept (inr h) = with_answer text is kept h
 
 -- reading failed
-pub with_fault : (words : List (List ℕ)) (t : Task) (asks : task_of words ≡ Some t) (old new : Ends) (rest : (front : List ℕ) × Took old.left new.left front) → sink_of new ≡ sink_of old → Rose old.source_faults new.source_faults → old.source_faults ≤ new.source_faults → Headline words old new ReadFault
+pub with_fault : (words : List (List ℕ)) (t : Task) (asks : task_of words ≡ Some t) (old new : Ends) (rest : (front : List ℕ) × Took old.left new.left front)
+    → sink_of new ≡ sink_of old → Rose old.source_faults new.source_faults → old.source_faults ≤ new.source_faults → Headline words old new ReadFault
 with_fault words t asks old new rest same rose later =
     headline words t asks old new ReadFault rest (λ e. absurd (cc (e))) (inl (record { status = inl (refl, rose); sink = same })) (counts_fault old new same rose later)

@@ -14,7 +14,7 @@ use Rattle.code_listing.specs.Listing.{listing}
 use Rattle.code_listing.specs.Sheets.{Listed}
 use Rattle.listing_loader.specs.declared.fault.LoadFault.{LoadFault}
 use Rattle.listing_loader.specs.declared.fault.LoadFault.TheVariants as why
-use Rattle.listing_loader.specs.Loading.{IsHeld, IsLoadFault}
+use Rattle.listing_loader.specs.LoadedCode.{IsHeld, IsLoadFault}
 use Rattle.clpcode.specs.declared.command.Task.{Task}
 use Rattle.clpcode.specs.declared.command.Task.TheVariants.{List as ListIt, Load}
 use Rattle.clpcode.specs.Words.{task_of}
@@ -115,7 +115,8 @@ pub record Headline (words : List (List ℕ)) (old new : Ends) (result : Status)
   pub untouched : task_of words ≡ None → (new.left ≡ old.left) × (new.source_faults ≡ old.source_faults)
   -- others never have it
   pub usage_only : result ≡ Usage → task_of words ≡ None
-  -- `list` refuses a text as it is refused without this program, and else writes a listing; `load` refuses a text that is too large or no listing, and else runs its queries
+  -- `list` refuses a text as it is refused without this program, and else writes a listing; `load` refuses a text that is too large or no listing, and else
+  -- runs its queries
   pub answers : (t : Task) → task_of words ≡ Some t → IsUnanswered old new result ⊎ ((text : List ℕ) × IsText old new text × Answers t (Ending (sink_of old) (sink_of new) result) result text)
   -- a read fault or a write fault is told exactly where it was counted; after a read fault nothing was written
   pub read_fault : result ≡ ReadFault → Rose old.source_faults new.source_faults × (sink_of new ≡ sink_of old)

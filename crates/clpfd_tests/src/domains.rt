@@ -4,7 +4,7 @@ ghost use Rattle.std.specs.Prelude.{◌≡◌, ◌<◌, [], length, slice_index_
 ghost use Rattle.fd_language.specs.Family.{universe};
 ghost use Rattle.fd_language.specs.Range.{least};
 
-use crate::same::same;
+use crate::assertions::same;
 use domain_ranges::{Domain, View};
 use fd_language::{INFINITY, NoMemory};
 use std::alloc::Global;

@@ -4,12 +4,12 @@
 #![tactic(auto)]
 
 #[cfg(test)]
+mod assertions;
+#[cfg(test)]
 mod domains;
 #[cfg(test)]
 mod ports;
 #[cfg(test)]
 mod ranges;
-#[cfg(test)]
-mod same;
 #[cfg(test)]
 mod verdicts;

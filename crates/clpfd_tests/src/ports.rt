@@ -2,7 +2,7 @@
 
 ghost use Rattle.std.specs.Prelude.{None};
 
-use crate::same::same;
+use crate::assertions::same;
 use byte_ports::{
     Failed, MemorySink, MemorySource, ReadTextFault, ReaderSource, Sink, SmallSink, SmallSource,
     Source, SureSink, SureSource, WriterSink, read_text, write_all,

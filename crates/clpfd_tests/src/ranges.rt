@@ -3,7 +3,7 @@
 ghost use Rattle.std.specs.Prelude.{◌<◌, All, length};
 ghost use Rattle.term_reader.specs.Sentences.{IsSentence};
 
-use crate::same::same;
+use crate::assertions::same;
 use crate::verdicts::told;
 use fd_language::{Feature, INFINITY, RangeNode};
 use monotone_check::check;

@@ -1,6 +1,6 @@
 //! Ranges with their verdicts, as the rules of the check give them.
 
-use crate::same::same;
+use crate::assertions::same;
 use fd_language::{FlatRange, Need, RangeNode};
 use monotone_check::{CheckFault, Checked, check, needs};
 use std::alloc::{AllocError, Global};

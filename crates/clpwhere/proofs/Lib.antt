@@ -3,8 +3,8 @@ mod PlaceWords
 mod ShownCharacters
 mod Pieces
 mod LineSteps
-mod Feeding
-mod Telling
+mod OpenLines
+mod Refusals
 mod LineNumbers
 mod WarnedText
 mod Runs

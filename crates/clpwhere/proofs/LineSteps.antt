@@ -64,7 +64,8 @@ gave_none text a line o = record {
   rest = o;
 }
 
-pub gave_line : (text : TextParts) (a b : SinkState) (line : List ℕ) (told : Bool) → IsOpen line → told ≡ is_refusal (line ++ 10 ∷ []) → WroteAll a b (marked_line text (line ++ 10 ∷ [])) → GaveAll text a b (line ++ 10 ∷ []) [] told
+pub gave_line : (text : TextParts) (a b : SinkState) (line : List ℕ) (told : Bool) → IsOpen line → told ≡ is_refusal (line ++ 10 ∷ [])
+    → WroteAll a b (marked_line text (line ++ 10 ∷ [])) → GaveAll text a b (line ++ 10 ∷ []) [] told
 gave_line text a b line told o e w = record {
   out = marked_line text (line ++ 10 ∷ []);
   gave = record {
@@ -75,7 +76,8 @@ gave_line text a b line told o e w = record {
   rest = refl;
 }
 
-pub cut_line : (text : TextParts) (a b : SinkState) (line : List ℕ) (e : Fault) → IsOpen line → CutBy a b e (marked_line text (line ++ 10 ∷ [])) → (rest : List ℕ) → CutBy a b e (marked text ((line ++ 10 ∷ []) ++ rest))
+pub cut_line : (text : TextParts) (a b : SinkState) (line : List ℕ) (e : Fault) → IsOpen line → CutBy a b e (marked_line text (line ++ 10 ∷ []))
+    → (rest : List ℕ) → CutBy a b e (marked text ((line ++ 10 ∷ []) ++ rest))
 cut_line text a b line e o h rest = subst (CutBy a b e) (sym (marked-whole text line rest o)) (cut_longer a b (marked_line text (line ++ 10 ∷ [])) (marked text rest) e h)
 
 -- ---- more bytes
@@ -84,20 +86,26 @@ or_assoc : (a b c : Bool) → ((a || b) || c) ≡ (a || (b || c))
 or_assoc true b c = refl
 or_assoc false b c = refl
 
-pub gave_then : (text : TextParts) (a b c : SinkState) (bytes line more next : List ℕ) (f g : Bool) → GaveAll text a b bytes line f → GaveAll text b c (line ++ more) next g → GaveAll text a c (bytes ++ more) next (f || g)
+pub gave_then : (text : TextParts) (a b c : SinkState) (bytes line more next : List ℕ) (f g : Bool) → GaveAll text a b bytes line f
+    → GaveAll text b c (line ++ more) next g → GaveAll text a c (bytes ++ more) next (f || g)
 gave_then text a b c bytes line more next f g h k = record {
   out = h.out ++ k.out;
   gave = record {
-    output = λ rest. ap (marked text) (append_assoc bytes more rest) ∙ h.gave.output (more ++ rest) ∙ ap (λ l. h.out ++ marked text l) (sym (append_assoc line more rest)) ∙ ap (λ l. h.out ++ l) (k.gave.output rest) ∙ sym (append_assoc h.out k.out (marked text (next ++ rest)));
-    tells = λ rest. ap is_refused (append_assoc bytes more rest) ∙ h.gave.tells (more ++ rest) ∙ ap (λ l. f || is_refused l) (sym (append_assoc line more rest)) ∙ ap (λ t. f || t) (k.gave.tells rest) ∙ sym (or_assoc f g (is_refused (next ++ rest)));
+    output = λ rest. ap (marked text) (append_assoc bytes more rest) ∙ h.gave.output (more ++ rest)
+        ∙ ap (λ l. h.out ++ marked text l) (sym (append_assoc line more rest)) ∙ ap (λ l. h.out ++ l) (k.gave.output rest)
+        ∙ sym (append_assoc h.out k.out (marked text (next ++ rest)));
+    tells = λ rest. ap is_refused (append_assoc bytes more rest) ∙ h.gave.tells (more ++ rest) ∙ ap (λ l. f || is_refused l) (sym (append_assoc line more rest))
+        ∙ ap (λ t. f || t) (k.gave.tells rest) ∙ sym (or_assoc f g (is_refused (next ++ rest)));
   };
   wrote = all_then a b c h.out k.out h.wrote k.wrote;
   rest = k.rest;
 }
 
-pub gave_cut : (text : TextParts) (a b c : SinkState) (bytes line more : List ℕ) (f : Bool) (e : Fault) → GaveAll text a b bytes line f → ((rest : List ℕ) → CutBy b c e (marked text ((line ++ more) ++ rest))) → (rest : List ℕ) → CutBy a c e (marked text ((bytes ++ more) ++ rest))
+pub gave_cut : (text : TextParts) (a b c : SinkState) (bytes line more : List ℕ) (f : Bool) (e : Fault) → GaveAll text a b bytes line f
+    → ((rest : List ℕ) → CutBy b c e (marked text ((line ++ more) ++ rest))) → (rest : List ℕ) → CutBy a c e (marked text ((bytes ++ more) ++ rest))
 gave_cut text a b c bytes line more f e h k rest =
-    let same : marked text ((bytes ++ more) ++ rest) ≡ h.out ++ marked text ((line ++ more) ++ rest) = ap (marked text) (append_assoc bytes more rest) ∙ h.gave.output (more ++ rest) ∙ ap (λ l. h.out ++ marked text l) (sym (append_assoc line more rest)) in
+    let same : marked text ((bytes ++ more) ++ rest) ≡ h.out ++ marked text ((line ++ more) ++ rest) = ap (marked text) (append_assoc bytes more rest)
+    ∙ h.gave.output (more ++ rest) ∙ ap (λ l. h.out ++ marked text l) (sym (append_assoc line more rest)) in
     subst (CutBy a c e) (sym same) (cut_then a b c h.out (marked text ((line ++ more) ++ rest)) e h.wrote (k rest))
 
 -- what was written of a front is a front of what is written of the whole
@@ -105,13 +113,15 @@ pub gave_front : (text : TextParts) (a b : SinkState) (bytes line : List ℕ) (f
 gave_front text a b bytes line f h rest = subst (WrotePart a b) (sym (h.gave.output rest)) (all_front a b h.out (marked text (line ++ rest)) h.wrote)
 
 -- a cut of some bytes is a cut of more
-pub cut_more : (text : TextParts) (a b : SinkState) (bytes more : List ℕ) (e : Fault) → ((rest : List ℕ) → CutBy a b e (marked text (bytes ++ rest))) → (rest : List ℕ) → CutBy a b e (marked text ((bytes ++ more) ++ rest))
+pub cut_more : (text : TextParts) (a b : SinkState) (bytes more : List ℕ) (e : Fault) → ((rest : List ℕ) → CutBy a b e (marked text (bytes ++ rest)))
+    → (rest : List ℕ) → CutBy a b e (marked text ((bytes ++ more) ++ rest))
 cut_more text a b bytes more e h rest = subst (λ l. CutBy a b e (marked text l)) (sym (append_assoc bytes more rest)) (h (more ++ rest))
 
 -- ---- the end
 
 -- the last line was written behind the others
-pub gave_last : (text : TextParts) (a b c : SinkState) (bytes line : List ℕ) (f g : Bool) → GaveAll text a b bytes line f → WroteAll b c (marked text line) → g ≡ is_refused line → WroteAll a c (marked text bytes) × ((f || g) ≡ is_refused bytes)
+pub gave_last : (text : TextParts) (a b c : SinkState) (bytes line : List ℕ) (f g : Bool) → GaveAll text a b bytes line f → WroteAll b c (marked text line)
+    → g ≡ is_refused line → WroteAll a c (marked text bytes) × ((f || g) ≡ is_refused bytes)
 gave_last text a b c bytes line f g h w e =
     let output : marked text bytes ≡ h.out ++ marked text line = ap (marked text) (sym (append-nil bytes)) ∙ h.gave.output [] ∙ ap (λ l. h.out ++ marked text l) (append-nil line) in
     let tells : is_refused bytes ≡ (f || is_refused line) = ap is_refused (sym (append-nil bytes)) ∙ h.gave.tells [] ∙ ap (λ l. f || is_refused l) (append-nil line) in

@@ -1,5 +1,6 @@
 -- The whole input, and how a run ends.
-use Rattle.std.proofs.Common.{◌≡◌, ℕ, ◌<◌, ◌≤◌, ◌⊎◌, inl, inr, Bool, true, false, List, [], ◌++◌, Option, Some, None, IsSome, Result, Err, refl, sym, ap, ◌∙◌, subst, arith, append-nil}
+use Rattle.std.proofs.Common.{◌≡◌, ℕ, ◌<◌, ◌≤◌, ◌⊎◌, inl, inr, Bool, true, false, List, [], ◌++◌, Option, Some, None, IsSome, Result, Err, refl, sym, ap, ◌∙◌}
+use Rattle.std.proofs.Common.{subst, arith, append-nil}
 use Rattle.std.specs.Prelude.{◌||◌}
 use Rattle.byte_ports.specs.Ports.{PutPart, Rose, Took, IsAtEnd}
 use Rattle.byte_ports.proofs.Lemmas.{took_none, took_more}
@@ -107,7 +108,8 @@ more_cut text old now new line piece f e r t same c =
 
 -- a read failed
 pub read_cut : (text : TextParts) (old now new : Ends) (line : List ℕ) (f : Bool) → HasCopied text old now line f
-    → Took now.left new.left [] → now.source_faults ≤ new.source_faults → Rose now.source_faults new.source_faults → new.written ≡ now.written → new.sink_faults ≡ now.sink_faults → CutShort text old new fault.ReadFault
+    → Took now.left new.left [] → now.source_faults ≤ new.source_faults → Rose now.source_faults new.source_faults → new.written ≡ now.written
+    → new.sink_faults ≡ now.sink_faults → CutShort text old new fault.ReadFault
 read_cut text old now new line f r t later rose written faults =
     let took = subst (Took old.left new.left) (append-nil r.front) (took_more old.left now.left new.left r.front [] r.took t) in
     let whole = whole_of old.left new.left r.front took in

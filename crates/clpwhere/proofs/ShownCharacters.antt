@@ -8,7 +8,8 @@ use Rattle.clpwhere.specs.Places.{shown_character, shown_characters}
 -- one more character
 pub shown_more : (cs : List ℕ) (x : ℕ) → shown_characters (cs ++ x ∷ []) ≡ shown_characters cs ++ encode_utf8 (shown_character x)
 shown_more cs x =
-    ap encode_utf8_all (map-append shown_character cs (x ∷ [])) ∙ encodes-append (map shown_character cs) (shown_character x ∷ []) ∙ ap (λ l. shown_characters cs ++ l) (append-nil (encode_utf8 (shown_character x)))
+    ap encode_utf8_all (map-append shown_character cs (x ∷ [])) ∙ encodes-append (map shown_character cs) (shown_character x ∷ [])
+    ∙ ap (λ l. shown_characters cs ++ l) (append-nil (encode_utf8 (shown_character x)))
 
 -- one more of a list, behind what is shown already
 pub shown_next : (old now new : List ℕ) (cs : List ℕ) (i x : ℕ) → i < length cs → x ≡ get_or cs i x → now ≡ old ++ shown_characters (take i cs)

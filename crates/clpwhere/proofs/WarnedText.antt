@@ -5,7 +5,7 @@ use Rattle.std.proofs.lemmas.List.{take_more, map-append, get_or-map, length-map
 use Rattle.std.proofs.lemmas.List.Concat.{flat_map-append}
 use Rattle.term_pool.specs.Contents.{Contents}
 use Rattle.text_warnings.specs.Warnings as model
-use Rattle.text_warnings.specs.Seen.{warning_in}
+use Rattle.text_warnings.specs.WarningViews.{warning_in}
 use Rattle.text_warnings.specs.declared.Warning.{Warning}
 use Rattle.clpwhere.specs.Parts.{TextParts}
 use Rattle.clpwhere.specs.WarnedLines.{warned, warned_lines}

@@ -2,8 +2,8 @@
 use Rattle.std.specs.Prelude.{◌≡◌, ℕ, List, Some}
 use Rattle.fd_language.specs.Reading.{Reading, IsReading}
 use Rattle.fd_model.specs.Refusals.{refused_at}
-use Rattle.clpwhere.specs.declared.warn.Unread.{Unread}
-use Rattle.clpwhere.specs.declared.warn.Unread.TheVariants.{Refused, NoMemory}
+use Rattle.clpwhere.specs.declared.warnings.Unread.{Unread}
+use Rattle.clpwhere.specs.declared.warnings.Unread.TheVariants.{Refused, NoMemory}
 use Rattle.clpwhere.specs.WarnedLines.{reading_fault, IsUnread}
 
 -- the first fault of a text of characters, or want of memory

@@ -83,7 +83,8 @@ NeedsNoInput _ = Unit {0}
 abbrev pub WroteOutput : SinkState → SinkState → Status → Status → List ℕ → Type 0
 WroteOutput old new result status out = ((result ≡ status) × WroteAll old new out) ⊎ ((result ≡ WriteFault) × WroteFront old new out)
 
--- How a run ends that looks a text through for warnings: the output of the text was written whole, or a front of it with a write fault that was counted. For want of memory nothing was written.
+-- How a run ends that looks a text through for warnings: the output of the text was written whole, or a front of it with a write fault that was counted. For
+-- want of memory nothing was written.
 abbrev pub WarnEnds : TextParts → SinkState → SinkState → Status → Type 0
 WarnEnds text old new result =
     ((out : List ℕ) × (status : Status) × IsWarned text out status

@@ -1,6 +1,7 @@
 -- The place of a byte in a text: its line, its column, and what is shown of its line. Places count from 0, lines and columns from 1.
 -- A place past the text's end is the text's end.
-use Rattle.std.specs.Prelude.{ℕ, ◌+◌, ◌-◌, false, List, [], ◌++◌, length, take, drop, map, count_by, nat_lt, replicate, chars, encode_utf8_all, codes, if◌then◌else◌}
+use Rattle.std.specs.Prelude.{ℕ, ◌+◌, ◌-◌, false, List, [], ◌++◌, length, take, drop, map, count_by, nat_lt, replicate, chars, encode_utf8_all, codes}
+use Rattle.std.specs.Prelude.{if◌then◌else◌}
 use Rattle.std.specs.Char.{is_control}
 use Rattle.std.specs.List.{after_last, before_first}
 use Rattle.std.specs.Str.Lossy.{utf8_lossy}

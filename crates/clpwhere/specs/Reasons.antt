@@ -3,7 +3,9 @@ use Rattle.std.specs.Prelude.{ℕ, Bool, List, [], ◌∷◌, Option, find, nat_
 use Rattle.std.specs.List.{starts_with}
 use Rattle.std.specs.Str.{bytes_eq}
 use Rattle.clpwhere.specs.declared.reason.Reason.{Reason}
-use Rattle.clpwhere.specs.declared.reason.Reason.TheVariants.{TooLarge, NotUtf8, BadCharacter, OpenQuote, OpenComment, BadEscape, IntegerTooWide, FloatOut, StringOut, Syntax, TooDeep, ArityOver255, BadHead, Redefines, BadGoal, Unknown, NotARange, TooWide, NotMonotone, NotNatural, BadDivisor}
+use Rattle.clpwhere.specs.declared.reason.Reason.TheVariants.{TooLarge, NotUtf8, BadCharacter, OpenQuote, OpenComment, BadEscape, IntegerTooWide, FloatOut}
+use Rattle.clpwhere.specs.declared.reason.Reason.TheVariants.{StringOut, Syntax, TooDeep, ArityOver255, BadHead, Redefines, BadGoal, Unknown, NotARange}
+use Rattle.clpwhere.specs.declared.reason.Reason.TheVariants.{TooWide, NotMonotone, NotNatural, BadDivisor}
 
 -- how the reason is told; those of `Redefines` and `Unknown` have a name and a number of arguments behind these words
 abbrev pub reason_words : Reason → List ℕ

@@ -5,7 +5,7 @@ ghost use Rattle.byte_ports.specs.Ends.{ends, sink_at};
 ghost use Rattle.clpwhere.specs.Endings.{CopyEnds, Fed, IsOpen, Wrote};
 ghost use Rattle.clpwhere.specs.MarkedLines.{is_refused, marked};
 
-use crate::explain::put_line;
+use crate::explanations::put_line;
 use crate::outcome::Fault;
 use crate::text::NamedText;
 use byte_ports::{Sink, Source};

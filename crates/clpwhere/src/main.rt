@@ -9,19 +9,19 @@ ghost use Rattle.clpwhere.specs.Headline.{unreadable, Headline, NeedsNoInput};
 
 mod command;
 mod copy;
-mod explain;
+mod explanations;
 pub mod laws;
 mod outcome;
 mod reason;
 mod refusal;
 mod text;
-mod warn;
+mod warnings;
 
 pub use crate::command::{Asked, Wanted, read_wanted};
 use crate::copy::copy_input;
 pub use crate::outcome::Status;
 pub use crate::text::NamedText;
-pub use crate::warn::warn;
+pub use crate::warnings::warn;
 use byte_ports::{ReaderSource, Sink, Source, WriterSink, write_all};
 use fd_language::NoMemory;
 use std::alloc::Global;

@@ -1,5 +1,6 @@
 -- The same by the fields that the code reads and writes.
-use Rattle.std.proofs.Common.{◌≡◌, ℕ, zero, suc, ◌+◌, ◌-◌, ◌<◌, ◌≤◌, List, [], ◌∷◌, ◌++◌, length, take, drop, reverse, slice_range, slice_set, refl, ap, sym, ◌∙◌, subst, inl, inr, arith, get_or, length-append, length-take, length-drop}
+use Rattle.std.proofs.Common.{◌≡◌, ℕ, zero, suc, ◌+◌, ◌-◌, ◌<◌, ◌≤◌, List, [], ◌∷◌, ◌++◌, length, take, drop, reverse, slice_range, slice_set, refl, ap, sym}
+use Rattle.std.proofs.Common.{◌∙◌, subst, inl, inr, arith, get_or, length-append, length-take, length-drop}
 use Rattle.std.proofs.lemmas.Bool.{cases_lt}
 use Rattle.std.proofs.lemmas.List.{get_or_default}
 use Rattle.std.proofs.Math.Seq.{take-length}
@@ -8,8 +9,9 @@ use Rattle.code_areas.specs.declared.Mark.{Mark}
 use Rattle.code_areas.specs.Areas.{Held, Places, Contents}
 use Rattle.code_areas.specs.AreaFields.{Stack, no_frame, frame_at, returns_of, end_of, slots_of, points_of, seen, frames_kept, slots_kept, AreStored}
 use Rattle.code_areas.proofs.Levels.{frames_of, returns_next, slots_below, frames_below, room_there}
-use Rattle.code_areas.proofs.Dropping.{saved_left, many_dropped, saved_to, kept_marks}
-use Rattle.code_areas.proofs.Moving.{more_hold, put_holds, put_seen, set_holds, set_seen, cut_holds, cut_seen, cut_stays, moved_holds, moved_seen, call_holds, call_seen, push_holds, push_seen}
+use Rattle.code_areas.proofs.DroppedPoints.{saved_left, many_dropped, saved_to, kept_marks}
+use Rattle.code_areas.proofs.FrameSteps.{more_hold, put_holds, put_seen, set_holds, set_seen, cut_holds, cut_seen, cut_stays, moved_holds, moved_seen}
+use Rattle.code_areas.proofs.FrameSteps.{call_holds, call_seen, push_holds, push_seen}
 
 -- where there is a continuation, there is a newest frame
 pub some_newest : (slots : Places) (frames : List Frame) (newest : ℕ) → 0 < length (returns_of slots frames newest) → newest ≡ suc (newest - 1)
@@ -74,7 +76,11 @@ module _ (noted held r q floor : ℕ) (now saved : Places) (s : Stack) (ms : Lis
             let l3 : g.behind ≤ some = omega (arith, b, n) in
             let l4 : g.behind ≤ length s.frames = omega (arith, b, c) in
             let see = cut_seen noted now saved r q s ms a.holds most some g.start (g.end - g.start) g.behind kept m l1 l2 l3 l4 up q' more roomy in (
-              record { held_in = a.held_in; floor_is = a.floor_is; holds = cut_holds noted now saved r q s ms a.holds most some g.start (g.end - g.start) g.behind kept m l1 l2 l3 l4 up q' more roomy },
+              record {
+                held_in = a.held_in;
+                floor_is = a.floor_is;
+                holds = cut_holds noted now saved r q s ms a.holds most some g.start (g.end - g.start) g.behind kept m l1 l2 l3 l4 up q' more roomy;
+              },
               cut_stays noted now saved r q s ms a.holds most some g.start (g.end - g.start) g.behind kept m l1 l2 l3 l4 up q' more roomy,
               ap (returns_of s.slots s.frames) is
                   ∙ returns_next s.slots s.frames (length s.frames) (frames_of s a.holds.0 (length s.frames) (omega arith)) k in_range
@@ -83,18 +89,24 @@ module _ (noted held r q floor : ℕ) (now saved : Places) (s : Stack) (ms : Lis
 
   -- frames and slots that nothing needs are given back
   pub given_back : (most some : ℕ) → floor ≤ most → s.base + s.size ≤ most → frames_kept ms ≤ some → s.newest ≤ some
-      → AreStored held r q saved floor (record s { slots = take most s.slots; frames = take some s.frames }) ms × (seen noted now saved (record s { slots = take most s.slots; frames = take some s.frames }) ms ≡ old)
+      → AreStored held r q saved floor (record s { slots = take most s.slots; frames = take some s.frames }) ms
+      × (seen noted now saved (record s { slots = take most s.slots; frames = take some s.frames }) ms ≡ old)
   given_back most some i j m n =
       let z = a.floor_is in
       let kept : slots_kept ms ≤ most = omega (arith, i, z) in
       let l = a.holds.0 in
       let roomy = room_there ms r q saved s a.holds.1 in (
-        record { held_in = a.held_in; floor_is = a.floor_is; holds = cut_holds noted now saved r q s ms a.holds most some s.base s.size s.newest kept m j l.there n l.newest_in l.above q (omega arith) roomy },
+        record {
+          held_in = a.held_in;
+          floor_is = a.floor_is;
+          holds = cut_holds noted now saved r q s ms a.holds most some s.base s.size s.newest kept m j l.there n l.newest_in l.above q (omega arith) roomy;
+        },
         cut_seen noted now saved r q s ms a.holds most some s.base s.size s.newest kept m j l.there n l.newest_in l.above q (omega arith) roomy,
       )
 
   -- a call, whose end, place among the frames and length of all slots are what the code has read
-  module _ (to end n count : ℕ) (fs : List Frame) (e : end ≡ s.base + s.size) (x : fs ≡ s.frames ++ record { to = to; start = s.base; end = end; behind = s.newest } ∷ []) (i : count ≡ length fs) (j : n ≡ length s.slots) where
+  module _ (to end n count : ℕ) (fs : List Frame) (e : end ≡ s.base + s.size)
+      (x : fs ≡ s.frames ++ record { to = to; start = s.base; end = end; behind = s.newest } ∷ []) (i : count ≡ length fs) (j : n ≡ length s.slots) where
     abbrev went : ℕ → List Frame → ℕ → Stack
     went n fs count = record { slots = s.slots; base = n; size = 0; frames = fs; newest = count }
 
@@ -106,7 +118,9 @@ module _ (noted held r q floor : ℕ) (now saved : Places) (s : Stack) (ms : Lis
     pub call_made : Called n fs count
     call_made =
         let new : ℕ → List Frame = λ m. s.frames ++ record { to = to; start = s.base; end = m; behind = s.newest } ∷ [] in
-        let many : length (new (s.base + s.size)) ≡ suc (length s.frames) = (let k = length-append s.frames (record { to = to; start = s.base; end = s.base + s.size; behind = s.newest } ∷ []) in omega (arith, k)) in
+        let many : length (new (s.base + s.size)) ≡ suc
+        (length s.frames) = (let k = length-append s.frames (record { to = to; start = s.base; end = s.base + s.size; behind = s.newest } ∷ []) in
+        omega (arith, k)) in
         let one : Called (length s.slots) (new (s.base + s.size)) (suc (length s.frames)) = (
           record { held_in = a.held_in; floor_is = a.floor_is; holds = call_holds noted now saved r q s ms a.holds to },
           call_seen noted now saved r q s ms a.holds to,
@@ -129,7 +143,8 @@ module _ (noted held r q floor : ℕ) (now saved : Places) (s : Stack) (ms : Lis
 
   -- the current frame is moved down to `end`
   pub moved_down : (end : ℕ) → floor ≤ end → end_of s.frames s.newest ≤ end → end < s.base
-      → AreStored held r q saved floor (record s { slots = take end s.slots ++ drop s.base s.slots; base = end }) ms × (seen noted now saved (record s { slots = take end s.slots ++ drop s.base s.slots; base = end }) ms ≡ old)
+      → AreStored held r q saved floor (record s { slots = take end s.slots ++ drop s.base s.slots; base = end }) ms
+      × (seen noted now saved (record s { slots = take end s.slots ++ drop s.base s.slots; base = end }) ms ≡ old)
   moved_down end i j o =
       let z = a.floor_is in
       let kept : slots_kept ms ≤ end = omega (arith, i, z) in
@@ -140,7 +155,8 @@ module _ (noted held r q floor : ℕ) (now saved : Places) (s : Stack) (ms : Lis
 
   -- a slot is set that no mark keeps
   pub slot_set : floor ≤ s.base → (n : ℕ) (v : Held) → n < s.size
-      → AreStored held r q saved floor (record s { slots = slice_set s.slots (s.base + n) v }) ms × (seen noted now saved (record s { slots = slice_set s.slots (s.base + n) v }) ms ≡ record old { slots = slice_set (slots_of s) n v })
+      → AreStored held r q saved floor (record s { slots = slice_set s.slots (s.base + n) v }) ms
+      × (seen noted now saved (record s { slots = slice_set s.slots (s.base + n) v }) ms ≡ record old { slots = slice_set (slots_of s) n v })
   slot_set i n v l =
       let z = a.floor_is in
       let kept : slots_kept ms ≤ s.base = omega (arith, i, z) in (
@@ -153,7 +169,8 @@ module _ (noted held r q floor : ℕ) (now saved : Places) (s : Stack) (ms : Lis
   slots_many = let t = a.holds.0.there in let e = length-drop s.base s.slots in let f = length-take s.size (drop s.base s.slots) in omega (arith, t, e, f)
 
   -- the current frame ends
-  pub ended : (most : ℕ) → floor ≤ most → s.base ≤ most → AreStored held r q saved floor (record s { slots = take most s.slots; size = 0 }) ms × (seen noted now saved (record s { slots = take most s.slots; size = 0 }) ms ≡ record old { slots = [] })
+  pub ended : (most : ℕ) → floor ≤ most → s.base ≤ most → AreStored held r q saved floor (record s { slots = take most s.slots; size = 0 }) ms
+      × (seen noted now saved (record s { slots = take most s.slots; size = 0 }) ms ≡ record old { slots = [] })
   ended most i j =
       let z = a.floor_is in
       let l = a.holds.0 in
@@ -162,20 +179,29 @@ module _ (noted held r q floor : ℕ) (now saved : Places) (s : Stack) (ms : Lis
       let high = frames_below ms r q saved s a.holds.1 in
       let room = room_there ms r q saved s a.holds.1 in
       let none : s.base < slots_kept ms → length s.slots + 0 ≤ q = λ b. (let k = room b in omega (arith, k)) in
-      let hold = cut_holds noted now saved r q s ms a.holds most (length s.frames) s.base 0 s.newest kept high (omega (arith, j)) (omega (arith, t)) l.newest_in l.newest_in l.above q (omega arith) none in
-      let see = cut_seen noted now saved r q s ms a.holds most (length s.frames) s.base 0 s.newest kept high (omega (arith, j)) (omega (arith, t)) l.newest_in l.newest_in l.above q (omega arith) none in
-      let T : List Frame → Type 0 = λ fs. AreStored held r q saved floor (record s { slots = take most s.slots; size = 0; frames = fs }) ms × (seen noted now saved (record s { slots = take most s.slots; size = 0; frames = fs }) ms ≡ record old { slots = [] }) in
+      let hold = cut_holds noted now saved r q s ms a.holds most (length s.frames) s.base 0 s.newest kept high (omega (arith, j)) (omega (arith, t)) l.newest_in
+      l.newest_in l.above q (omega arith) none in
+      let see = cut_seen noted now saved r q s ms a.holds most (length s.frames) s.base 0 s.newest kept high (omega (arith, j)) (omega (arith, t)) l.newest_in
+      l.newest_in l.above q (omega arith) none in
+      let T : List Frame → Type 0 = λ fs. AreStored held r q saved floor (record s { slots = take most s.slots; size = 0; frames = fs }) ms
+      × (seen noted now saved (record s { slots = take most s.slots; size = 0; frames = fs }) ms ≡ record old { slots = [] }) in
       subst T (take-length s.frames) (record { held_in = a.held_in; floor_is = a.floor_is; holds = hold }, see)
 
   -- a choice point
-  pub push_made : (place q' : ℕ) → q ≤ q' → length s.slots + s.size ≤ q' → length now ≤ r → (first : ℕ) → first ≡ length saved → (n : ℕ) → n ≡ length s.slots → (m : ℕ) → m ≡ length s.frames → (xs : Places) → xs ≡ saved ++ now
+  pub push_made : (place q' : ℕ) → q ≤ q' → length s.slots + s.size ≤ q' → length now ≤ r → (first : ℕ) → first ≡ length saved → (n : ℕ) → n ≡ length s.slots
+      → (m : ℕ) → m ≡ length s.frames → (xs : Places) → xs ≡ saved ++ now
       → AreStored held r q' xs n s (record { place = place; first = first; base = s.base; size = s.size; slots = n; frames = m; newest = s.newest; noted = noted } ∷ ms)
       × (seen noted now xs s (record { place = place; first = first; base = s.base; size = s.size; slots = n; frames = m; newest = s.newest; noted = noted } ∷ ms)
       ≡ record old { points = record { place = place; registers = now; slots = slots_of s; returns = returns_of s.slots s.frames s.newest; noted = noted } ∷ points_of ms saved s.slots s.frames })
   push_made place q' more room fits first e n f m g xs x =
       let mark : ℕ → ℕ → ℕ → Mark = λ first n m. record { place = place; first = first; base = s.base; size = s.size; slots = n; frames = m; newest = s.newest; noted = noted } in
-      let T : ℕ → ℕ → ℕ → Places → Type 0 = λ first n m xs. AreStored held r q' xs n s (mark first n m ∷ ms) × (seen noted now xs s (mark first n m ∷ ms) ≡ record old { points = record { place = place; registers = now; slots = slots_of s; returns = returns_of s.slots s.frames s.newest; noted = noted } ∷ points_of ms saved s.slots s.frames }) in
-      subst (λ first. T first n m xs) (sym e) (subst (λ n. T (length saved) n m xs) (sym f) (subst (λ m. T (length saved) (length s.slots) m xs) (sym g) (subst (T (length saved) (length s.slots) (length s.frames)) (sym x) (
+      let T : ℕ → ℕ → ℕ → Places → Type 0 = λ first n m xs. AreStored held r q' xs n s (mark first n m ∷ ms)
+      × (seen noted now xs s (mark first n m ∷ ms) ≡ record old {
+        points = record { place = place; registers = now; slots = slots_of s; returns = returns_of s.slots s.frames s.newest; noted = noted } ∷ points_of ms
+            saved s.slots s.frames;
+      }) in
+      subst (λ first. T first n m xs) (sym e) (subst (λ n. T (length saved) n m xs) (sym f)
+      (subst (λ m. T (length saved) (length s.slots) m xs) (sym g) (subst (T (length saved) (length s.slots) (length s.frames)) (sym x) (
         record { held_in = a.held_in; floor_is = refl; holds = push_holds noted now saved r q s ms a.holds place q' more room fits },
         push_seen noted now saved r q s ms a.holds place q' more room fits,
       ))))
@@ -209,7 +235,8 @@ module _ (noted held r q floor : ℕ) (now saved : Places) (s : Stack) (ms : Lis
       → AreStored held r q' saved floor (record s { slots = ys; base = m }) ms
       × (seen noted now saved (record s { slots = ys; base = m }) ms ≡ record (seen noted now saved s ms) { slots = slice_set (slots_of s) n v })
   place_set q' e m ys n v l kept copied =
-      let T : ℕ → ℕ → Places → Type 0 = λ q m ys. AreStored held r q saved floor (record s { slots = ys; base = m }) ms × (seen noted now saved (record s { slots = ys; base = m }) ms ≡ record (seen noted now saved s ms) { slots = slice_set (slots_of s) n v }) in
+      let T : ℕ → ℕ → Places → Type 0 = λ q m ys. AreStored held r q saved floor (record s { slots = ys; base = m }) ms
+      × (seen noted now saved (record s { slots = ys; base = m }) ms ≡ record (seen noted now saved s ms) { slots = slice_set (slots_of s) n v }) in
       let one : T q m ys = elim (cases_lt s.base floor) [
         | inl b ↦ subst (T q m) (sym (copied b).1) (copy_set q (omega arith) (s.slots ++ slice_range s.slots s.base (s.base + s.size)) refl m (copied b).0 n v l)
         | inr b ↦ subst (T q m) (sym (kept b).1) (subst (λ m. T q m (slice_set s.slots (s.base + n) v)) (sym (kept b).0) (slot_set noted held r q floor now saved s ms a b n v l))
@@ -217,7 +244,8 @@ module _ (noted held r q floor : ℕ) (now saved : Places) (s : Stack) (ms : Lis
       subst (λ q. T q m ys) (sym e) one
 
 -- More registers, and more room for slots.
-pub more_stored : (held r q floor held' r' q' : ℕ) (saved : Places) (s : Stack) (ms : List Mark) → AreStored held r q saved floor s ms → held' ≤ r' → r ≤ r' → q ≤ q' → AreStored held' r' q' saved floor s ms
+pub more_stored : (held r q floor held' r' q' : ℕ) (saved : Places) (s : Stack) (ms : List Mark) → AreStored held r q saved floor s ms → held' ≤ r' → r ≤ r'
+    → q ≤ q' → AreStored held' r' q' saved floor s ms
 more_stored held r q floor held' r' q' saved s ms a i j k = record { held_in = i; floor_is = a.floor_is; holds = more_hold 0 [] saved r q s ms a.holds r' q' j k }
 
 -- Choice points are dropped down to the oldest k.
@@ -228,12 +256,14 @@ pub points_dropped : (noted held r q : ℕ) (now saved : Places) (s : Stack) (fl
 points_dropped noted held r q now saved s floor marks a k l d saved' e marks' f floor' g =
     let old : Contents = seen noted now saved s (reverse marks) in
     let j = length marks - k in
-    let T : Places → List Mark → Type 0 = λ left ns. AreStored held r q left (slots_kept ns) s ns × (seen noted now left s ns ≡ record old { points = drop j (points_of (reverse marks) saved s.slots s.frames) }) in
+    let T : Places → List Mark → Type 0 = λ left ns. AreStored held r q left (slots_kept ns) s ns
+    × (seen noted now left s ns ≡ record old { points = drop j (points_of (reverse marks) saved s.slots s.frames) }) in
     let all = many_dropped j r q saved s a.holds.0 (reverse marks) a.holds.1 in
     let one : T (saved_left j (reverse marks) saved) (drop j (reverse marks)) = (
       record { held_in = a.held_in; floor_is = refl; holds = (a.holds.0, all.0) },
       ap (λ x. record old { points = x }) all.1,
     ) in
     let low : k ≤ length marks = omega (arith, l) in
-    let two : T saved' (reverse marks') = subst (λ left. T left (reverse marks')) (saved_to k r q saved s marks a.holds.1 d l ∙ sym e) (subst (T (saved_left j (reverse marks) saved)) (sym (ap reverse f ∙ kept_marks k marks low)) one) in
+    let two : T saved' (reverse marks') = subst (λ left. T left (reverse marks')) (saved_to k r q saved s marks a.holds.1 d l ∙ sym e)
+    (subst (T (saved_left j (reverse marks) saved)) (sym (ap reverse f ∙ kept_marks k marks low)) one) in
     (record { held_in = a.held_in; floor_is = g; holds = two.0.holds }, two.1)

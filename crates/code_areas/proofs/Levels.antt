@@ -4,7 +4,8 @@ use Rattle.std.proofs.lemmas.List.{drop-take, take-take, get_or-take}
 use Rattle.code_areas.specs.declared.Frame.{Frame}
 use Rattle.code_areas.specs.declared.Mark.{Mark}
 use Rattle.code_areas.specs.Areas.{Places, Point, Return}
-use Rattle.code_areas.specs.AreaFields.{Stack, no_frame, frame_at, return_of, within, returns_of, end_of, kept_by, slots_of, points_of, seen, IsLevel, IsAbove, frames_kept, slots_kept, AreMarks}
+use Rattle.code_areas.specs.AreaFields.{Stack, no_frame, frame_at, return_of, within, returns_of, end_of, kept_by, slots_of, points_of, seen, IsLevel, IsAbove}
+use Rattle.code_areas.specs.AreaFields.{frames_kept, slots_kept, AreMarks}
 
 slice_is : (xs : Places) (a b : ℕ) → a ≤ b → slice_range xs a b ≡ drop a (take b xs)
 slice_is xs a b l = let e : a + (b - a) ≡ b = omega (arith, l) in sym (drop-take a (b - a) xs) ∙ ap (λ n. drop a (take n xs)) e
@@ -45,7 +46,8 @@ frames_of s l m n = record {
   rising = λ k i. l.rising k (omega (arith, i, n));
 }
 
-within_same : (xs ys : Places) (fs gs : List Frame) (n m : ℕ) → AreFrames fs m → take n xs ≡ take n ys → take m fs ≡ take m gs → (most k : ℕ) → k ≤ m → end_of fs k ≤ n → within xs fs most k ≡ within ys gs most k
+within_same : (xs ys : Places) (fs gs : List Frame) (n m : ℕ) → AreFrames fs m → take n xs ≡ take n ys → take m fs ≡ take m gs → (most k : ℕ) → k ≤ m
+    → end_of fs k ≤ n → within xs fs most k ≡ within ys gs most k
 within_same xs ys fs gs n m a e f zero k u v = refl
 within_same xs ys fs gs n m a e f (suc most) zero u v = refl
 within_same xs ys fs gs n m a e f (suc most) (suc k) u v =
@@ -59,7 +61,8 @@ within_same xs ys fs gs n m a e f (suc most) (suc k) u v =
     ∙ ap (λ (d : Frame). return_of ys d ∷ within ys gs most d.behind) (frame_same m fs gs f k l)
 
 -- continuations whose slots lie within what is the same
-pub returns_same : (xs ys : Places) (fs gs : List Frame) (n m : ℕ) → AreFrames fs m → take n xs ≡ take n ys → take m fs ≡ take m gs → (k : ℕ) → k ≤ m → end_of fs k ≤ n → returns_of xs fs k ≡ returns_of ys gs k
+pub returns_same : (xs ys : Places) (fs gs : List Frame) (n m : ℕ) → AreFrames fs m → take n xs ≡ take n ys → take m fs ≡ take m gs → (k : ℕ) → k ≤ m
+    → end_of fs k ≤ n → returns_of xs fs k ≡ returns_of ys gs k
 returns_same xs ys fs gs n m a e f k u v = within_same xs ys fs gs n m a e f k k u v
 
 within_more : (xs : Places) (fs : List Frame) (m : ℕ) → AreFrames fs m → (most some k : ℕ) → k ≤ most → k ≤ some → k ≤ m → within xs fs most k ≡ within xs fs some k
@@ -92,7 +95,13 @@ AboveNewest (m ∷ ms) registers room saved s = IsAbove m registers room saved s
 points_same : (ms : List Mark) (saved : Places) (s t : Stack) → SameBelow ms s t → points_of ms saved s.slots s.frames ≡ points_of ms saved t.slots t.frames
 points_same [] saved s t e = refl
 points_same (m ∷ ms) saved s t e =
-    let all : Places → List Frame → List Point = λ y z. record { place = m.place; registers = drop m.first saved; slots = take m.size (drop m.base y); returns = returns_of y z m.newest; noted = m.noted } ∷ points_of ms (take m.first saved) y z in
+    let all : Places → List Frame → List Point = λ y z. record {
+      place = m.place;
+      registers = drop m.first saved;
+      slots = take m.size (drop m.base y);
+      returns = returns_of y z m.newest;
+      noted = m.noted;
+    } ∷ points_of ms (take m.first saved) y z in
     ap (λ y. all y (take m.frames s.frames)) e.0 ∙ ap (all (take m.slots t.slots)) e.1
 
 marks_grow : (ms : List Mark) (r q r' q' : ℕ) (saved : Places) (s : Stack) → r ≤ r' → q ≤ q' → AreMarks ms r q saved s → AreMarks ms r' q' saved s
@@ -100,7 +109,14 @@ marks_grow [] r q r' q' saved s i j a = tt
 marks_grow (m ∷ ms) r q r' q' saved s i j a =
     let f = a.0.fitting in
     let g = a.0.again in (
-      record { saved_kept = a.0.saved_kept; slots_kept = a.0.slots_kept; frames_kept = a.0.frames_kept; fitting = omega (arith, f, i); roomy = λ b. (let k = a.0.roomy b in omega (arith, k, j)); again = omega (arith, g, j) },
+      record {
+        saved_kept = a.0.saved_kept;
+        slots_kept = a.0.slots_kept;
+        frames_kept = a.0.frames_kept;
+        fitting = omega (arith, f, i);
+        roomy = λ b. (let k = a.0.roomy b in omega (arith, k, j));
+        again = omega (arith, g, j);
+      },
       a.1,
       marks_grow ms r q r' q' (take m.first saved) (kept_by m s.slots s.frames) i j a.2,
     )

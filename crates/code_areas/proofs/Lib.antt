@@ -1,7 +1,7 @@
 mod Levels
-mod Moving
+mod FrameSteps
 mod Fields
-mod Putting
-mod Copying
-mod Counting
-mod Dropping
+mod RegisterCells
+mod CopiedPlaces
+mod PointCount
+mod DroppedPoints

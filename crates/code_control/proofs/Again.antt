@@ -8,21 +8,23 @@ use Rattle.wam_code.specs.declared.instruction.Code.{Code}
 use Rattle.wam_code.specs.declared.instruction.Code.TheVariants.{TryMeElse, RetryMeElse, TrustMe, Try, Retry, Trust}
 use Rattle.wam_code.specs.Area.{Area}
 use Rattle.code_areas.specs.Areas.{Point, Contents}
-use Rattle.code_states.specs.Choices.{point_of}
-use Rattle.code_states.specs.Safety.{IsThread, ArePoints, IsSafe, IsSafeBack}
-use Rattle.code_states.specs.declared.went.Went.TheVariants.{On}
-use Rattle.code_states.proofs.Lemmas.{points_kept, points_marked, thread_kept}
-use Rattle.code_control.specs.declared.choosing.Tried.TheVariants.{Both, Last, Other}
+use Rattle.code_safety.specs.Choices.{point_of}
+use Rattle.code_safety.specs.Safety.{IsThread, ArePoints, IsSafe, IsSafeBack}
+use Rattle.code_safety.specs.declared.instruction_outcomes.Went.TheVariants.{On}
+use Rattle.code_safety.proofs.Lemmas.{points_kept, points_marked, thread_kept}
+use Rattle.code_control.specs.declared.clause_selection.Tried.TheVariants.{Both, Last, Other}
 use Rattle.code_control.specs.Again.{KeptFor, KeepsPoint, IsBackAt, IsTaken, TriesAgain}
-use Rattle.code_control.specs.Choosing.{tried_by, first_of, IsTried, IsChoice, IsLater, LeavesOut, MayMatch, MayMatchFrom}
-use Rattle.code_control.proofs.Leading.{place_safe, place_falls, last_place, chooses_last, both_places, chooses_alone, point_safe, point_falls, chooses_point}
+use Rattle.code_control.specs.ClauseSelection.{tried_by, first_of, IsTried, IsChoice, IsLater, LeavesOut, MayMatch, MayMatchFrom}
+use Rattle.code_control.proofs.ChoiceSafety.{place_safe, place_falls, last_place, chooses_last, both_places, chooses_alone, point_safe, point_falls}
+use Rattle.code_control.proofs.ChoiceSafety.{chooses_point}
 use Rattle.code_control.proofs.Stages.{resumed_runs}
 use Rattle.code_control.proofs.Threads.{left_to, resumed_safe}
 
 -- ---- before the way back
 
 module _ (area : Area) (s : branch.State) (c : Contents) (safe : IsSafeBack area s c) where
-  newest_within : (ps : List Point) (hs : List Cells) → 0 < length ps → ArePoints area safe.states s ps hs → (at : ℕ) → ((p : Point) (qs : List Point) → ps ≡ p ∷ qs → at ≡ p.place) → at < length area.code
+  newest_within : (ps : List Point) (hs : List Cells) → 0 < length ps → ArePoints area safe.states s ps hs → (at : ℕ)
+      → ((p : Point) (qs : List Point) → ps ≡ p ∷ qs → at ≡ p.place) → at < length area.code
   newest_within [] hs l own at is = absurd (omega (arith, l))
   newest_within (p ∷ ps) [] l own at is = absurd own
   newest_within (p ∷ ps) (h ∷ hs) l own at is =
@@ -65,10 +67,16 @@ module _ (area : Area) (s : branch.State) (c : Contents) (ps : List Point) where
   same_none other out = λ marks shown name e b kids naming m. (let k = out marks shown name e b kids naming m in record { gone = k.gone; kept = k.kept; both = k.both; none = k.none; tries = k.tries })
 
   same_some : (other next : ℕ) → LeavesOut area (with_pair s) other more (Some next) → LeavesOut area s other c (Some next)
-  same_some other next out = λ marks shown name e b kids naming m. (let k = out marks shown name e b kids naming m in record { gone = k.gone; kept = k.kept; both = k.both; none = k.none; tries = k.tries })
+  same_some other next out = λ marks shown name e b kids naming m. (let k = out marks shown name e b kids naming m in
+      record { gone = k.gone; kept = k.kept; both = k.both; none = k.none; tries = k.tries })
 
   same_may : (at : ℕ) → MayMatch area (with_pair s) at more → MayMatch area s at c
-  same_may at (inl k) = inl (record { argument = k.argument; wanted = k.wanted; asks = k.asks; so = record { cell = k.so.cell; there = k.so.there; shown = k.so.shown; is_seen = k.so.is_seen; so = k.so.so } })
+  same_may at (inl k) = inl (record {
+    argument = k.argument;
+    wanted = k.wanted;
+    asks = k.asks;
+    so = record { cell = k.so.cell; there = k.so.there; shown = k.so.shown; is_seen = k.so.is_seen; so = k.so.so };
+  })
   same_may at (inr k) = inr k
 
   same_from : (at : ℕ) → MayMatchFrom area (with_pair s) at more → MayMatchFrom area s at c
@@ -118,8 +126,13 @@ module _ (area : Area) (s : branch.State) (c : Contents) (s1 : branch.State) (at
       verified = gone.safe.verified;
       atoms = gone.safe.atoms;
       sound = sound;
-      here = thread_kept area gone.safe.states s1 (with_pair s1) other 0 c1.registers c1.slots c1.returns (λ d own. own) (both_places area s1 at c1 gone.safe is.0 is.1 both_choice at same_later all_left to other is).1.0;
-      points = (thread_kept area gone.safe.states s1 (with_heap (with_pair s1) s1.heaps.now) at 0 c1.registers c1.slots c1.returns (λ d own. own) gone.safe.here, points_kept area gone.safe.states s1 (with_pair s1) refl c1.points s1.heaps.below gone.safe.points);
+      here = thread_kept area gone.safe.states s1 (with_pair s1) other 0 c1.registers c1.slots c1.returns (λ d own. own)
+          (both_places area s1 at c1 gone.safe is.0 is.1 both_choice at same_later all_left to other is).1.0;
+      points = (
+        thread_kept area gone.safe.states s1 (with_heap (with_pair s1) s1.heaps.now) at 0 c1.registers c1.slots c1.returns (λ d own. own)
+            gone.safe.here,
+        points_kept area gone.safe.states s1 (with_pair s1) refl c1.points s1.heaps.below gone.safe.points,
+      );
     }
 
     module _ (s' : branch.State) (c' : Contents) where
@@ -131,8 +144,10 @@ module _ (area : Area) (s : branch.State) (c : Contents) (s1 : branch.State) (at
       kept_again (Some next) left k =
           let out = same_some area s1 c1 pointed.points other next left in
           let may = same_from area s1 c1 pointed.points next k.1 in
-          let goes : IsThread area gone.safe.states s1 next 0 c1.registers c1.slots c1.returns = thread_kept area gone.safe.states (with_pair s1) s1 next 0 c1.registers c1.slots c1.returns (λ d own. own) (k.0.goes other_safe) in
-          again (left_to (λ s to a. IsTaken area s1 at c1 s a (On to)) (with_pair s1) s' to to (record c1 { points = point_of c1 next ∷ c1.points }) c' k.2 refl (k.3 (point_of c1 at) c1.points refl) (record {
+          let goes : IsThread area gone.safe.states s1 next 0 c1.registers c1.slots c1.returns = thread_kept area gone.safe.states (with_pair s1) s1 next 0
+          c1.registers c1.slots c1.returns (λ d own. own) (k.0.goes other_safe) in
+          again (left_to (λ s to a. IsTaken area s1 at c1 s a (On to)) (with_pair s1) s' to to (record c1 { points = point_of c1 next ∷ c1.points }) c' k.2 refl
+          (k.3 (point_of c1 at) c1.points refl) (record {
             safe = point_safe area s1 at c1 gone.safe is.0 is.1 both_choice at same_later all_left to other is next out goes k.0.near k.0.inside sound;
             chooses = chooses_point area s1 at c1 gone.safe is.0 is.1 both_choice at same_later all_left to other is next out goes k.0.near k.0.inside may;
             falls = point_falls area s1 at c1 gone.safe is.0 is.1 both_choice at same_later all_left to other is next out goes k.0.near k.0.inside;

@@ -8,9 +8,9 @@ use Rattle.wam_code.specs.Area.{Area, Holds}
 use Rattle.wam_code.specs.VerifiedCode.{named, goes_on}
 use Rattle.wam_code.proofs.Lemmas.{executes_outside}
 use Rattle.code_areas.specs.Areas.{Places, Return, Contents}
-use Rattle.code_states.specs.Queries.{EndsIn, KeepsQuery}
-use Rattle.code_states.specs.Safety.{IsSafe}
-use Rattle.code_states.proofs.Lemmas.{next_inside, named_inside, query_kept}
+use Rattle.code_safety.specs.Queries.{EndsIn, KeepsQuery}
+use Rattle.code_safety.specs.Safety.{IsSafe}
+use Rattle.code_safety.proofs.Lemmas.{next_inside, named_inside, query_kept}
 use Rattle.code_control.proofs.Threads.{continued}
 
 module _ (area : Area) (s : branch.State) (at : ℕ) (c : Contents) (safe : IsSafe area s at 0 c) where
@@ -22,7 +22,8 @@ module _ (area : Area) (s : branch.State) (at : ℕ) (c : Contents) (safe : IsSa
   named_query i holds to names = query_kept area at to c (named_inside area s at 0 c safe i holds to names)
 
   -- A call comes back to the next place.
-  pub call_query : (n : ℕ) → Holds area at (Call n) → (to : ℕ) (registers : Places) → KeepsQuery area at c to (record c { registers = registers; slots = []; returns = record { to = suc at; slots = c.slots } ∷ c.returns })
+  pub call_query : (n : ℕ) → Holds area at (Call n) → (to : ℕ) (registers : Places)
+      → KeepsQuery area at c to (record c { registers = registers; slots = []; returns = record { to = suc at; slots = c.slots } ∷ c.returns })
   call_query n holds to registers = next_query (Call n) holds refl
 
   -- The last call of a clause comes back where the clause would.

@@ -6,26 +6,28 @@ use Rattle.fd_language.specs.Range.{Indexical}
 use Rattle.fd_model.specs.Goal.{Branch}
 use Rattle.fd_model.specs.Levels.{Level}
 use Rattle.heap_cells.specs.Cells.{Cells}
-use Rattle.machine_relation.specs.Ahead.{oldest, Spends}
+use Rattle.branch_meaning.specs.RemainingEvents.{oldest, Spends}
 use Rattle.branch_state.specs.States as branch
 use Rattle.branch_state.specs.States.{IsSound, IsUndone, with_pair, without_pairs}
 use Rattle.wam_code.specs.declared.instruction.Code.{Code}
 use Rattle.wam_code.specs.declared.instruction.Code.TheVariants as code
-use Rattle.wam_code.specs.declared.instruction.Code.TheVariants.{Allocate, Deallocate, Call, Execute, Proceed, Jump, FailNow, Either, TestOnly, EnterTest, CutTo}
+use Rattle.wam_code.specs.declared.instruction.Code.TheVariants.{Allocate, Deallocate, Call, Execute, Proceed, Jump, FailNow, Either, TestOnly, EnterTest}
+use Rattle.wam_code.specs.declared.instruction.Code.TheVariants.{CutTo}
 use Rattle.wam_code.specs.declared.parts.Entry.{Entry}
 use Rattle.wam_code.specs.Area.{Area, Holds, HasEntry}
 use Rattle.code_areas.specs.Areas.{Places, nothing_held, cell_of, cell_at, Return, Point, Contents}
-use Rattle.code_steps.specs.Registers.{Registers, Saved, AreSameTo}
-use Rattle.code_steps.specs.Standing.{Stands}
-use Rattle.code_steps.specs.Trying.{IsTrying, IsFirst, IsChoice}
-use Rattle.code_steps.specs.Running.{Left, resume, Choice, Runs, Returns}
-use Rattle.code_steps.proofs.Lemmas.{run_call, run_execute, run_either, run_test, run_enter, run_cut, step_level, runs_jump, runs_on, runs_tries, runs_over, back_resumes, step_allocate, step_deallocate, step_proceed, step_fail}
-use Rattle.code_states.specs.Machine.{IsSlot, slot_cell, slot_level, registers_of, saved_of, stack_of}
-use Rattle.code_states.specs.Standing.{IsNaming}
-use Rattle.code_states.specs.Choices.{point_of, choice_of, choices_of, choices_in}
-use Rattle.code_states.specs.Safety.{IsSafe}
-use Rattle.code_states.specs.Stages.{Task, KeepsRunning, GoesBack, Resumes, Calls, SplitsAt, TestsAt, CutsAt}
-use Rattle.code_states.proofs.Lemmas.{sound_model, choices_many, choices_left, leveled, leveled_marks}
+use Rattle.code_meaning.specs.Registers.{Registers, Saved, AreSameTo}
+use Rattle.code_meaning.specs.StateMeaning.{Stands}
+use Rattle.code_meaning.specs.ClauseChoices.{IsTrying, IsFirst, IsChoice}
+use Rattle.code_meaning.specs.MachineStates.{Left, resume, Choice, Runs, Returns}
+use Rattle.code_meaning.proofs.Lemmas.{run_call, run_execute, run_either, run_test, run_enter, run_cut, step_level, runs_jump, runs_on, runs_tries, runs_over}
+use Rattle.code_meaning.proofs.Lemmas.{back_resumes, step_allocate, step_deallocate, step_proceed, step_fail}
+use Rattle.code_safety.specs.Machine.{IsSlot, slot_cell, slot_level, registers_of, saved_of, stack_of}
+use Rattle.code_safety.specs.RepresentedBranch.{IsNaming}
+use Rattle.code_safety.specs.Choices.{point_of, choice_of, choices_of, choices_in}
+use Rattle.code_safety.specs.Safety.{IsSafe}
+use Rattle.code_safety.specs.RemainingEvents.{Task, KeepsRunning, GoesBack, Resumes, Calls, SplitsAt, TestsAt, CutsAt}
+use Rattle.code_safety.proofs.Lemmas.{sound_model, choices_many, choices_left, leveled, leveled_marks}
 
 module _ (area : Area) (s : branch.State) (at : ℕ) (c : Contents) where
   abbrev h : Cells
@@ -46,16 +48,21 @@ module _ (area : Area) (s : branch.State) (at : ℕ) (c : Contents) where
 
   -- an instruction of a clause, on whatever branch it is
   inside : (i : Code) → IsFirst i → Holds area at i → (to : ℕ) (slots : Places) (returns : List Return)
-      → ((marks : List ℕ) (t : Task) (b : Branch) → Stands INFINITY s.infinity marks area t.query.shown t.name h qs at regs stack b → Stands INFINITY s.infinity marks area t.query.shown t.name h qs to (with_slots slots) (map saved_of returns) b)
+      → ((marks : List ℕ) (t : Task) (b : Branch) → Stands INFINITY s.infinity marks area t.query.shown t.name h qs at regs stack b
+      → Stands INFINITY s.infinity marks area t.query.shown t.name h qs to (with_slots slots) (map saved_of returns) b)
       → KeepsRunning area s at c s to (record c { slots = slots; returns = returns })
   inside i first f to slots returns step t ls u naming m =
-      runs_on INFINITY s.infinity area t.program t.query t.name u.budget u.answers u.events u.reductions h qs at regs stack (choices_in s c ls) m i first f h qs to (with_slots slots) (map saved_of returns) (λ marks. step marks t)
+      runs_on INFINITY s.infinity area t.program t.query t.name u.budget u.answers u.events u.reductions h qs at regs stack (choices_in s c ls) m i first f h qs
+      to (with_slots slots) (map saved_of returns) (λ marks. step marks t)
 
   pub allocate_runs : (n : ℕ) → Holds area at (Allocate n) → KeepsRunning area s at c s (suc at) (record c { slots = replicate n nothing_held })
-  allocate_runs n f = inside (Allocate n) tt f (suc at) (replicate n nothing_held) c.returns (λ marks t b m. step_allocate INFINITY s.infinity marks area t.query.shown t.name h qs at regs stack b m n f (with_slots (replicate n nothing_held)) (λ k. refl) refl)
+  allocate_runs n f = inside (Allocate n) tt f (suc at) (replicate n nothing_held) c.returns
+      (λ marks t b m. step_allocate INFINITY s.infinity marks area t.query.shown t.name h qs at regs stack b m n f (with_slots (replicate n nothing_held))
+      (λ k. refl) refl)
 
   pub deallocate_runs : Holds area at Deallocate → KeepsRunning area s at c s (suc at) (record c { slots = [] })
-  deallocate_runs f = inside Deallocate tt f (suc at) [] c.returns (λ marks t b m. step_deallocate INFINITY s.infinity marks area t.query.shown t.name h qs at regs stack b m f (with_slots []) (λ k. refl) refl)
+  deallocate_runs f = inside Deallocate tt f (suc at) [] c.returns
+      (λ marks t b m. step_deallocate INFINITY s.infinity marks area t.query.shown t.name h qs at regs stack b m f (with_slots []) (λ k. refl) refl)
 
   pub proceed_runs : Holds area at Proceed → (r : Return) (later : List Return) → c.returns ≡ r ∷ later → KeepsRunning area s at c s r.to (record c { slots = r.slots; returns = later })
   proceed_runs f r later is = inside Proceed tt f r.to r.slots later (λ marks t b m.
@@ -80,12 +87,16 @@ module _ (area : Area) (s : branch.State) (at : ℕ) (c : Contents) where
     pub call_runs : (n : ℕ) → Holds area at (Call n) → (e : Entry) → HasEntry area n e
         → Calls area s at c s e.at (record c { registers = take (e.arity + 1) c.registers; slots = []; returns = record { to = suc at; slots = c.slots } ∷ c.returns; noted = length c.points })
     call_runs n f e there t ls budget k es r ready long m =
-        run_call INFINITY s.infinity area t.program t.query t.name h qs at regs stack (choices_in s c ls) k es r ready.stands ready.scoped ready.runnable budget (sound_model s safe.sound) m n f e there
-        (record { x = cell_at (take (e.arity + 1) c.registers); y = slot_cell []; levels = slot_level []; noted = length c.points }) (kept_same e) (many ls long) (slot_cell c.slots) (λ i. refl) (slot_level c.slots) (λ i. refl)
+        run_call INFINITY s.infinity area t.program t.query t.name h qs at regs stack (choices_in s c ls) k es r ready.stands ready.scoped ready.runnable budget
+        (sound_model s safe.sound) m n f e there
+        (record { x = cell_at (take (e.arity + 1) c.registers); y = slot_cell []; levels = slot_level []; noted = length c.points }) (kept_same e)
+        (many ls long) (slot_cell c.slots) (λ i. refl) (slot_level c.slots) (λ i. refl)
 
-    pub execute_runs : (n : ℕ) → Holds area at (Execute n) → (e : Entry) → HasEntry area n e → Calls area s at c s e.at (record c { registers = take (e.arity + 1) c.registers; noted = length c.points })
+    pub execute_runs : (n : ℕ) → Holds area at (Execute n) → (e : Entry) → HasEntry area n e
+        → Calls area s at c s e.at (record c { registers = take (e.arity + 1) c.registers; noted = length c.points })
     execute_runs n f e there t ls budget k es r ready long m =
-        run_execute INFINITY s.infinity area t.program t.query t.name h qs at regs stack (choices_in s c ls) k es r ready.stands ready.scoped ready.runnable budget (sound_model s safe.sound) m n f e there
+        run_execute INFINITY s.infinity area t.program t.query t.name h qs at regs stack (choices_in s c ls) k es r ready.stands ready.scoped ready.runnable
+        budget (sound_model s safe.sound) m n f e there
         (record { x = cell_at (take (e.arity + 1) c.registers); y = regs.y; levels = regs.levels; noted = length c.points }) (kept_same e) (many ls long)
 
     -- ---- tests and cuts
@@ -108,8 +119,10 @@ module _ (area : Area) (s : branch.State) (at : ℕ) (c : Contents) where
     abbrev dropped : ℕ → ℕ
     dropped kept = length c.points - kept
 
-    pub cut_runs : (n kept : ℕ) → Holds area at (CutTo n) → slot_level c.slots n ≡ Some kept → CutsAt area s at c (without_pairs s (dropped kept)) (suc at) (record c { points = drop (dropped kept) c.points })
-    cut_runs n kept f there t ls budget k es r ready long m = subst (λ cs. Spends (λ later j. Runs INFINITY s.infinity area t.program t.query t.name h qs (suc at) regs stack cs budget k later j) [] es r) left cut
+    pub cut_runs : (n kept : ℕ) → Holds area at (CutTo n) → slot_level c.slots n ≡ Some kept
+        → CutsAt area s at c (without_pairs s (dropped kept)) (suc at) (record c { points = drop (dropped kept) c.points })
+    cut_runs n kept f there t ls budget k es r ready long m = subst
+        (λ cs. Spends (λ later j. Runs INFINITY s.infinity area t.program t.query t.name h qs (suc at) regs stack cs budget k later j) [] es r) left cut
       where
         cut : Spends (λ later j. Runs INFINITY s.infinity area t.program t.query t.name h qs (suc at) regs stack (oldest kept (choices_in s c ls)) budget k later j) [] es r
         cut = run_cut INFINITY s.infinity area t.program t.query t.name h qs at regs stack (choices_in s c ls) k es r ready.runnable budget (sound_model s safe.sound) m n f kept there
@@ -131,14 +144,17 @@ module _ (area : Area) (s : branch.State) (at : ℕ) (c : Contents) where
     Trying marks t to e b kids = IsTrying INFINITY s.infinity marks area t.query.shown t.name h qs to e regs stack b kids
 
     -- clauses at one place
-    pub tries : (to : ℕ) → ((marks : List ℕ) (t : Task) → IsNaming area t.name → (e : Entry) (b : Branch) (kids : List Branch) → Trying marks t at e b kids → Trying marks t to e b kids) → KeepsRunning area s at c s to c
+    pub tries : (to : ℕ) → ((marks : List ℕ) (t : Task) → IsNaming area t.name → (e : Entry) (b : Branch) (kids : List Branch) → Trying marks t at e b kids
+        → Trying marks t to e b kids) → KeepsRunning area s at c s to c
     tries to step t ls u naming m =
-        runs_tries INFINITY s.infinity area t.program t.query t.name u.budget u.answers u.events u.reductions h qs at regs stack (choices_in s c ls) m i choice f to (λ marks e b k. step marks t naming e b m.first k)
+        runs_tries INFINITY s.infinity area t.program t.query t.name u.budget u.answers u.events u.reductions h qs at regs stack (choices_in s c ls) m i choice
+        f to (λ marks e b k. step marks t naming e b m.first k)
 
     -- or at none
     pub over : ((marks : List ℕ) (t : Task) → IsNaming area t.name → (e : Entry) (b : Branch) (kids : List Branch) → Trying marks t at e b kids → kids ≡ []) → GoesBack area s at c s c
     over none t ls u naming m =
-        runs_over INFINITY s.infinity area t.program t.query t.name u.budget u.answers u.events u.reductions h qs at regs stack (choices_in s c ls) m i choice f (λ marks e b k. none marks t naming e b m.first k)
+        runs_over INFINITY s.infinity area t.program t.query t.name u.budget u.answers u.events u.reductions h qs at regs stack (choices_in s c ls) m i choice f
+        (λ marks e b k. none marks t naming e b m.first k)
 
   pub fail_runs : Holds area at FailNow → GoesBack area s at c s c
   fail_runs f = over FailNow tt f (λ marks t naming e b kids m. step_fail INFINITY s.infinity marks area t.query.shown t.name h qs at e regs stack b kids m f)
@@ -157,6 +173,8 @@ module _ (area : Area) (s s' : branch.State) (c c' : Contents) (to : ℕ) (some 
 
   pub resumed_runs : Resumes area s c s' to c'
   resumed_runs t ls u m =
-      subst (λ N. Runs INFINITY N area t.program t.query t.name s'.heaps.now s'.levels.current.posted to (registers_of c') (stack_of c') (choices_in s' c' ls) u.budget u.answers u.events u.reductions) (sym undone.infinity)
-      (back_resumes INFINITY s.infinity area t.program t.query t.name u.budget u.answers u.events u.reductions to s'.heaps.now s'.levels.current.posted (registers_of c') (stack_of c') (choices_in s' c' ls)
+      subst (λ N. Runs INFINITY N area t.program t.query t.name s'.heaps.now s'.levels.current.posted to (registers_of c') (stack_of c') (choices_in s' c' ls)
+      u.budget u.answers u.events u.reductions) (sym undone.infinity)
+      (back_resumes INFINITY s.infinity area t.program t.query t.name u.budget u.answers u.events u.reductions to s'.heaps.now s'.levels.current.posted
+      (registers_of c') (stack_of c') (choices_in s' c' ls)
       (subst (λ cs. Returns INFINITY s.infinity area t.program t.query t.name cs u.budget u.answers u.events u.reductions) (newest_is (resume to) ls) m))

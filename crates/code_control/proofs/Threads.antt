@@ -1,5 +1,6 @@
 -- Where an instruction leads it is safe to go on.
-use Rattle.std.proofs.Common.{◌≡◌, ℕ, zero, suc, ◌+◌, ◌<◌, Bool, true, ◌&&◌, IsTrue, List, [], ◌∷◌, length, take, Option, Some, None, Result, Ok, Err, IfOk, slice_get, replicate, refl, ap, sym, ◌∙◌, subst, arith}
+use Rattle.std.proofs.Common.{◌≡◌, ℕ, zero, suc, ◌+◌, ◌<◌, Bool, true, ◌&&◌, IsTrue, List, [], ◌∷◌, length, take, Option, Some, None, Result, Ok, Err, IfOk}
+use Rattle.std.proofs.Common.{slice_get, replicate, refl, ap, sym, ◌∙◌, subst, arith}
 use Rattle.std.proofs.lemmas.Bool.{true≢false, and_parts}
 use Rattle.std.proofs.lemmas.List.{length-replicate, get_or-take}
 use Rattle.std.proofs.lemmas.Option.{none-some, same_Some}
@@ -13,13 +14,13 @@ use Rattle.wam_code.specs.declared.instruction.Code.TheVariants.{Allocate, Deall
 use Rattle.wam_code.specs.declared.parts.Entry.{Entry}
 use Rattle.wam_code.specs.Area.{Slot, Unset, Cell, Level, State, Area, Holds, HasEntry}
 use Rattle.wam_code.specs.Effect.{are_given, are_set, has_frame, no_frame, when, plain_effect, effect_by}
-use Rattle.wam_code.specs.Reaching.{IsOutside}
+use Rattle.wam_code.specs.CodeRegions.{IsOutside}
 use Rattle.wam_code.specs.VerifiedCode.{named, goes_on, Names, HandedTo, Leads, IsVerifiedBy}
 use Rattle.wam_code.proofs.Lemmas.{names_outside, entry_outside, returns_outside, executes_outside, entry_covered}
 use Rattle.code_areas.specs.Areas.{nothing_held, Places, cell_of, cell_at, IsSet, Return, Contents}
-use Rattle.code_states.specs.Safety.{HasSlots, Fits, AreOwn, IsReached, AreReturns, AreBehind, IsThread, ArePoints, IsSafe, IsSafeBack}
-use Rattle.code_states.specs.Choices.{point_of}
-use Rattle.code_states.proofs.Lemmas.{points_marked, when_parts, some_is, fits_less, thread_kept, same_atoms, points_kept, behind_on as behind_next}
+use Rattle.code_safety.specs.Safety.{HasSlots, Fits, AreOwn, IsReached, AreReturns, AreBehind, IsThread, ArePoints, IsSafe, IsSafeBack}
+use Rattle.code_safety.specs.Choices.{point_of}
+use Rattle.code_safety.proofs.Lemmas.{points_marked, when_parts, some_is, fits_less, thread_kept, same_atoms, points_kept, behind_on as behind_next}
 
 pub sound_below : (s : branch.State) → IsSound s → IsSoundBelow s
 sound_below s o = record { greatest = o.greatest; unspent = o.unspent; marked = o.marked; below = o.below }
@@ -92,16 +93,27 @@ module _ (area : Area) (s : branch.State) (at : ℕ) (c : Contents) (safe : IsSa
     atoms = safe.atoms;
     sound = sound;
     here = thread_kept area safe.states s (with_pair s) to 0 c.registers slots c.returns (λ d own. own) t;
-    points = (thread_kept area safe.states s (with_heap (with_pair s) s.heaps.now) other 0 c.registers slots c.returns (λ d own. own) o, points_kept area safe.states s (with_pair s) refl c.points s.heaps.below safe.points);
+    points = (
+      thread_kept area safe.states s (with_heap (with_pair s) s.heaps.now) other 0 c.registers slots c.returns (λ d own. own) o,
+      points_kept area safe.states s (with_pair s) refl c.points s.heaps.below safe.points,
+    );
   }
 
   -- and with the same ones
-  pub left_safe : (to other : ℕ) → Goes to c.registers c.slots c.returns → Goes other c.registers c.slots c.returns → IsSound (with_pair s) → IsSafe area (with_pair s) to 0 (record c { points = point_of c other ∷ c.points })
+  pub left_safe : (to other : ℕ) → Goes to c.registers c.slots c.returns → Goes other c.registers c.slots c.returns → IsSound (with_pair s)
+      → IsSafe area (with_pair s) to 0 (record c { points = point_of c other ∷ c.points })
   left_safe to other t o sound = left_with to other c.slots t o sound
 
   -- other registers, slots and continuations
   other_safe : (to : ℕ) (c' : Contents) → c'.points ≡ c.points → Goes to c'.registers c'.slots c'.returns → IsSafe area s to 0 c'
-  other_safe to c' same t = record { states = safe.states; verified = safe.verified; atoms = safe.atoms; sound = safe.sound; here = t; points = subst (λ ps. ArePoints area safe.states s ps s.heaps.below) (sym same) safe.points }
+  other_safe to c' same t = record {
+    states = safe.states;
+    verified = safe.verified;
+    atoms = safe.atoms;
+    sound = safe.sound;
+    here = t;
+    points = subst (λ ps. ArePoints area safe.states s ps s.heaps.below) (sym same) safe.points;
+  }
 
   no_cells : AreOwn s []
   no_cells n d e = absurd (none-some d e)
@@ -152,12 +164,14 @@ module _ (area : Area) (s : branch.State) (at : ℕ) (c : Contents) (safe : IsSa
   pub first_set : (i : Code) → Holds area at i → plain_effect area.entries i state ≡ when (has state.regs 1) state → IsSet c.registers 1
   first_set i holds is = fits.set 1 (needed i holds (has state.regs 1) state is).0
 
-  pub switch_thread : (i : Code) → Holds area at i → plain_effect area.entries i state ≡ when (has state.regs 1) state → (to : ℕ) → IsTrue (has (named area i) to) → Goes to c.registers c.slots c.returns
+  pub switch_thread : (i : Code) → Holds area at i → plain_effect area.entries i state ≡ when (has state.regs 1) state → (to : ℕ)
+      → IsTrue (has (named area i) to) → Goes to c.registers c.slots c.returns
   switch_thread i holds is to n = named_thread i holds (is ∙ ap (λ b. when b state) (needed i holds (has state.regs 1) state is).0) to n
 
   -- ---- frames
 
-  pub slots_safe : (i : Code) (holds : Holds area at i) (handed : State) → HandedTo safe.states handed (suc at) → handed.owed ≡ 0 → IsTrue (goes_on i) → (slots : Places) → Fits handed c.registers slots → AreOwn s slots → IsSafe area s (suc at) 0 (record c { slots = slots })
+  pub slots_safe : (i : Code) (holds : Holds area at i) (handed : State) → HandedTo safe.states handed (suc at) → handed.owed ≡ 0 → IsTrue (goes_on i)
+      → (slots : Places) → Fits handed c.registers slots → AreOwn s slots → IsSafe area s (suc at) 0 (record c { slots = slots })
   slots_safe i holds given h owes on slots f own = other_safe (suc at) (record c { slots = slots }) refl (record {
     reached = reached_by safe.states given (suc at) c.registers slots h owes f;
     registers_own = safe.here.registers_own;
@@ -216,7 +230,13 @@ module _ (area : Area) (s : branch.State) (at : ℕ) (c : Contents) (safe : IsSa
         };
       }
 
-  pub call_safe : (n : ℕ) → Holds area at (Call n) → (e : Entry) → HasEntry area n e → IsSafe area s e.at 0 (record c { registers = kept e; slots = []; returns = record { to = suc at; slots = c.slots } ∷ c.returns; noted = length c.points })
+  pub call_safe : (n : ℕ) → Holds area at (Call n) → (e : Entry) → HasEntry area n e
+      → IsSafe area s e.at 0 (record c {
+        registers = kept e;
+        slots = [];
+        returns = record { to = suc at; slots = c.slots } ∷ c.returns;
+        noted = length c.points;
+      })
   call_safe n holds e there =
       let bare : State = record state { regs = [] } in
       let need : Bool = has_frame state.frame && are_given state (slice_get area.entries n) in
@@ -226,7 +246,8 @@ module _ (area : Area) (s : branch.State) (at : ℕ) (c : Contents) (safe : IsSa
         registers_own = kept_own e;
         slots_own = no_cells;
         returns_own = (
-          reached_by safe.states bare (suc at) [] c.slots (handed_on (Call n) holds need bare refl refl) safe.here.reached.owes (record { set = λ k i. absurd (true≢false (sym i)); frame = fits.frame }),
+          reached_by safe.states bare (suc at) [] c.slots (handed_on (Call n) holds need bare refl refl) safe.here.reached.owes
+              (record { set = λ k i. absurd (true≢false (sym i)); frame = fits.frame }),
           safe.here.slots_own,
           safe.here.returns_own,
         );
@@ -271,7 +292,8 @@ module _ (area : Area) (s : branch.State) (at : ℕ) (c : Contents) (safe : IsSa
 -- ---- back to the newest choice point
 
 module _ (area : Area) (s s' : branch.State) (c c' : Contents) (to : ℕ) (safe : IsSafeBack area s c) (some : c.points ≡ point_of c' to ∷ c'.points) where
-  parts_of : (hs : List Cells) → ArePoints area safe.states s (point_of c' to ∷ c'.points) hs → (h : Cells) (later : List Cells) → hs ≡ h ∷ later → IsThread area safe.states (with_heap s h) to 0 c'.registers c'.slots c'.returns × ArePoints area safe.states s c'.points later
+  parts_of : (hs : List Cells) → ArePoints area safe.states s (point_of c' to ∷ c'.points) hs → (h : Cells) (later : List Cells) → hs ≡ h ∷ later
+      → IsThread area safe.states (with_heap s h) to 0 c'.registers c'.slots c'.returns × ArePoints area safe.states s c'.points later
   parts_of hs own h later is = subst (λ l. ArePoints area safe.states s (point_of c' to ∷ c'.points) l) is own
 
   pub resumed_safe : IsUndone s s' → IsSound s' → IsSafe area s' to 0 c'

@@ -4,13 +4,13 @@ use Rattle.branch_state.specs.States as branch
 use Rattle.branch_state.specs.States.{IsSound, IsUndone, with_pair, without_pairs}
 use Rattle.wam_code.specs.Area.{Area}
 use Rattle.code_areas.specs.Areas.{Point, Contents}
-use Rattle.code_states.specs.Choices.{point_of}
-use Rattle.code_states.specs.Safety.{IsSafe, IsSafeThen}
-use Rattle.code_states.specs.Stages.{Resumes}
-use Rattle.code_states.specs.Work.{work_at, work_then}
-use Rattle.code_states.specs.declared.went.Went.{Went}
-use Rattle.code_states.specs.declared.went.Went.TheVariants.{On}
-use Rattle.code_control.specs.Choosing.{MayMatchFrom, IsLater, LeavesOut, Chooses}
+use Rattle.code_safety.specs.Choices.{point_of}
+use Rattle.code_safety.specs.Safety.{IsSafe, IsSafeThen}
+use Rattle.code_safety.specs.RemainingEvents.{Resumes}
+use Rattle.code_safety.specs.Work.{work_at, work_then}
+use Rattle.code_safety.specs.declared.instruction_outcomes.Went.{Went}
+use Rattle.code_safety.specs.declared.instruction_outcomes.Went.TheVariants.{On}
+use Rattle.code_control.specs.ClauseSelection.{MayMatchFrom, IsLater, LeavesOut, Chooses}
 
 -- The pair below is the current one, and a copy of it stays below.
 pub record IsUndoneAgain (old new : branch.State) : Type 0 where

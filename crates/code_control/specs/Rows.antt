@@ -6,8 +6,8 @@ use Rattle.wam_code.specs.declared.instruction.Key.{Key}
 use Rattle.wam_code.specs.declared.instruction.Key.TheVariants as key
 use Rattle.wam_code.specs.Area.{Table}
 use Rattle.wam_code.specs.Keys.{IsBelow}
-use Rattle.code_states.specs.declared.went.Went.{Went}
-use Rattle.code_states.specs.declared.went.Went.TheVariants.{On, Back}
+use Rattle.code_safety.specs.declared.instruction_outcomes.Went.{Went}
+use Rattle.code_safety.specs.declared.instruction_outcomes.Went.TheVariants.{On, Back}
 
 -- the key is what is seen at the top of a term
 abbrev pub IsKeyOf : Seen → Key → Type 0

@@ -3,17 +3,17 @@
 ghost use Rattle.std.specs.Prelude.{◌≡◌, ◌<◌, ◌≤◌, IfOk, OnOk};
 ghost use Rattle.wam_code.specs.declared.instruction.Code.TheVariants as step;
 ghost use Rattle.wam_code.specs.Area.{Holds};
-ghost use Rattle.code_states.specs.Machine.{IsSameBehind};
-ghost use Rattle.code_states.specs.Queries.{KeepsQuery};
-ghost use Rattle.code_states.specs.Safety.{IsSafe};
-ghost use Rattle.code_states.specs.Stages.{KeepsRunning, Calls};
-ghost use Rattle.code_states.specs.Work.{work_at, most_work};
-ghost use Rattle.code_control.specs.Leading.{BeginsAt};
+ghost use Rattle.code_safety.specs.Machine.{IsSameBehind};
+ghost use Rattle.code_safety.specs.Queries.{KeepsQuery};
+ghost use Rattle.code_safety.specs.Safety.{IsSafe};
+ghost use Rattle.code_safety.specs.RemainingEvents.{KeepsRunning, Calls};
+ghost use Rattle.code_safety.specs.Work.{work_at, most_work};
+ghost use Rattle.code_control.specs.JumpTargets.{BeginsAt};
 
 use crate::places::entry_of;
 use branch_state::BranchState;
 use code_areas::Areas;
-use code_states::behind;
+use code_safety::behind;
 use fd_language::NoMemory;
 use propagate_queue::Agenda;
 use wam_code::CodeArea;

@@ -4,15 +4,15 @@ ghost use Rattle.std.specs.Prelude.{◌≡◌, ◌<◌, ◌∷◌, length, IfOk,
 ghost use Rattle.wam_code.specs.declared.instruction.Code.TheVariants as step;
 ghost use Rattle.wam_code.specs.Area.{Holds};
 ghost use Rattle.branch_state.specs.States.{with_pair, IsSound, IsUndone};
-ghost use Rattle.code_states.specs.Queries.{KeepsQuery};
-ghost use Rattle.code_states.specs.Safety.{IsSafe, IsSafeBack};
-ghost use Rattle.code_states.specs.Choices.{point_of};
-ghost use Rattle.code_states.specs.Stages.{KeepsRunning, GoesBack, SplitsAt, Resumes};
-ghost use Rattle.code_states.specs.Work.{work_at, work_back};
+ghost use Rattle.code_safety.specs.Queries.{KeepsQuery};
+ghost use Rattle.code_safety.specs.Safety.{IsSafe, IsSafeBack};
+ghost use Rattle.code_safety.specs.Choices.{point_of};
+ghost use Rattle.code_safety.specs.RemainingEvents.{KeepsRunning, GoesBack, SplitsAt, Resumes};
+ghost use Rattle.code_safety.specs.Work.{work_at, work_back};
 
 use branch_state::BranchState;
 use code_areas::Areas;
-use code_states::behind;
+use code_safety::behind;
 use fd_language::NoMemory;
 use propagate_queue::Agenda;
 use wam_code::CodeArea;

@@ -1,22 +1,22 @@
 //! Levels of the search, tests, and cuts.
 
 ghost use Rattle.std.specs.Prelude.{◌≡◌, ◌-◌, ◌<◌, ◌∷◌, suc, length, drop, slice_set, IfOk, OnOk};
-ghost use Rattle.machine_relation.specs.Ahead.{oldest};
+ghost use Rattle.branch_meaning.specs.RemainingEvents.{oldest};
 ghost use Rattle.wam_code.specs.declared.instruction.Code.TheVariants as step;
 ghost use Rattle.wam_code.specs.Area.{Holds};
 ghost use Rattle.branch_state.specs.States.{IsSound, with_pair, without_pairs};
 ghost use Rattle.code_areas.specs.Areas.{level};
-ghost use Rattle.code_states.specs.Choices.{point_of};
-ghost use Rattle.code_states.specs.Machine.{IsSameBehind, IsSlot};
-ghost use Rattle.code_states.specs.Queries.{KeepsQuery};
-ghost use Rattle.code_states.specs.Safety.{IsSafe};
-ghost use Rattle.code_states.specs.Stages.{KeepsRunning, SplitsAt, TestsAt, CutsAt};
-ghost use Rattle.code_states.specs.Work.{work_at};
+ghost use Rattle.code_safety.specs.Choices.{point_of};
+ghost use Rattle.code_safety.specs.Machine.{IsSameBehind, IsSlot};
+ghost use Rattle.code_safety.specs.Queries.{KeepsQuery};
+ghost use Rattle.code_safety.specs.Safety.{IsSafe};
+ghost use Rattle.code_safety.specs.RemainingEvents.{KeepsRunning, SplitsAt, TestsAt, CutsAt};
+ghost use Rattle.code_safety.specs.Work.{work_at};
 
 use crate::choices::leave_choice;
 use branch_state::BranchState;
 use code_areas::Areas;
-use code_states::behind;
+use code_safety::behind;
 use fd_language::NoMemory;
 use propagate_queue::Agenda;
 use wam_code::CodeArea;

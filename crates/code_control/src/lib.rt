@@ -3,7 +3,7 @@
 
 mod calls;
 mod choices;
-mod choosing;
+mod clause_selection;
 mod cuts;
 mod frames;
 mod places;
@@ -13,7 +13,7 @@ mod switches;
 
 pub use crate::calls::{call, execute, proceed};
 pub use crate::choices::{either, fail_now, go_back, jump};
-pub use crate::choosing::choose;
+pub use crate::clause_selection::choose;
 pub use crate::cuts::{cut_to, enter_test, level, test_only};
 pub use crate::frames::{allocate, deallocate};
 pub use crate::retries::try_again;

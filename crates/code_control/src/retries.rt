@@ -2,11 +2,11 @@
 
 ghost use Rattle.std.specs.Prelude.{◌<◌, length};
 ghost use Rattle.branch_state.specs.States.{IsSoundBelow};
-ghost use Rattle.code_states.specs.Safety.{IsSafe, IsSafeBack};
+ghost use Rattle.code_safety.specs.Safety.{IsSafe, IsSafeBack};
 ghost use Rattle.code_control.specs.Again.{IsUndoneAgain, KeepsPoint, TriesAgain};
 
 use crate::choices::go_back;
-use crate::choosing::{Tried, next_choice, tried_at};
+use crate::clause_selection::{Tried, next_choice, tried_at};
 use branch_state::BranchState;
 use code_areas::Areas;
 use propagate_queue::Agenda;

@@ -5,7 +5,7 @@ ghost use Rattle.wam_code.specs.Area.{table_at};
 ghost use Rattle.wam_code.specs.Keys.{Rises};
 ghost use Rattle.code_control.specs.Rows.{IsKeyBelow, IsKeyOf, Finds};
 
-use code_states::Went;
+use code_safety::Went;
 use heap_cells::Seen;
 use wam_code::{CodeArea, Key};
 

@@ -3,18 +3,18 @@
 ghost use Rattle.std.specs.Prelude.{◌≡◌, ◌<◌, ◌≤◌};
 ghost use Rattle.wam_code.specs.declared.instruction.Code.TheVariants as step;
 ghost use Rattle.wam_code.specs.Area.{Holds, table_at};
-ghost use Rattle.code_states.specs.Queries.{KeepsQuery, KeepsQueryThen};
-ghost use Rattle.code_states.specs.Safety.{IsSafe, IsSafeThen};
-ghost use Rattle.code_control.specs.Leading.{IsPastJump, ArgumentShows, FirstIsSeen};
+ghost use Rattle.code_safety.specs.Queries.{KeepsQuery, KeepsQueryThen};
+ghost use Rattle.code_safety.specs.Safety.{IsSafe, IsSafeThen};
+ghost use Rattle.code_control.specs.JumpTargets.{IsPastJump, ArgumentShows, FirstIsSeen};
 ghost use Rattle.code_control.specs.Rows.{Finds, place_for};
-ghost use Rattle.code_states.specs.Stages.{KeepsRunning, RunsThen};
-ghost use Rattle.code_states.specs.Work.{work_at, work_then};
+ghost use Rattle.code_safety.specs.RemainingEvents.{KeepsRunning, RunsThen};
+ghost use Rattle.code_safety.specs.Work.{work_at, work_then};
 
 use crate::choices::jump;
 use crate::rows::find_row;
 use branch_state::BranchState;
 use code_areas::Areas;
-use code_states::Went;
+use code_safety::Went;
 use heap_cells::Seen;
 use propagate_queue::Agenda;
 use wam_code::{Code, CodeArea};

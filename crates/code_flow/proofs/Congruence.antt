@@ -5,12 +5,17 @@ use Rattle.wam_code.specs.declared.instruction.Register.{Register}
 use Rattle.wam_code.specs.declared.instruction.Register.TheVariants.{X, Y}
 use Rattle.wam_code.specs.declared.instruction.Code.{Code}
 use Rattle.wam_code.specs.declared.instruction.Code.TheVariants as code
-use Rattle.wam_code.specs.declared.instruction.Code.TheVariants.{GetVariable, GetValue, GetConstant, GetInteger, GetStructure, UnifyVariable, UnifyValue, UnifyConstant, UnifyInteger, UnifyVoid, PutVariable, PutValue, PutConstant, PutInteger, PutStructure, Allocate, Deallocate, Call, Execute, Proceed, SwitchOnTerm, SwitchOnConstant, SwitchOnInteger, SwitchOnStructure, Builtin, Constrain, Label, Best, PostRange, TestOnly, EnterTest, CutTo}
+use Rattle.wam_code.specs.declared.instruction.Code.TheVariants.{GetVariable, GetValue, GetConstant, GetInteger, GetStructure, UnifyVariable, UnifyValue}
+use Rattle.wam_code.specs.declared.instruction.Code.TheVariants.{UnifyConstant, UnifyInteger, UnifyVoid, PutVariable, PutValue, PutConstant, PutInteger}
+use Rattle.wam_code.specs.declared.instruction.Code.TheVariants.{PutStructure, Allocate, Deallocate, Call, Execute, Proceed, SwitchOnTerm, SwitchOnConstant}
+use Rattle.wam_code.specs.declared.instruction.Code.TheVariants.{SwitchOnInteger, SwitchOnStructure, Builtin, Constrain, Label, Best, PostRange, TestOnly}
+use Rattle.wam_code.specs.declared.instruction.Code.TheVariants.{EnterTest, CutTo}
 use Rattle.wam_code.specs.declared.parts.Entry.{Entry}
 use Rattle.wam_code.specs.Area.{State}
-use Rattle.wam_code.specs.Effect.{is_set, is_free, are_set, are_given, slot_at, is_cell, is_unset, is_level, may_be_level, has_frame, no_frame, with_owed, with_set, with_level}
-use Rattle.code_flow.specs.Handing.{plain_needs, unify_needs, needs_by, needs, changed, IsSame}
-use Rattle.code_flow.proofs.Same.{same_set, same_level, same_owed}
+use Rattle.wam_code.specs.Effect.{is_set, is_free, are_set, are_given, slot_at, is_cell, is_unset, is_level, may_be_level, has_frame, no_frame, with_owed}
+use Rattle.wam_code.specs.Effect.{with_set, with_level}
+use Rattle.code_flow.specs.StateTransfer.{plain_needs, unify_needs, needs_by, needs, changed, IsSame}
+use Rattle.code_flow.proofs.StateEquivalence.{same_set, same_level, same_owed}
 
 both : {a b c d : Bool} → a ≡ b → c ≡ d → (a && c) ≡ (b && d)
 both {a} {b} {c} {d} e f = ap (λ x. x && c) e ∙ ap (λ x. b && x) f

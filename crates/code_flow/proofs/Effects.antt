@@ -5,7 +5,7 @@ use Rattle.wam_code.specs.declared.instruction.Code.TheVariants.{GetVariable}
 use Rattle.wam_code.specs.declared.parts.Entry.{Entry}
 use Rattle.wam_code.specs.Area.{State}
 use Rattle.wam_code.specs.Effect.{when, effect, effect_by, plain_effect, unify_effect}
-use Rattle.code_flow.specs.Handing.{plain_needs, unify_needs, needs_by, needs, changed}
+use Rattle.code_flow.specs.StateTransfer.{plain_needs, unify_needs, needs_by, needs, changed}
 
 plain_is : (es : List Entry) (i : Code) (s : State) → plain_effect es i s ≡ when (plain_needs es i s) (changed i s)
 plain_is es (GetVariable r a) s = refl

@@ -1,8 +1,8 @@
 mod Effects
 mod Registers
-mod Same
+mod StateEquivalence
 mod Congruence
-mod HandingOn
-mod Once
-mod Conditions
+mod Successors
+mod DistinctRegisters
+mod PlaceConditions
 pub mod Lemmas

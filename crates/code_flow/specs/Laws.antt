@@ -2,7 +2,7 @@
 use Rattle.std.specs.Prelude.{◌↔◌, ℕ, List}
 use Rattle.wam_code.specs.Area.{State, Area}
 use Rattle.wam_code.specs.VerifiedCode.{IsVerifiedBy}
-use Rattle.code_flow.specs.Failing.{FitsAt, IsFirstFailing}
+use Rattle.code_flow.specs.PlaceConditions.{FitsAt, IsFirstFailing}
 
 -- Code is verified by states exactly where each place meets the conditions that belong to it; so no place is the first that fails.
 pub record PlacesDecide : Type 0 where

@@ -1,4 +1,4 @@
-pub mod Handing
-pub mod Leading
-pub mod Failing
+pub mod StateTransfer
+pub mod Successors
+pub mod PlaceConditions
 pub mod Laws

@@ -1,5 +1,6 @@
 -- Built-in goals, taken.
-use Rattle.std.proofs.Common.{◌≡◌, ℕ, zero, suc, All, ◌≤◌, Bool, true, false, List, [], ◌∷◌, ◌++◌, Option, Some, Result, Ok, Err, IfOk, OnOk, refl, ap, sym, subst, inl, inr, arith}
+use Rattle.std.proofs.Common.{◌≡◌, ℕ, zero, suc, All, ◌≤◌, Bool, true, false, List, [], ◌∷◌, ◌++◌, Option, Some, Result, Ok, Err, IfOk, OnOk, refl, ap, sym}
+use Rattle.std.proofs.Common.{subst, inl, inr, arith}
 use Rattle.fd_language.specs.declared.TheConstants.{INFINITY}
 use Rattle.fd_language.specs.Family.{Family, IsInside}
 use Rattle.fd_language.specs.Range.{Indexical}
@@ -16,45 +17,46 @@ use Rattle.heap_cells.specs.declared.Cell.{Cell}
 use Rattle.heap_cells.specs.Cells.{Cells}
 use Rattle.heap_cells.specs.Terms.{Naming, IsOneToOne}
 use Rattle.unify_core.specs.declared.Touch.{Touch}
-use Rattle.unify_core.specs.Reduces.{IsSameSize}
+use Rattle.unify_core.specs.PairReduction.{IsSameSize}
 use Rattle.unify_core.specs.Touches.{IsRefuted}
 use Rattle.unify_core.specs.Unifications.{IsUnified, cells_equal}
-use Rattle.machine_relation.specs.Ahead.{Spends}
-use Rattle.machine_relation.specs.Store.{posts}
-use Rattle.term_pool.specs.Valid.{IsPool}
-use Rattle.machine_frames.specs.Frames.{store_touches, IsGrown}
-use Rattle.machine_frames.proofs.Lemmas.{full_one, full_own}
+use Rattle.branch_meaning.specs.RemainingEvents.{Spends}
+use Rattle.branch_meaning.specs.Store.{posts}
+use Rattle.term_pool.specs.PoolInvariant.{IsPool}
+use Rattle.branch_lemmas.specs.Frames.{store_touches, IsGrown}
+use Rattle.branch_lemmas.proofs.Lemmas.{full_one, full_own}
 use Rattle.range_code.specs.Frames.{family_of}
 use Rattle.branch_state.specs.States as branch
 use Rattle.branch_state.specs.States.{IsSound, IsSameBelow, IsCell, with_heap}
-use Rattle.branch_goals.specs.declared.finding.Found.{Found}
-use Rattle.branch_goals.specs.declared.finding.Found.TheVariants as finding
+use Rattle.branch_goals.specs.declared.builtin_findings.Found.{Found}
+use Rattle.branch_goals.specs.declared.builtin_findings.Found.TheVariants as finding
 use Rattle.branch_goals.specs.Findings.{Finds, IsNaming}
 use Rattle.wam_code.specs.declared.instruction.Code.{Code}
 use Rattle.wam_code.specs.declared.instruction.Code.TheVariants as step
 use Rattle.wam_code.specs.Arities.{builtin_arity}
 use Rattle.wam_code.specs.Area.{Area, Holds}
 use Rattle.wam_code.specs.Places.{Places}
-use Rattle.wam_code.specs.Means.{NamedRule, BuiltinRule}
+use Rattle.wam_code.specs.CodeMeaning.{NamedRule, BuiltinRule}
 use Rattle.code_areas.specs.Areas.{cell_at, IsSet, Contents}
-use Rattle.code_steps.specs.Registers.{Registers, Saved}
-use Rattle.code_steps.specs.Trying.{IsFirst}
-use Rattle.code_steps.specs.Running.{Left, Choice, Runs, Returns}
-use Rattle.code_steps.proofs.Lemmas.{spends_more, run_true, run_fail, run_false, run_unify, run_refuted, run_found_fault, run_found_true, run_found_false, run_found_refuted, run_found_equated, run_newline, run_write, run_fails}
-use Rattle.code_states.specs.Choices.{choices_in}
-use Rattle.code_states.specs.Machine.{registers_of, stack_of}
-use Rattle.code_states.specs.Safety.{IsSafe}
-use Rattle.code_states.specs.Equating.{Equates}
-use Rattle.code_states.proofs.Lemmas.{same_cells, same_below, below_heap}
-use Rattle.code_goals.specs.declared.next.Next.{Next}
-use Rattle.code_goals.specs.declared.next.Next.TheVariants.{On, Back, Fault, Write, Newline}
+use Rattle.code_meaning.specs.Registers.{Registers, Saved}
+use Rattle.code_meaning.specs.ClauseChoices.{IsFirst}
+use Rattle.code_meaning.specs.MachineStates.{Left, Choice, Runs, Returns}
+use Rattle.code_meaning.proofs.Lemmas.{spends_more, run_true, run_fail, run_false, run_unify, run_refuted, run_found_fault, run_found_true, run_found_false}
+use Rattle.code_meaning.proofs.Lemmas.{run_found_refuted, run_found_equated, run_newline, run_write, run_fails}
+use Rattle.code_safety.specs.Choices.{choices_in}
+use Rattle.code_safety.specs.Machine.{registers_of, stack_of}
+use Rattle.code_safety.specs.Safety.{IsSafe}
+use Rattle.code_safety.specs.CellEquations.{Equates}
+use Rattle.code_safety.proofs.Lemmas.{same_cells, same_below, below_heap}
+use Rattle.code_goals.specs.declared.goal_outcomes.Next.{Next}
+use Rattle.code_goals.specs.declared.goal_outcomes.Next.TheVariants.{On, Back, Fault, Write, Newline}
 use Rattle.code_goals.specs.Builtins.{IsFound, IsSecond, ComesTo}
 use Rattle.code_goals.specs.Tasks.{names_of, task_of}
 use Rattle.code_goals.specs.GoalTexts.{text_at}
-use Rattle.code_goals.specs.Taking.{next_by, IsSafeNext, LeadsNext, RunsNext, Takes, SaysNothing}
-use Rattle.machine_frames.proofs.Lemmas.{model_wider}
-use Rattle.code_goals.proofs.Moving.{runs_grown}
-use Rattle.code_goals.proofs.Safe.{choices_same, sound_below, grown_cells, arguments_there, moved_safe, on_safe, on_same, goes_back}
+use Rattle.code_goals.specs.GoalOutcomes.{next_by, IsSafeNext, LeadsNext, RunsNext, Takes, SaysNothing}
+use Rattle.branch_lemmas.proofs.Lemmas.{model_wider}
+use Rattle.code_goals.proofs.GrownHeaps.{runs_grown}
+use Rattle.code_goals.proofs.GoalSafety.{choices_same, sound_below, grown_cells, arguments_there, moved_safe, on_safe, on_same, goes_back}
 
 -- no two atoms have one name
 pub one_name : (area : Area) → IsPool area.pool → IsOneToOne (names_of area)
@@ -63,7 +65,8 @@ one_name area pool = full_one area.pool.names pool.distinct
 -- ---- two cells that are to be equal
 
 -- What is to come where they are, and where they can't be.
-module _ (area : Area) (pool : IsPool area.pool) (s : branch.State) (small : s.infinity ≤ INFINITY) (at : ℕ) (c : Contents) (x y : Cell) (prog : Program) (q : Query) (ls : List Left) (n : ℕ) (k : Option ℕ) (es : List Event) (r : ℕ) where
+module _ (area : Area) (pool : IsPool area.pool) (s : branch.State) (small : s.infinity ≤ INFINITY) (at : ℕ) (c : Contents) (x y : Cell) (prog : Program)
+    (q : Query) (ls : List Left) (n : ℕ) (k : Option ℕ) (es : List Event) (r : ℕ) where
   abbrev With : List Choice → Cells → List Indexical → List Event → ℕ → Type 0
   With cs now ps later j = Runs INFINITY s.infinity area prog q (names_of area) now ps (suc at) (registers_of c) (stack_of c) cs n k later j
 
@@ -73,17 +76,23 @@ module _ (area : Area) (pool : IsPool area.pool) (s : branch.State) (small : s.i
   abbrev cs : List Choice
   cs = choices_in s c ls
 
-  equated_next : ((now : Cells) (ts : List Touch) → IsUnified (names_of area) s.heaps.now x y now ts → IsSameSize s.heaps.now now → Spends (With cs now (s.levels.current.posted ++ posts (store_touches ts))) [] es r)
-      → (IsRefuted s.heaps.now (cells_equal (names_of area) s.heaps.now x y) → Spends (Without cs) [] es r) → (s' : branch.State) → IsSameBelow s s' → (equal : Bool) → Equates s x y s' equal → RunsNext area (task_of area prog q) s' c ls n k es r (next_by at equal)
+  equated_next : ((now : Cells) (ts : List Touch) → IsUnified (names_of area) s.heaps.now x y now ts → IsSameSize s.heaps.now now
+      → Spends (With cs now (s.levels.current.posted ++ posts (store_touches ts))) [] es r)
+      → (IsRefuted s.heaps.now (cells_equal (names_of area) s.heaps.now x y) → Spends (Without cs) [] es r) → (s' : branch.State) → IsSameBelow s s'
+      → (equal : Bool) → Equates s x y s' equal → RunsNext area (task_of area prog q) s' c ls n k es r (next_by at equal)
   equated_next so else s' below true e =
-      subst (λ N. Spends (λ later j. Runs INFINITY N area prog q (names_of area) s'.heaps.now s'.levels.current.posted (suc at) (registers_of c) (stack_of c) (choices_in s' c ls) n k later j) [] es r) (sym below.infinity)
-      (subst (λ xs. Spends (With xs s'.heaps.now s'.levels.current.posted) [] es r) (choices_same s s' c ls below) (subst (λ ps. Spends (With cs s'.heaps.now ps) [] es r) (sym e.posted) (so s'.heaps.now e.touches (e.unified (names_of area)) e.size)))
+      subst (λ N. Spends (λ later j. Runs INFINITY N area prog q (names_of area) s'.heaps.now s'.levels.current.posted (suc at) (registers_of c) (stack_of c)
+      (choices_in s' c ls) n k later j) [] es r) (sym below.infinity)
+      (subst (λ xs. Spends (With xs s'.heaps.now s'.levels.current.posted) [] es r) (choices_same s s' c ls below)
+      (subst (λ ps. Spends (With cs s'.heaps.now ps) [] es r) (sym e.posted) (so s'.heaps.now e.touches (e.unified (names_of area)) e.size)))
   equated_next so else s' below false e =
       let gone_back : Spends (Without cs) [] es r = elim e.0 [
         | inl un ↦ else (un (names_of area) (one_name area pool))
         | inr gone ↦
             let ps = s.levels.current.posted ++ posts (store_touches gone.touches) in
-            spends_more (With cs gone.now ps) (Without cs) (λ later j w. run_fails INFINITY s.infinity area prog q (names_of area) gone.now ps (suc at) (registers_of c) (stack_of c) cs n k later j w (λ T m. gone.none T (model_wider INFINITY s.infinity ps small T m))) [] es r (so gone.now gone.touches (gone.unified (names_of area)) gone.size)
+            spends_more (With cs gone.now ps) (Without cs)
+            (λ later j w. run_fails INFINITY s.infinity area prog q (names_of area) gone.now ps (suc at) (registers_of c) (stack_of c) cs n k later j w
+            (λ T m. gone.none T (model_wider INFINITY s.infinity ps small T m))) [] es r (so gone.now gone.touches (gone.unified (names_of area)) gone.size)
       ] in
       subst (λ N. Spends (λ later j. Returns INFINITY N area prog q (names_of area) (choices_in s' c ls) n k later j) [] es r) (sym below.infinity)
       (subst (λ xs. Spends (Without xs) [] es r) (choices_same s s' c ls below) gone_back)
@@ -140,7 +149,8 @@ module _ (area : Area) (s : branch.State) (at : ℕ) (c : Contents) (safe : IsSa
   write_taken f prog q ls n k es r runnable m =
       let d = (first_set f).0 in
       let at_d = (first_set f).1 in
-      subst (λ (o : Option Cell). Spends (λ later j. Runs INFINITY s.infinity area prog q name h qs (suc at) regs stack (choices_in s c ls) n k later j) (model.Wrote (text_at area s o) ∷ []) es r) (sym at_d)
+      subst (λ (o : Option Cell). Spends (λ later j. Runs INFINITY s.infinity area prog q name h qs (suc at) regs stack (choices_in s c ls) n k later j)
+      (model.Wrote (text_at area s o) ∷ []) es r) (sym at_d)
       (run_write INFINITY s.infinity area prog q name h safe.sound.now.valid qs at regs stack (choices_in s c ls) k es r runnable n G known most d at_d m f)
 
   -- and it is safe to go on
@@ -148,12 +158,17 @@ module _ (area : Area) (s : branch.State) (at : ℕ) (c : Contents) (safe : IsSa
   write_safe f = (on_same area s at c (step.Builtin kind.Write) 1 safe f (λ t. refl) refl, first_set f)
 
   -- two cells were made equal, or can't be
-  pub unify_taken : IsPool area.pool → Holds area at (step.Builtin kind.Unify) → (d e : Cell) → cell_at c.registers 1 ≡ Some d → cell_at c.registers 2 ≡ Some e → (s' : branch.State) → IsSameBelow s s' → (equal : Bool) → Equates s d e s' equal → Takes area s at c s' (next_by at equal)
+  pub unify_taken : IsPool area.pool → Holds area at (step.Builtin kind.Unify) → (d e : Cell) → cell_at c.registers 1 ≡ Some d → cell_at c.registers 2 ≡ Some e
+      → (s' : branch.State) → IsSameBelow s s' → (equal : Bool) → Equates s d e s' equal → Takes area s at c s' (next_by at equal)
   unify_taken pool f d e at_d at_e s' below equal w prog q ls n k es r runnable m =
-      equated_next area pool s safe.sound.greatest.1 at c d e prog q ls n k es r (run_unify INFINITY s.infinity area prog q name h qs at regs stack (choices_in s c ls) k es r runnable n (G, known) m f d e at_d at_e) (run_refuted INFINITY s.infinity area prog q name h qs at regs stack (choices_in s c ls) k es r runnable n (G, known) m f d e at_d at_e) s' below equal w
+      equated_next area pool s safe.sound.greatest.1 at c d e prog q ls n k es r
+      (run_unify INFINITY s.infinity area prog q name h qs at regs stack (choices_in s c ls) k es r runnable n (G, known) m f d e at_d at_e)
+      (run_refuted INFINITY s.infinity area prog q name h qs at regs stack (choices_in s c ls) k es r runnable n (G, known) m f d e at_d at_e) s'
+      below equal w
 
   -- safe where two cells were to be equal, or a goal holds or doesn't
-  pub equal_safe : (b : BuiltinKind) → Holds area at (step.Builtin b) → (x y : Cell) (s' : branch.State) → IsSameBelow s s' → (equal : Bool) → Equates s x y s' equal → IsSafeNext area s' c (next_by at equal)
+  pub equal_safe : (b : BuiltinKind) → Holds area at (step.Builtin b) → (x y : Cell) (s' : branch.State) → IsSameBelow s s' → (equal : Bool)
+      → Equates s x y s' equal → IsSafeNext area s' c (next_by at equal)
   equal_safe b f x y s' below true e = on_safe area s at c (step.Builtin b) (builtin_arity b) safe f (λ t. refl) refl s' below e.sound (same_cells s s' below.atoms e.size)
   equal_safe b f x y s' below false e = goes_back area s at c safe s' below e.1
 
@@ -191,7 +206,8 @@ first_there kind.Compound i = omega arith
 first_there kind.Write i = omega arith
 first_there _ i = omega arith
 
-module _ (area : Area) (pool : IsPool area.pool) (s : branch.State) (at : ℕ) (c : Contents) (safe : IsSafe area s at 0 c) (b : BuiltinKind) (plain : IsFound b) (f : Holds area at (step.Builtin b)) (x : Found) (comes : ComesTo area s c b x) where
+module _ (area : Area) (pool : IsPool area.pool) (s : branch.State) (at : ℕ) (c : Contents) (safe : IsSafe area s at 0 c) (b : BuiltinKind) (plain : IsFound b)
+    (f : Holds area at (step.Builtin b)) (x : Found) (comes : ComesTo area s c b x) where
   abbrev is : Finds (names_of area) s b comes.first comes.second x
   is = comes.finds
 
@@ -199,18 +215,24 @@ module _ (area : Area) (pool : IsPool area.pool) (s : branch.State) (at : ℕ) (
   pub found_fault : (e : QueryFault) → x ≡ finding.Fault e → (s' : branch.State) → Takes area s at c s' (Fault e)
   found_fault e i s' prog q ls n k es r runnable m =
       let pair = safe.sound.now in
-      run_found_fault INFINITY s.infinity area prog q (names_of area) s.heaps.now pair.valid s.levels.current.posted at (registers_of c) (stack_of c) (choices_in s c ls) k es r runnable n (family_of s.levels.current.sets) pair.settled.model pair.settled.most m b (found_quiet b plain) (found_named b plain)
+      run_found_fault INFINITY s.infinity area prog q (names_of area) s.heaps.now pair.valid s.levels.current.posted at (registers_of c) (stack_of c)
+      (choices_in s c ls) k es r runnable n (family_of s.levels.current.sets) pair.settled.model pair.settled.most m b (found_quiet b plain)
+      (found_named b plain)
       comes.first comes.second comes.at_first comes.at_second f e (subst (Finds (names_of area) s b comes.first comes.second) i is)
 
   -- it holds or doesn't
   pub found_decided : (holds : Bool) → x ≡ finding.Decided holds → Takes area s at c s (next_by at holds)
   found_decided true i prog q ls n k es r runnable m =
       let pair = safe.sound.now in
-      run_found_true INFINITY s.infinity area prog q (names_of area) s.heaps.now pair.valid s.levels.current.posted at (registers_of c) (stack_of c) (choices_in s c ls) k es r runnable n (family_of s.levels.current.sets) pair.settled.model pair.settled.most m b (found_quiet b plain) (found_named b plain)
+      run_found_true INFINITY s.infinity area prog q (names_of area) s.heaps.now pair.valid s.levels.current.posted at (registers_of c) (stack_of c)
+      (choices_in s c ls) k es r runnable n (family_of s.levels.current.sets) pair.settled.model pair.settled.most m b (found_quiet b plain)
+      (found_named b plain)
       comes.first comes.second comes.at_first comes.at_second f (subst (Finds (names_of area) s b comes.first comes.second) i is)
   found_decided false i prog q ls n k es r runnable m =
       let pair = safe.sound.now in
-      run_found_false INFINITY s.infinity area prog q (names_of area) s.heaps.now pair.valid s.levels.current.posted at (registers_of c) (stack_of c) (choices_in s c ls) k es r runnable n (family_of s.levels.current.sets) pair.settled.model pair.settled.most m b (found_quiet b plain) (found_named b plain)
+      run_found_false INFINITY s.infinity area prog q (names_of area) s.heaps.now pair.valid s.levels.current.posted at (registers_of c) (stack_of c)
+      (choices_in s c ls) k es r runnable n (family_of s.levels.current.sets) pair.settled.model pair.settled.most m b (found_quiet b plain)
+      (found_named b plain)
       comes.first comes.second comes.at_first comes.at_second f (subst (Finds (names_of area) s b comes.first comes.second) i is)
 
   module _ (l w : Cell) (i : x ≡ finding.Equal l w) where
@@ -226,21 +248,29 @@ module _ (area : Area) (pool : IsPool area.pool) (s : branch.State) (at : ℕ) (
     found_equal s' below equal e prog q ls n k es r runnable m =
         let pair = safe.sound.now in
         equated_next area pool s safe.sound.greatest.1 at c l w prog q ls n k es r
-        (run_found_equated INFINITY s.infinity area prog q (names_of area) s.heaps.now pair.valid s.levels.current.posted at (registers_of c) (stack_of c) (choices_in s c ls) k es r runnable n (family_of s.levels.current.sets) pair.settled.model pair.settled.most m b (found_quiet b plain) (found_named b plain)
+        (run_found_equated INFINITY s.infinity area prog q (names_of area) s.heaps.now pair.valid s.levels.current.posted at (registers_of c) (stack_of c)
+        (choices_in s c ls) k es r runnable n (family_of s.levels.current.sets) pair.settled.model pair.settled.most m b (found_quiet b plain)
+        (found_named b plain)
         comes.first comes.second comes.at_first comes.at_second f l w told.2)
-        (run_found_refuted INFINITY s.infinity area prog q (names_of area) s.heaps.now pair.valid s.levels.current.posted at (registers_of c) (stack_of c) (choices_in s c ls) k es r runnable n (family_of s.levels.current.sets) pair.settled.model pair.settled.most m b (found_quiet b plain) (found_named b plain)
+        (run_found_refuted INFINITY s.infinity area prog q (names_of area) s.heaps.now pair.valid s.levels.current.posted at (registers_of c) (stack_of c)
+        (choices_in s c ls) k es r runnable n (family_of s.levels.current.sets) pair.settled.model pair.settled.most m b (found_quiet b plain)
+        (found_named b plain)
         comes.first comes.second comes.at_first comes.at_second f l w told.2)
         s' below equal e
 
 -- ---- on a heap that has grown
 
 -- A goal that is taken on the heap that has grown is taken before.
-pub grown_taken : (area : Area) (s s1 : branch.State) (at : ℕ) (c : Contents) (i : Code) → IsFirst i → Holds area at i → IsGrown s.heaps.now s1.heaps.now → s1 ≡ with_heap s s1.heaps.now → (s' : branch.State) (x : Next) → Takes area s1 at c s' x → Takes area s at c s' x
+pub grown_taken : (area : Area) (s s1 : branch.State) (at : ℕ) (c : Contents) (i : Code) → IsFirst i → Holds area at i → IsGrown s.heaps.now s1.heaps.now
+    → s1 ≡ with_heap s s1.heaps.now → (s' : branch.State) (x : Next) → Takes area s1 at c s' x → Takes area s at c s' x
 grown_taken area s s1 at c i first f g e s' x t prog q ls n k es r runnable m =
     t prog q ls n k es r runnable
-    (subst (λ N. Runs INFINITY N area prog q (names_of area) s1.heaps.now s1.levels.current.posted at (registers_of c) (stack_of c) (choices_in s1 c ls) (suc n) k es r) (sym (ap (λ (y : branch.State). y.infinity) e))
-    (subst (λ cs. Runs INFINITY s.infinity area prog q (names_of area) s1.heaps.now s1.levels.current.posted at (registers_of c) (stack_of c) cs (suc n) k es r) (choices_same s s1 c ls (below_heap s s1 e))
-    (subst (λ (l : Levels). Runs INFINITY s.infinity area prog q (names_of area) s1.heaps.now l.current.posted at (registers_of c) (stack_of c) (choices_in s c ls) (suc n) k es r) (sym (ap (λ (y : branch.State). y.levels) e))
+    (subst (λ N. Runs INFINITY N area prog q (names_of area) s1.heaps.now s1.levels.current.posted at (registers_of c) (stack_of c) (choices_in s1 c ls) (suc n)
+    k es r) (sym (ap (λ (y : branch.State). y.infinity) e))
+    (subst (λ cs. Runs INFINITY s.infinity area prog q (names_of area) s1.heaps.now s1.levels.current.posted at (registers_of c) (stack_of c) cs (suc n) k es r)
+    (choices_same s s1 c ls (below_heap s s1 e))
+    (subst (λ (l : Levels). Runs INFINITY s.infinity area prog q (names_of area) s1.heaps.now l.current.posted at (registers_of c) (stack_of c)
+    (choices_in s c ls) (suc n) k es r) (sym (ap (λ (y : branch.State). y.levels) e))
     (runs_grown INFINITY s.infinity area prog q (names_of area) (suc n) k es r s.heaps.now s1.heaps.now g s.levels.current.posted at (registers_of c) (stack_of c) (choices_in s c ls) i first f m))))
 
 -- where a goal holds, the next place is next
@@ -261,13 +291,21 @@ second_own s c own k d e first (inl i) = subst (IsCell s) (sym i.1) first
 second_own s c own k d e first (inr i) = own 2 e i.1
 
 -- what is found for each naming is found for the code's
-pub comes_to : {E : Type 0} (area : Area) → IsPool area.pool → (names : List Name) → names ≡ area.pool.names → (s1 : branch.State) (c : Contents) (k : BuiltinKind) (d e : Cell) → cell_at c.registers 1 ≡ Some d → IsSecond k c d e
+pub comes_to : {E : Type 0} (area : Area) → IsPool area.pool → (names : List Name) → names ≡ area.pool.names
+    → (s1 : branch.State) (c : Contents) (k : BuiltinKind) (d e : Cell) → cell_at c.registers 1 ≡ Some d → IsSecond k c d e
     → (r : Result Found E) → IfOk r (λ f. (name : Naming) → IsNaming names name → Finds name s1 k d e f) → IfOk r (ComesTo area s1 c k)
-comes_to area pool names e s1 c k d x at_d at_x (Ok f) t = record { first = d; second = x; at_first = at_d; at_second = at_x; finds = t (names_of area) (subst (λ ns. IsNaming ns (names_of area)) (sym e) (full_own area.pool.names, one_name area pool)) }
+comes_to area pool names e s1 c k d x at_d at_x (Ok f) t = record {
+  first = d;
+  second = x;
+  at_first = at_d;
+  at_second = at_x;
+  finds = t (names_of area) (subst (λ ns. IsNaming ns (names_of area)) (sym e) (full_own area.pool.names, one_name area pool));
+}
 comes_to area pool names e s1 c k d x at_d at_x (Err y) t = tt
 
 -- safe on a heap that has grown
-pub found_safe : {A E : Type 0} (area : Area) (s s1 : branch.State) (at : ℕ) (c : Contents) → IsSafe area s at 0 c → (r : Result A E) → OnOk r (IsGrown s.heaps.now s1.heaps.now) → OnOk r (s1 ≡ with_heap s s1.heaps.now) → OnOk r (IsSound s1) → OnOk r (IsSafe area s1 at 0 c)
+pub found_safe : {A E : Type 0} (area : Area) (s s1 : branch.State) (at : ℕ) (c : Contents) → IsSafe area s at 0 c → (r : Result A E)
+    → OnOk r (IsGrown s.heaps.now s1.heaps.now) → OnOk r (s1 ≡ with_heap s s1.heaps.now) → OnOk r (IsSound s1) → OnOk r (IsSafe area s1 at 0 c)
 found_safe area s s1 at c safe (Ok x) g h sound = let below = below_heap s s1 h in moved_safe area s at c safe s1 below sound (grown_cells s s1 below.atoms g)
 found_safe area s s1 at c safe (Err x) g h sound = tt
 

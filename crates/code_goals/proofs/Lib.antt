@@ -1,12 +1,12 @@
 mod Tasks
-mod Moving
-mod Safe
+mod GrownHeaps
+mod GoalSafety
 mod Texts
 mod Numbers
 mod BuiltinGoals
-mod Constraining
+mod ConstraintGoals
 mod Posting
 mod Labelling
-mod Leaf
-mod Answering
+mod BestLeaf
+mod AnswerSlots
 pub mod Lemmas

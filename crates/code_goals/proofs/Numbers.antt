@@ -1,5 +1,6 @@
 -- The values of a variable of the heap that a labelling takes.
-use Rattle.std.proofs.Common.{◌≡◌, ℕ, suc, ◌+◌, ◌-◌, ◌≤◌, Bool, true, false, ◌==◌, ℤ, nat_le, List, [], ◌∷◌, ◌++◌, append-nil, length, filter, Some, None, refl, ap, sym, ◌∙◌, arith, inl, inr, eqb-true}
+use Rattle.std.proofs.Common.{◌≡◌, ℕ, suc, ◌+◌, ◌-◌, ◌≤◌, Bool, true, false, ◌==◌, ℤ, nat_le, List, [], ◌∷◌, ◌++◌, append-nil, length, filter, Some, None, refl}
+use Rattle.std.proofs.Common.{ap, sym, ◌∙◌, arith, inl, inr, eqb-true}
 use Rattle.std.proofs.lemmas.Bool.{le-leb, lt-leb, leb-true, leb-false, or_cases, cases_Bool}
 use Rattle.domain_ranges.specs.Spans.{members}
 use Rattle.fd_language.specs.Family.{has, IsRising, count_up, universe}
@@ -12,11 +13,11 @@ use Rattle.heap_cells.specs.declared.Seen.TheVariants as looks
 use Rattle.heap_cells.specs.Cells.{Cells, slot_at, compound_at, is_bound}
 use Rattle.heap_cells.specs.SeenCells.{IsSeen}
 use Rattle.heap_cells.specs.Terms.{Naming, IsOneToOne, term_of, terms_by}
-use Rattle.heap_cells.specs.Valid.{IsHeap}
+use Rattle.heap_cells.specs.HeapInvariant.{IsHeap}
 use Rattle.heap_cells.proofs.Lemmas.{unbound_term, term-Int, term-Atom, term-Struct}
 use Rattle.unify_core.specs.Unifications.{CannotUnify}
-use Rattle.machine_relation.specs.AnswerTexts.{cell_set}
-use Rattle.machine_frames.specs.Frames.{link_of, link_in}
+use Rattle.branch_meaning.specs.AnswerTexts.{cell_set}
+use Rattle.branch_lemmas.specs.Frames.{link_of, link_in}
 use Rattle.range_code.specs.Frames.{family_of}
 use Rattle.branch_state.specs.States.{State}
 use Rattle.branch_goals.specs.Labels.{values_of}
@@ -74,7 +75,8 @@ pub values_all : (s : State) (i : ℕ) → link_in s.heaps.now i ≡ None → un
 values_all s i e = sym (ap (λ o. values_by s.infinity (cell_set (family_of s.levels.current.sets) o)) e)
 
 -- the least number from n on, and those behind it
-pub values_step : (low high n m : ℕ) (xs : List ℕ) → IsRising low high xs → has xs m ≡ true → n ≤ m → m ≡ least (filter (λ k. nat_le n k) xs) → filter (λ k. nat_le n k) xs ≡ m ∷ filter (λ k. nat_le (m + 1) k) xs
+pub values_step : (low high n m : ℕ) (xs : List ℕ) → IsRising low high xs → has xs m ≡ true → n ≤ m → m ≡ least (filter (λ k. nat_le n k) xs)
+    → filter (λ k. nat_le n k) xs ≡ m ∷ filter (λ k. nat_le (m + 1) k) xs
 values_step low high n m [] r h l e = grind arith
 values_step low high n m (x ∷ xs) r h l e = elim (cases_Bool (nat_le n x)) [
   | inl y ↦

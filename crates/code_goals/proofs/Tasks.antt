@@ -1,8 +1,8 @@
 -- The names of the code's atoms.
-use Rattle.term_pool.specs.Valid.{IsPool}
-use Rattle.machine_frames.proofs.Lemmas.{full_one, full_own}
+use Rattle.term_pool.specs.PoolInvariant.{IsPool}
+use Rattle.branch_lemmas.proofs.Lemmas.{full_one, full_own}
 use Rattle.wam_code.specs.Area.{Area}
-use Rattle.code_states.specs.Standing.{IsNaming}
+use Rattle.code_safety.specs.RepresentedBranch.{IsNaming}
 use Rattle.code_goals.specs.Tasks.{names_of}
 
 -- They tell atoms apart, and the code's atoms have their own.

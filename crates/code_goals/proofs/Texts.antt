@@ -1,5 +1,6 @@
 -- The texts of terms that a branch shows.
-use Rattle.std.proofs.Common.{◌≡◌, ℕ, ◌==◌, Bool, true, false, cond, not, ◌||◌, List, [], ◌∷◌, ◌++◌, length, filter, Option, Some, None, codes, refl, ap, sym, ◌∙◌, eqb-true, eq-eqb}
+use Rattle.std.proofs.Common.{◌≡◌, ℕ, ◌==◌, Bool, true, false, cond, not, ◌||◌, List, [], ◌∷◌, ◌++◌, length, filter, Option, Some, None, codes, refl, ap, sym}
+use Rattle.std.proofs.Common.{◌∙◌, eqb-true, eq-eqb}
 use Rattle.std.proofs.lemmas.List.{length-map}
 use Rattle.std.proofs.lemmas.Bool.{or_left, or_right, true≢false}
 use Rattle.fd_language.proofs.Lemmas.{has-filter, in_left, in_right, two}
@@ -7,21 +8,21 @@ use Rattle.fd_language.specs.Family.{Family, has}
 use Rattle.fd_language.specs.Range.{Indexical}
 use Rattle.fd_language.specs.Term.{Name, Term, Terms, Var, Int, Atom, Comp, no_terms, term}
 use Rattle.fd_language.specs.Variables.{variables_of, variables_of_all, distinct}
-use Rattle.fd_language.specs.Writing.{Mode, Quoted, Plain, TermText, spelled, spelled_each, spelled_compound, spelled_alone, term_text}
+use Rattle.fd_language.specs.TermTexts.{Mode, Quoted, Plain, TermText, spelled, spelled_each, spelled_compound, spelled_alone, term_text}
 use Rattle.fd_model.specs.Lines.{place_in, open_part, as_terms, joined, equals_text, line_of}
 use Rattle.heap_cells.specs.declared.Cell.{Cell}
 use Rattle.heap_cells.specs.Cells.{Cells}
 use Rattle.heap_cells.specs.Terms.{term_of}
 use Rattle.term_pool.specs.Terms.{term_of as pool_term}
 use Rattle.range_code.specs.Frames.{family_of}
-use Rattle.machine_relation.specs.HeldBranches.{Frame, fixed_frame}
-use Rattle.machine_relation.specs.AnswerTexts.{cell_text}
-use Rattle.machine_frames.specs.Frames.{frame_of}
-use Rattle.machine_frames.specs.Naming.{full}
-use Rattle.machine_frames.specs.SeenHeap.{read_term}
+use Rattle.branch_meaning.specs.HeldBranches.{HeldState, fixed_held}
+use Rattle.branch_meaning.specs.AnswerTexts.{cell_text}
+use Rattle.branch_lemmas.specs.Frames.{held_of}
+use Rattle.branch_lemmas.specs.AtomNames.{full}
+use Rattle.branch_lemmas.specs.SeenHeap.{read_term}
 use Rattle.machine_events.specs.declared.Shown.{Shown}
 use Rattle.machine_events.specs.Events.{set_in, variable_text, shown_line, first_term, written_term}
-use Rattle.branch_state.specs.Showing.{open_set, with_set, with_sets, terms_read, IsShown}
+use Rattle.branch_state.specs.ShownTerms.{open_set, with_set, with_sets, terms_read, IsShown}
 
 -- ---- texts agree where the texts of the variables that occur agree
 
@@ -78,7 +79,8 @@ module _ (set : ℕ → Option (List ℕ)) where
   there_in : (xs : List ℕ) (y : ℕ) → has xs y ≡ true → set_in (with_sets set xs) y ≡ set y
   there_in [] y h = absurd (true≢false (sym h))
   there_in (x ∷ xs) y h = by (set x) refl (x == y) refl h (there_in xs y) where
-    by : (o : Option (List ℕ)) → set x ≡ o → (b : Bool) → (x == y) ≡ b → (b || has xs y) ≡ true → (has xs y ≡ true → set_in (with_sets set xs) y ≡ set y) → set_in (with_set x o (with_sets set xs)) y ≡ set y
+    by : (o : Option (List ℕ)) → set x ≡ o → (b : Bool) → (x == y) ≡ b → (b || has xs y) ≡ true → (has xs y ≡ true → set_in (with_sets set xs) y ≡ set y)
+        → set_in (with_set x o (with_sets set xs)) y ≡ set y
     by None i true e k later = let n : set y ≡ None = ap set (sym (eqb-true x y e)) ∙ i in none_in xs y n ∙ sym n
     by None i false e k later = later k
     by (Some ys) i true e k later = ap (λ b. cond b (Some ys) (set_in (with_sets set xs) y)) e ∙ sym i ∙ ap set (eqb-true x y e)
@@ -88,8 +90,8 @@ module _ (names : List Name) (h : Cells) (sets : List (List ℕ)) (qs : List Ind
   abbrev G : Family
   G = family_of sets
 
-  abbrev F : Frame
-  F = fixed_frame (frame_of (full names) h qs) G
+  abbrev F : HeldState
+  F = fixed_held (held_of (full names) h qs) G
 
   abbrev ts : List Term
   ts = terms_read names h sets cells
@@ -109,9 +111,10 @@ shown_length names h sets cells x s = sym (length-map x.terms.items (pool_term x
 
 -- one cell that is written
 pub written_shown : (names : List Name) (h : Cells) (sets : List (List ℕ)) (qs : List Indexical) (d : Cell) (x : Shown) → IsShown names h sets (d ∷ []) x
-    → written_term x ≡ term_text Plain (cell_text (fixed_frame (frame_of (full names) h qs) (family_of sets)) (family_of sets) (term (read_term h (family_of sets) (term_of (full names) h d)) no_terms)) 1200 (read_term h (family_of sets) (term_of (full names) h d))
+    → written_term x ≡ term_text Plain (cell_text (fixed_held (held_of (full names) h qs) (family_of sets)) (family_of sets)
+    (term (read_term h (family_of sets) (term_of (full names) h d)) no_terms)) 1200 (read_term h (family_of sets) (term_of (full names) h d))
 written_shown names h sets qs d x s =
     let t = read_term h (family_of sets) (term_of (full names) h d) in
     ap (λ us. term_text Plain (variable_text x (term (first_term us) no_terms)) 1200 (first_term us)) s.terms
-    ∙ text_agree (variable_text x (term t no_terms)) (cell_text (fixed_frame (frame_of (full names) h qs) (family_of sets)) (family_of sets) (term t no_terms)) Plain 1200 t
+    ∙ text_agree (variable_text x (term t no_terms)) (cell_text (fixed_held (held_of (full names) h qs) (family_of sets)) (family_of sets) (term t no_terms)) Plain 1200 t
     (λ y i. agrees names h sets qs (d ∷ []) x s y (in_left (variables_of t) [] y i))

@@ -8,10 +8,10 @@ use Rattle.machine_events.specs.Events.{shown_line, ShowsTerms}
 use Rattle.branch_state.specs.States as branch
 use Rattle.wam_code.specs.Area.{Area, Span, HasQuery, name_of}
 use Rattle.code_areas.specs.Areas.{IsSet, Contents}
-use Rattle.code_steps.specs.Registers.{AreIn}
-use Rattle.code_steps.specs.Running.{Left}
-use Rattle.code_states.specs.Machine.{slot_cell}
-use Rattle.code_states.specs.Stages.{RunsAt, ReturnsTo}
+use Rattle.code_meaning.specs.Registers.{AreIn}
+use Rattle.code_meaning.specs.MachineStates.{Left}
+use Rattle.code_safety.specs.Machine.{slot_cell}
+use Rattle.code_safety.specs.RemainingEvents.{RunsAt, ReturnsTo}
 use Rattle.code_goals.specs.Tasks.{task_of}
 
 -- the code's query with a number has the names of this one, and it shows as many variables

@@ -7,7 +7,7 @@ use Rattle.term_pool.specs.declared.AtomId.{AtomId}
 use Rattle.branch_state.specs.States.{State}
 use Rattle.wam_code.specs.Area.{Area}
 use Rattle.code_areas.specs.Areas.{cell_at, IsSet, Contents}
-use Rattle.code_steps.specs.Registers.{AreIn}
+use Rattle.code_meaning.specs.Registers.{AreIn}
 use Rattle.code_goals.specs.Tasks.{names_of}
 
 -- the registers from 1 to n hold cells

@@ -4,7 +4,7 @@ use Rattle.fd_model.specs.declared.kinds.BuiltinKind.{BuiltinKind}
 use Rattle.fd_model.specs.declared.kinds.BuiltinKind.TheVariants as kind
 use Rattle.heap_cells.specs.declared.Cell.{Cell}
 use Rattle.branch_state.specs.States.{State}
-use Rattle.branch_goals.specs.declared.finding.Found.{Found}
+use Rattle.branch_goals.specs.declared.builtin_findings.Found.{Found}
 use Rattle.branch_goals.specs.Findings.{Finds}
 use Rattle.wam_code.specs.Arities.{builtin_arity}
 use Rattle.wam_code.specs.Area.{Area}

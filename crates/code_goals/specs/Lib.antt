@@ -1,9 +1,9 @@
 pub mod Tasks
 pub mod Arguments
-pub mod Best
+pub mod BestLeaf
 pub mod Builtins
 pub mod GoalTexts
-pub mod Taking
+pub mod GoalOutcomes
 pub mod Values
 pub mod Answers
 pub mod Posting

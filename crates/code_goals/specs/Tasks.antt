@@ -1,9 +1,9 @@
 -- What a machine is asked to run, under the names of its code.
 use Rattle.fd_model.specs.Goal.{Program, Query}
 use Rattle.heap_cells.specs.Terms.{Naming}
-use Rattle.machine_frames.specs.Naming.{full}
+use Rattle.branch_lemmas.specs.AtomNames.{full}
 use Rattle.wam_code.specs.Area.{Area}
-use Rattle.code_states.specs.Stages.{Task}
+use Rattle.code_safety.specs.RemainingEvents.{Task}
 
 -- the names of the code's pool, with others for atoms that it doesn't have
 abbrev pub names_of : Area → Naming

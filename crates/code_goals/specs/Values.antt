@@ -10,19 +10,19 @@ use Rattle.branch_state.specs.States as branch
 use Rattle.branch_state.specs.States.{IsSameBelow, IsSound, with_pair}
 use Rattle.wam_code.specs.Area.{Area}
 use Rattle.code_areas.specs.Areas.{Contents}
-use Rattle.code_steps.specs.Running.{Left, values}
-use Rattle.code_states.specs.Choices.{point_of}
-use Rattle.code_states.specs.Safety.{IsSafeThen}
-use Rattle.code_states.specs.Stages.{Task, Future, RunsAt, ReturnsTo}
-use Rattle.code_states.specs.Work.{work_at, work_then, values_work}
-use Rattle.code_states.specs.declared.went.Went.{Went}
-use Rattle.code_states.specs.declared.went.Went.TheVariants.{On, Back}
+use Rattle.code_meaning.specs.MachineStates.{Left, values}
+use Rattle.code_safety.specs.Choices.{point_of}
+use Rattle.code_safety.specs.Safety.{IsSafeThen}
+use Rattle.code_safety.specs.RemainingEvents.{Task, Future, RunsAt, ReturnsTo}
+use Rattle.code_safety.specs.Work.{work_at, work_then, values_work}
+use Rattle.code_safety.specs.declared.instruction_outcomes.Went.{Went}
+use Rattle.code_safety.specs.declared.instruction_outcomes.Went.TheVariants.{On, Back}
 use Rattle.code_goals.specs.declared.labels.ValuesLeft.{ValuesLeft}
 use Rattle.code_goals.specs.declared.labels.Tried.{Tried}
 use Rattle.code_goals.specs.declared.labels.Labelled.{Labelled}
 use Rattle.code_goals.specs.declared.labels.Labelled.TheVariants.{Took, Tries}
 use Rattle.code_goals.specs.Tasks.{names_of, task_of}
-use Rattle.code_goals.specs.Taking.{IsSafeNext, LeadsNext, RunsNext, SpendsTo, TakesBy}
+use Rattle.code_goals.specs.GoalOutcomes.{IsSafeNext, LeadsNext, RunsNext, SpendsTo, TakesBy}
 
 -- the values that are left
 abbrev pub numbers_left : ValuesLeft → List ℕ
@@ -93,7 +93,8 @@ StaysAt at Back = Unit {0}
 abbrev pub work_left : Area → Contents → Went → List Left → ℕ
 work_left area c w ls = work_then area c w + values_work area c.points ls
 
--- Of a machine that came back to these values, and so took their choice point away: the least was tried, and the others are kept in a new choice point, if there are any. Whatever was still to come before it came back is to come now, and the work falls.
+-- Of a machine that came back to these values, and so took their choice point away: the least was tried, and the others are kept in a new choice point, if
+-- there are any. Whatever was still to come before it came back is to come now, and the work falls.
 pub record IsTried (area : Area) (s : branch.State) (at : ℕ) (c : Contents) (v : ValuesLeft) (s' : branch.State) (c' : Contents) (t : Tried) : Type 0 where
   pub kept : c' ≡ with_point c at t.left
   pub below : IsSameBelow (with_mark s t.left) s'

@@ -3,13 +3,13 @@
 ghost use Rattle.std.specs.Prelude.{◌≡◌, ◌<◌, length, IfOk};
 ghost use Rattle.wam_code.specs.declared.instruction.Code.TheVariants as step;
 ghost use Rattle.wam_code.specs.Area.{Span, Holds, HasQuery};
-ghost use Rattle.code_states.specs.Queries.{IsInQuery};
+ghost use Rattle.code_safety.specs.Queries.{IsInQuery};
 ghost use Rattle.code_areas.specs.Areas.{IsSet};
-ghost use Rattle.code_states.specs.Safety.{IsSafe};
+ghost use Rattle.code_safety.specs.Safety.{IsSafe};
 ghost use Rattle.code_goals.specs.Answers.{AreSlots, HasFirstSlots, ShowsAnswer};
 ghost use Rattle.code_goals.specs.GoalTexts.{ShowsWritten};
 
-use crate::next::pool_of;
+use crate::goal_outcomes::pool_of;
 use branch_state::BranchState;
 use code_areas::Areas;
 use fd_language::NoMemory;

@@ -2,21 +2,21 @@
 
 ghost use Rattle.std.specs.Prelude.{◌≡◌, IfOk, OnOk};
 ghost use Rattle.fd_model.specs.declared.kinds.BuiltinKind.TheVariants as kinds;
-ghost use Rattle.machine_frames.specs.Frames.{IsGrown};
+ghost use Rattle.branch_lemmas.specs.Frames.{IsGrown};
 ghost use Rattle.branch_state.specs.States.{IsSameBelow, with_heap};
 ghost use Rattle.wam_code.specs.declared.instruction.Code.TheVariants as step;
 ghost use Rattle.wam_code.specs.Arities.{builtin_arity};
 ghost use Rattle.wam_code.specs.Area.{Holds};
-ghost use Rattle.code_states.specs.Safety.{IsSafe};
+ghost use Rattle.code_safety.specs.Safety.{IsSafe};
 ghost use Rattle.code_goals.specs.Arguments.{HasArguments};
 ghost use Rattle.code_goals.specs.Builtins.{ComesTo, IsFound, IsSecond, IsSilent, has_one_argument};
-ghost use Rattle.code_goals.specs.Taking.{IsSafeNext, LeadsNext, SaysNothing, Takes};
+ghost use Rattle.code_goals.specs.GoalOutcomes.{IsSafeNext, LeadsNext, SaysNothing, Takes};
 
-use crate::next::{Next, next_if, pool_of};
+use crate::goal_outcomes::{Next, next_if, pool_of};
 use branch_goals::{Found, find};
 use branch_state::BranchState;
 use code_areas::Areas;
-use code_states::{behind, equate};
+use code_safety::{behind, equate};
 use fd_language::NoMemory;
 use fd_model::kinds::BuiltinKind;
 use heap_cells::Cell;

@@ -1,19 +1,19 @@
 //! Constraints.
 
 ghost use Rattle.std.specs.Prelude.{◌≡◌, IfOk, OnOk};
-ghost use Rattle.machine_frames.specs.Frames.{IsGrown};
+ghost use Rattle.branch_lemmas.specs.Frames.{IsGrown};
 ghost use Rattle.branch_state.specs.States.{IsCell, IsSameBelow, with_heap};
 ghost use Rattle.wam_code.specs.declared.instruction.Code.TheVariants as step;
 ghost use Rattle.wam_code.specs.Area.{Holds};
 ghost use Rattle.wam_code.specs.Arities.{constraint_arity};
-ghost use Rattle.code_states.specs.Safety.{IsSafe};
+ghost use Rattle.code_safety.specs.Safety.{IsSafe};
 ghost use Rattle.code_goals.specs.Arguments.{HasArguments, IsGathered, IsGoal};
-ghost use Rattle.code_goals.specs.Taking.{IsSafeNext, LeadsNext, Takes};
+ghost use Rattle.code_goals.specs.GoalOutcomes.{IsSafeNext, LeadsNext, Takes};
 
-use crate::next::{Next, pool_of};
+use crate::goal_outcomes::{Next, pool_of};
 use branch_state::{BranchState, Step};
 use code_areas::Areas;
-use code_states::behind;
+use code_safety::behind;
 use fd_language::NoMemory;
 use fd_model::kinds::ConstraintKind;
 use heap_cells::Cell;

@@ -7,14 +7,14 @@ ghost use Rattle.branch_goals.specs.Labels.{values_of};
 ghost use Rattle.branch_state.specs.States.{IsSound};
 ghost use Rattle.wam_code.specs.declared.instruction.Code.TheVariants as step;
 ghost use Rattle.wam_code.specs.Area.{Holds};
-ghost use Rattle.code_states.specs.Safety.{IsSafe};
+ghost use Rattle.code_safety.specs.Safety.{IsSafe};
 ghost use Rattle.code_goals.specs.Values.{BringsMost, IsOpen, IsOpenAt, IsSafeLabelled, IsTried, KeepsValues, Labels, LeadsLabelled};
 
-use crate::next::{Next, pool_of};
+use crate::goal_outcomes::{Next, pool_of};
 use branch_goals::{Labelling, label};
 use branch_state::BranchState;
 use code_areas::Areas;
-use code_states::{Went, behind, equate, on_if};
+use code_safety::{Went, behind, equate, on_if};
 use domain_ranges::{Domain, View};
 use fd_language::NoMemory;
 use fd_model::kinds::Order;

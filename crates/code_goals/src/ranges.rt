@@ -2,15 +2,15 @@
 
 ghost use Rattle.std.specs.Prelude.{◌≡◌, ◌≤◌, length, drop, IfOk, OnOk};
 ghost use Rattle.branch_state.specs.States.{IsSameBelow};
-ghost use Rattle.code_states.specs.Safety.{IsSafe};
+ghost use Rattle.code_safety.specs.Safety.{IsSafe};
 ghost use Rattle.code_goals.specs.Posting.{PostsAt};
-ghost use Rattle.code_goals.specs.Taking.{IsSafeNext, LeadsNext, Takes};
+ghost use Rattle.code_goals.specs.GoalOutcomes.{IsSafeNext, LeadsNext, Takes};
 
 use crate::constraints::gather;
-use crate::next::Next;
+use crate::goal_outcomes::Next;
 use branch_state::{BranchState, Step};
 use code_areas::Areas;
-use code_states::behind;
+use code_safety::behind;
 use fd_language::NoMemory;
 use heap_cells::Cell;
 use propagate_queue::Agenda;

@@ -1,3 +1,3 @@
-mod Joining
+mod JoinedTexts
 mod SlotNodes
 pub mod Lemmas

@@ -1,5 +1,6 @@
 -- The nodes of a range, with its slots in place of its variables.
-use Rattle.std.proofs.Common.{◌≡◌, ℕ, suc, ◌<◌, ◌≤◌, ◌+◌, Bool, true, false, cond, not, nat_eq, nat_lt, List, [], ◌∷◌, ◌++◌, map, take, length, get_or, refl, sym, ◌∙◌, ap, Option, Some, None, arith}
+use Rattle.std.proofs.Common.{◌≡◌, ℕ, suc, ◌<◌, ◌≤◌, ◌+◌, Bool, true, false, cond, not, nat_eq, nat_lt, List, [], ◌∷◌, ◌++◌, map, take, length, get_or, refl}
+use Rattle.std.proofs.Common.{sym, ◌∙◌, ap, Option, Some, None, arith}
 use Rattle.std.specs.Prelude.{option_map, position}
 use Rattle.std.specs.List.{position_or_len}
 use Rattle.std.specs.Option.{option_to_list}
@@ -7,10 +8,11 @@ use Rattle.std.proofs.lemmas.List.Concat.{flat_map-append}
 use Rattle.std.proofs.lemmas.List.{append-nil, map-append, take_more}
 use Rattle.fd_language.specs.declared.range_node.RangeNode.{RangeNode}
 use Rattle.fd_language.specs.declared.range_node.RangeNode.TheVariants as node
-use Rattle.fd_language.specs.Range.{Range, Span, One, Dom, Union, Inter, Outside, Plus, Minus, Times, Over, Expr, Number, Infinity, Param, Min, Max, Val, Add, Sub, Mul, DivDown, DivUp, Leaf, leaf_of, from_leaf, from_node}
+use Rattle.fd_language.specs.Range.{Range, Span, One, Dom, Union, Inter, Outside, Plus, Minus, Times, Over, Expr, Number, Infinity, Param, Min, Max, Val, Add}
+use Rattle.fd_language.specs.Range.{Sub, Mul, DivDown, DivUp, Leaf, leaf_of, from_leaf, from_node}
 use Rattle.fd_language.specs.Needs.{once}
 use Rattle.fd_language.specs.Occurrences.{range_occurrences}
-use Rattle.fd_language.specs.Flat.{expr_nodes, range_nodes, nodes_of}
+use Rattle.fd_language.specs.PostfixRanges.{expr_nodes, range_nodes, nodes_of}
 use Rattle.fd_language.specs.RangeRenaming.{rename_expr, rename_range}
 use Rattle.fd_language.proofs.Lemmas.{whole_nodes, variables_collected}
 use Rattle.range_code.specs.Nodes.{node_variable, node_variables, rename_node}
@@ -58,14 +60,18 @@ one_more ms m = flat_map-append (from_node (λ l. l.variable ∷ [])) ms (m ∷ 
   alone None = refl
   alone (Some l) = refl
 
-pub met_more : (nodes : List RangeNode) (i : ℕ) (d : RangeNode) (old new : List ℕ) → i < length nodes → old ≡ once (node_variables (take i nodes)) → ((xs : List ℕ) → old ≡ once xs → new ≡ once (xs ++ option_to_list (node_variable (get_or nodes i d)))) → new ≡ once (node_variables (take (i + 1) nodes))
+pub met_more : (nodes : List RangeNode) (i : ℕ) (d : RangeNode) (old new : List ℕ) → i < length nodes → old ≡ once (node_variables (take i nodes))
+    → ((xs : List ℕ) → old ≡ once xs → new ≡ once (xs ++ option_to_list (node_variable (get_or nodes i d)))) → new ≡ once (node_variables (take (i + 1) nodes))
 met_more nodes i d old new l h f = f (node_variables (take i nodes)) h ∙ ap once (sym (ap node_variables (take_more nodes i d l) ∙ one_more (take i nodes) (get_or nodes i d)))
 
-pub named_more : (f : RangeNode → RangeNode) (xs : List RangeNode) (i : ℕ) (d : RangeNode) (old new : List RangeNode) (y : RangeNode) → i < length xs → old ≡ map f (take i xs) → new ≡ old ++ y ∷ [] → y ≡ f (get_or xs i d) → new ≡ map f (take (i + 1) xs)
-named_more f xs i d old new y l h e g = e ∙ (ap (λ ys. ys ++ y ∷ []) h ∙ (ap (λ z. map f (take i xs) ++ z ∷ []) g ∙ sym (ap (map f) (take_more xs i d l) ∙ map-append f (take i xs) (get_or xs i d ∷ []))))
+pub named_more : (f : RangeNode → RangeNode) (xs : List RangeNode) (i : ℕ) (d : RangeNode) (old new : List RangeNode) (y : RangeNode) → i < length xs
+    → old ≡ map f (take i xs) → new ≡ old ++ y ∷ [] → y ≡ f (get_or xs i d) → new ≡ map f (take (i + 1) xs)
+named_more f xs i d old new y l h e g = e ∙ (ap (λ ys. ys ++ y ∷ []) h
+    ∙ (ap (λ z. map f (take i xs) ++ z ∷ []) g ∙ sym (ap (map f) (take_more xs i d l) ∙ map-append f (take i xs) (get_or xs i d ∷ []))))
 
 -- nodes with the slots of their range's variables
-pub in_slots_are : (r : Range) (ns ms : List RangeNode) (keys : List ℕ) → ns ≡ nodes_of r → keys ≡ once (node_variables ns) → ms ≡ map (rename_node (λ y. position_or_len (nat_eq y) keys)) ns → ms ≡ nodes_of (in_slots r)
+pub in_slots_are : (r : Range) (ns ms : List RangeNode) (keys : List ℕ) → ns ≡ nodes_of r → keys ≡ once (node_variables ns)
+    → ms ≡ map (rename_node (λ y. position_or_len (nat_eq y) keys)) ns → ms ≡ nodes_of (in_slots r)
 in_slots_are r ns ms keys e k m =
     let keyed : keys ≡ slots_of r = k ∙ ap once (ap node_variables e ∙ node_variables_of r) in
     m ∙ (ap (λ l. map (rename_node (λ y. position_or_len (nat_eq y) l)) ns) keyed ∙ (ap (map (rename_node (slot_of r))) e ∙ names_of (slot_of r) r))

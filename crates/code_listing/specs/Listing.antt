@@ -2,8 +2,8 @@
 -- the variables of ranges, with the state of each place.
 use Rattle.std.specs.Prelude.{◌≡◌, ℕ, List, [], ◌∷◌, ◌++◌, map, drop, length, slice_index_or, codes, decimal}
 use Rattle.fd_language.specs.Term.{Name}
-use Rattle.fd_language.specs.Writing.{Quoted, atom_text}
-use Rattle.fd_language.specs.Flat.{nodes_of}
+use Rattle.fd_language.specs.TermTexts.{Quoted, atom_text}
+use Rattle.fd_language.specs.PostfixRanges.{nodes_of}
 use Rattle.fd_language.specs.declared.range_node.RangeNode.{RangeNode}
 use Rattle.range_code.specs.Slots.{in_slots}
 use Rattle.wam_code.specs.declared.instruction.Code.{Code}

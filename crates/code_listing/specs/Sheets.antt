@@ -1,6 +1,6 @@
 -- What a text can tell, and the code that it tells.
 use Rattle.std.specs.Prelude.{◌≡◌, ℕ, Bool, true, IsTrue, List, [], ◌∷◌, ◌++◌, map, length, slice_get, Some, All}
-use Rattle.fd_language.specs.Flat.{spelled_range}
+use Rattle.fd_language.specs.PostfixRanges.{spelled_range}
 use Rattle.term_pool.specs.Contents.{first_names}
 use Rattle.wam_code.specs.declared.instruction.Key.{Key}
 use Rattle.wam_code.specs.declared.instruction.Code.{Code}

@@ -10,7 +10,12 @@ use Rattle.wam_code.specs.declared.instruction.Key.{Key}
 use Rattle.wam_code.specs.declared.instruction.Key.TheVariants as key
 use Rattle.wam_code.specs.declared.instruction.Code.{Code}
 use Rattle.wam_code.specs.declared.instruction.Code.TheVariants as code
-use Rattle.wam_code.specs.declared.instruction.Code.TheVariants.{GetVariable, GetValue, GetConstant, GetInteger, GetStructure, UnifyVariable, UnifyValue, UnifyConstant, UnifyInteger, UnifyVoid, PutVariable, PutValue, PutConstant, PutInteger, PutStructure, Allocate, Deallocate, Call, Execute, Proceed, Jump, FailNow, AnswerNow, TryMeElse, RetryMeElse, TrustMe, Try, Retry, Trust, SwitchOnTerm, SwitchOnConstant, SwitchOnInteger, SwitchOnStructure, Either, Builtin, Constrain, Label, Best, PostRange, TestOnly, EnterTest, CutTo}
+use Rattle.wam_code.specs.declared.instruction.Code.TheVariants.{GetVariable, GetValue, GetConstant, GetInteger, GetStructure, UnifyVariable, UnifyValue}
+use Rattle.wam_code.specs.declared.instruction.Code.TheVariants.{UnifyConstant, UnifyInteger, UnifyVoid, PutVariable, PutValue, PutConstant, PutInteger}
+use Rattle.wam_code.specs.declared.instruction.Code.TheVariants.{PutStructure, Allocate, Deallocate, Call, Execute, Proceed, Jump, FailNow, AnswerNow}
+use Rattle.wam_code.specs.declared.instruction.Code.TheVariants.{TryMeElse, RetryMeElse, TrustMe, Try, Retry, Trust, SwitchOnTerm, SwitchOnConstant}
+use Rattle.wam_code.specs.declared.instruction.Code.TheVariants.{SwitchOnInteger, SwitchOnStructure, Either, Builtin, Constrain, Label, Best, PostRange}
+use Rattle.wam_code.specs.declared.instruction.Code.TheVariants.{TestOnly, EnterTest, CutTo}
 use Rattle.wam_code.specs.declared.parts.Entry.{Entry}
 use Rattle.wam_code.specs.Area.{Slot, Unset, Cell, Level, State, Span, Table}
 use Rattle.code_listing.specs.Words.{between, words}

@@ -3,7 +3,7 @@
 #![tactic(auto)]
 
 mod instruction;
-mod listed;
+mod listed_code;
 mod names;
 mod numbers;
 mod slots;
@@ -11,7 +11,7 @@ mod states;
 mod words;
 mod write;
 
-pub use crate::listed::Listed;
+pub use crate::listed_code::Listed;
 pub use crate::names::{builtin_arity, constraint_arity};
 pub use crate::states::{PlaceState, Slot};
 pub use crate::write::write_listing;

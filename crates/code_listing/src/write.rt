@@ -1,10 +1,10 @@
 //! The lines of a listing.
 
 ghost use Rattle.std.specs.Prelude.{◌≡◌, ◌++◌, ◌<◌, ◌≤◌, [], ◌∷◌, List, map, drop, length, slice_index_or, codes, decimal, All, IfOk, OnOk};
-ghost use Rattle.fd_language.specs.Writing.{Quoted, atom_text};
-ghost use Rattle.fd_language.specs.Flat.{nodes_of};
+ghost use Rattle.fd_language.specs.TermTexts.{Quoted, atom_text};
+ghost use Rattle.fd_language.specs.PostfixRanges.{nodes_of};
 ghost use Rattle.range_code.specs.Slots.{in_slots};
-ghost use Rattle.term_pool.specs.Valid.{IsPool};
+ghost use Rattle.term_pool.specs.PoolInvariant.{IsPool};
 ghost use Rattle.wam_code.specs.Area.{span_of, Holds};
 ghost use Rattle.wam_code.specs.VerifiedCode.{IsThere};
 ghost use Rattle.code_listing.specs.Words.{words, more_words, line_bytes};
@@ -13,7 +13,7 @@ ghost use Rattle.code_listing.specs.Listing.{counted, places_text, table_of as i
 ghost use Rattle.code_listing.specs.States.{slot_of, state_of, states_of};
 
 use crate::instruction::put_instruction;
-use crate::listed::Listed;
+use crate::listed_code::Listed;
 use crate::numbers::put_number;
 use crate::slots::slot_nodes;
 use crate::states::{PlaceState, Slot};

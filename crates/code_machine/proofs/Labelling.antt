@@ -1,12 +1,13 @@
 -- The labels of choice points, and what is left at each.
-use Rattle.std.proofs.Common.{◌≡◌, ℕ, zero, suc, ◌+◌, ◌<◌, ◌≤◌, ◌==◌, ltb, if◌then◌else◌, true, false, List, [], ◌∷◌, length, drop, refl, ap, sym, ◌∙◌, subst, inl, inr, arith, eq-eqb, Bool, ne_eqb}
+use Rattle.std.proofs.Common.{◌≡◌, ℕ, zero, suc, ◌+◌, ◌<◌, ◌≤◌, ◌==◌, ltb, if◌then◌else◌, true, false, List, [], ◌∷◌, length, drop, refl, ap, sym, ◌∙◌, subst}
+use Rattle.std.proofs.Common.{inl, inr, arith, eq-eqb, Bool, ne_eqb}
 use Rattle.std.proofs.lemmas.Bool.{lt-ltb, le-ltb}
 use Rattle.heap_cells.specs.Cells.{Cells}
 use Rattle.wam_code.specs.Area.{Area}
 use Rattle.code_areas.specs.Areas.{Point}
-use Rattle.code_steps.specs.Running.{Left, resume, values}
+use Rattle.code_meaning.specs.MachineStates.{Left, resume, values}
 use Rattle.code_goals.specs.declared.labels.ValuesLeft.{ValuesLeft}
-use Rattle.code_states.specs.Work.{values_work}
+use Rattle.code_safety.specs.Work.{values_work}
 use Rattle.code_goals.specs.Values.{IsOpen, left_of}
 use Rattle.code_machine.specs.declared.run.Label.{Label}
 use Rattle.code_machine.specs.Labels.{labels_below, lefts_by, AreLabels}
@@ -38,7 +39,8 @@ lefts_more p ps (l ∷ ls) apart = if_false (l.point == length ps) (left_of p.pl
 
 -- that of the newest label has its values
 pub lefts_values : (p : Point) (ps : List Point) (v : ValuesLeft) (ls : List Label) → lefts_by (p ∷ ps) (record { point = length ps; values = v } ∷ ls) ≡ left_of p.place v ∷ lefts_by ps ls
-lefts_values p ps v ls = if_true (length ps == length ps) (left_of p.place v ∷ lefts_by ps ls) (resume p.place ∷ lefts_by ps (record { point = length ps; values = v } ∷ ls)) (eq-eqb (length ps) (length ps) refl)
+lefts_values p ps v ls = if_true (length ps == length ps) (left_of p.place v ∷ lefts_by ps ls)
+    (resume p.place ∷ lefts_by ps (record { point = length ps; values = v } ∷ ls)) (eq-eqb (length ps) (length ps) refl)
 
 same_label : (l m : Label) (ls ms : List Label) → l ∷ ls ≡ m ∷ ms → l ≡ m
 same_label l m ls ms e = cc
@@ -52,13 +54,15 @@ no_newest area ps hs (m ∷ ms) own l rest e at =
     omega (arith, low, same, at)
 
 -- the point is gone, and had no label
-pub labels_less : (area : Area) (p : Point) (ps : List Point) (h : Cells) (hs : List Cells) (ls : List Label) → ((l : Label) (rest : List Label) → ls ≡ l ∷ rest → l.point ≡ length ps → ⊥) → AreLabels area (p ∷ ps) (h ∷ hs) ls → AreLabels area ps hs ls
+pub labels_less : (area : Area) (p : Point) (ps : List Point) (h : Cells) (hs : List Cells) (ls : List Label)
+    → ((l : Label) (rest : List Label) → ls ≡ l ∷ rest → l.point ≡ length ps → ⊥) → AreLabels area (p ∷ ps) (h ∷ hs) ls → AreLabels area ps hs ls
 labels_less area p ps h hs [] apart own = tt
 labels_less area p ps h hs (l ∷ ls) apart (inl own) = absurd (apart l ls refl own.0)
 labels_less area p ps h hs (l ∷ ls) apart (inr own) = own.1
 
 -- or it had this one
-pub label_gone : (area : Area) (p : Point) (ps : List Point) (h : Cells) (hs : List Cells) (v : ValuesLeft) (ls : List Label) → AreLabels area (p ∷ ps) (h ∷ hs) (record { point = length ps; values = v } ∷ ls) → IsOpen area h v × AreLabels area ps hs ls
+pub label_gone : (area : Area) (p : Point) (ps : List Point) (h : Cells) (hs : List Cells) (v : ValuesLeft) (ls : List Label)
+    → AreLabels area (p ∷ ps) (h ∷ hs) (record { point = length ps; values = v } ∷ ls) → IsOpen area h v × AreLabels area ps hs ls
 label_gone area p ps h hs v ls (inl own) = (own.1, own.2)
 label_gone area p ps h hs v ls (inr own) = (let low = own.0 in absurd (omega (arith, low)))
 
@@ -71,7 +75,8 @@ either_long false xs ys n e f = f
 pub lefts_long : (ps : List Point) (ls : List Label) → length (lefts_by ps ls) ≡ length ps
 lefts_long [] ls = refl
 lefts_long (p ∷ ps) [] = ap suc (lefts_long ps [])
-lefts_long (p ∷ ps) (l ∷ ls) = either_long (l.point == length ps) (left_of p.place l.values ∷ lefts_by ps ls) (resume p.place ∷ lefts_by ps (l ∷ ls)) (suc (length ps)) (ap suc (lefts_long ps ls)) (ap suc (lefts_long ps (l ∷ ls)))
+lefts_long (p ∷ ps) (l ∷ ls) = either_long (l.point == length ps) (left_of p.place l.values ∷ lefts_by ps ls) (resume p.place ∷ lefts_by ps (l ∷ ls))
+    (suc (length ps)) (ap suc (lefts_long ps ls)) (ap suc (lefts_long ps (l ∷ ls)))
 
 -- ---- the newest points are dropped
 
@@ -97,7 +102,8 @@ all_stay area ps hs [] n own low = refl
 all_stay area ps hs (l ∷ ls) n own low = let m = newest_low area ps hs l ls own in label_stays n l ls (omega (arith, m, low))
 
 -- The labels of the k points that are left are theirs.
-pub labels_oldest : (area : Area) (n k : ℕ) (ps : List Point) (hs : List Cells) (ls : List Label) → k + n ≡ length ps → AreLabels area ps hs ls → AreLabels area (drop n ps) (drop n hs) (labels_below k ls)
+pub labels_oldest : (area : Area) (n k : ℕ) (ps : List Point) (hs : List Cells) (ls : List Label) → k + n ≡ length ps → AreLabels area ps hs ls
+    → AreLabels area (drop n ps) (drop n hs) (labels_below k ls)
 labels_oldest area zero k ps hs ls e own = subst (AreLabels area ps hs) (sym (all_stay area ps hs ls k own (omega (arith, e)))) own
 labels_oldest area (suc n) k [] hs ls e own = absurd (omega (arith, e))
 labels_oldest area (suc n) k (p ∷ ps) hs [] e own = tt
@@ -108,7 +114,8 @@ labels_oldest area (suc n) k (p ∷ ps) (h ∷ hs) (l ∷ ls) e (inl own) =
 labels_oldest area (suc n) k (p ∷ ps) (h ∷ hs) (l ∷ ls) e (inr own) = labels_oldest area n k ps hs (l ∷ ls) (omega (arith, e)) own.1
 
 -- and so is what is left there
-pub lefts_oldest : (area : Area) (n k : ℕ) (ps : List Point) (hs : List Cells) (ls : List Label) → k + n ≡ length ps → AreLabels area ps hs ls → drop n (lefts_by ps ls) ≡ lefts_by (drop n ps) (labels_below k ls)
+pub lefts_oldest : (area : Area) (n k : ℕ) (ps : List Point) (hs : List Cells) (ls : List Label) → k + n ≡ length ps → AreLabels area ps hs ls
+    → drop n (lefts_by ps ls) ≡ lefts_by (drop n ps) (labels_below k ls)
 lefts_oldest area zero k ps hs ls e own = ap (lefts_by ps) (sym (all_stay area ps hs ls k own (omega (arith, e))))
 lefts_oldest area (suc n) k [] hs ls e own = absurd (omega (arith, e))
 lefts_oldest area (suc n) k (p ∷ ps) hs [] e own = lefts_oldest area n k ps [] [] (omega (arith, e)) tt

@@ -1,8 +1,8 @@
 mod Labelling
-mod Moving
-mod Working
-mod Taking
-mod Returning
-mod Running
-mod Stepping
-mod Starting
+mod UncountedInstructions
+mod WorkMeasure
+mod GoalSteps
+mod Backtracking
+mod MachineRuns
+mod StageSteps
+mod InitialMachine

@@ -2,8 +2,6 @@
 use Rattle.std.specs.Prelude.{ℕ}
 use Rattle.wam_code.specs.declared.instruction.Code.{Code}
 use Rattle.wam_code.specs.declared.instruction.Code.TheVariants as step
-use Rattle.wam_code.specs.declared.instruction.Instr.{Instr}
-use Rattle.wam_code.specs.declared.instruction.Instr.TheVariants as instr
 use Rattle.wam_code.specs.Area.{Area, Holds}
 
 -- none of a clause's terms or of its frame, no level, no jump, and no switch by kinds
@@ -58,11 +56,6 @@ IsChoice (step.SwitchOnConstant t) = Unit {0}
 IsChoice (step.SwitchOnInteger t) = Unit {0}
 IsChoice (step.SwitchOnStructure t) = Unit {0}
 IsChoice _ = ⊥
-
--- a range to be posted
-abbrev pub IsPost : Instr → Type 0
-IsPost (instr.PostRange r n) = Unit {0}
-IsPost _ = ⊥
 
 -- the code has a goal that is no call, no disjunction, no test and no cut
 abbrev pub HasGoal : Area → Type 0

@@ -3,8 +3,8 @@ use Rattle.std.specs.Prelude.{◌≡◌, ◌⊎◌, ℕ, ◌<◌, ◌+◌, ◌==
 use Rattle.heap_cells.specs.Cells.{Cells}
 use Rattle.wam_code.specs.Area.{Area}
 use Rattle.code_areas.specs.Areas.{Point, Contents}
-use Rattle.code_steps.specs.Running.{Left, resume}
-use Rattle.code_states.specs.Work.{work_at, work_back, values_work}
+use Rattle.code_meaning.specs.MachineStates.{Left, resume}
+use Rattle.code_safety.specs.Work.{work_at, work_back, values_work}
 use Rattle.code_goals.specs.Values.{IsOpen, left_of}
 use Rattle.code_machine.specs.declared.run.Label.{Label}
 

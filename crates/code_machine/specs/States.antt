@@ -1,12 +1,13 @@
 -- What a machine is seen as, and what its state stands for.
-use Rattle.std.specs.Prelude.{min, ◌≡◌, ℕ, ◌+◌, ◌*◌, ◌-◌, ◌<◌, ◌≤◌, ◌^◌, Bool, true, false, suc, List, [], ◌∷◌, length, map, reverse, Option, Some, None, MatchOption, if◌then◌else◌, nat_eq, slice_index_or}
+use Rattle.std.specs.Prelude.{min, ◌≡◌, ℕ, ◌+◌, ◌*◌, ◌-◌, ◌<◌, ◌≤◌, ◌^◌, Bool, true, false, suc, List, [], ◌∷◌, length, map, reverse, Option, Some, None}
+use Rattle.std.specs.Prelude.{MatchOption, if◌then◌else◌, nat_eq, slice_index_or}
 use Rattle.std.specs.Option.{option_eq}
 use Rattle.fd_language.specs.declared.TheConstants.{INFINITY}
 use Rattle.fd_language.specs.Term.{Name}
 use Rattle.fd_model.specs.Goal.{Program, Query, Event}
 use Rattle.fd_model.specs.Run.{IsLimit}
-use Rattle.fd_model.specs.Sound.{EachBelow, NumbersBelow, AreRunnable}
-use Rattle.machine_relation.specs.Next.{is_final, IsNext}
+use Rattle.fd_model.specs.RunnablePrograms.{EachBelow, NumbersBelow, AreRunnable}
+use Rattle.branch_meaning.specs.NextEvent.{is_final, IsNext}
 use Rattle.machine_events.specs.declared.Limits.{Limits}
 use Rattle.machine_events.specs.declared.MachineEvent.{MachineEvent}
 use Rattle.machine_events.specs.declared.MachineEvent.TheVariants as event
@@ -16,15 +17,15 @@ use Rattle.branch_state.specs.States as branch
 use Rattle.wam_code.specs.declared.instruction.Code.{Code}
 use Rattle.wam_code.specs.declared.instruction.Code.TheVariants as step
 use Rattle.wam_code.specs.Area.{Area, Span, Holds, HasQuery, name_of}
-use Rattle.wam_code.specs.Ending.{weight}
+use Rattle.wam_code.specs.WorkMeasure.{weight}
 use Rattle.wam_code.specs.Tries.{IsQueryCode}
 use Rattle.code_areas.specs.Areas.{IsSet, Point, Contents}
-use Rattle.code_steps.specs.Running.{Left}
-use Rattle.code_states.specs.Queries.{EndsIn, IsInQuery}
-use Rattle.code_states.specs.Safety.{IsSafe, IsSafeBack}
-use Rattle.code_states.specs.Stages.{Task, RunsAt, ReturnsTo, IsReadyToRun}
-use Rattle.code_states.specs.Standing.{IsNaming}
-use Rattle.code_states.specs.Work.{left_by}
+use Rattle.code_meaning.specs.MachineStates.{Left}
+use Rattle.code_safety.specs.Queries.{EndsIn, IsInQuery}
+use Rattle.code_safety.specs.Safety.{IsSafe, IsSafeBack}
+use Rattle.code_safety.specs.RemainingEvents.{Task, RunsAt, ReturnsTo, IsReadyToRun}
+use Rattle.code_safety.specs.RepresentedBranch.{IsNaming}
+use Rattle.code_safety.specs.Work.{left_by}
 use Rattle.code_goals.specs.Answers.{IsAsked, ShowsAnswer}
 use Rattle.code_goals.specs.Tasks as tasks
 use Rattle.code_goals.specs.Tasks.{task_of}
@@ -40,7 +41,8 @@ use Rattle.code_machine.specs.declared.run.Stage.TheVariants.{Going, Returning, 
 use Rattle.code_machine.specs.Instructions.{HasGoal}
 use Rattle.code_machine.specs.Labels.{lefts_by, AreLabels, whole_at, whole_back}
 
--- The code, the number of the query, and how far its run has come. The labels are the newest first. lost: memory was wanting. budget and limit are what is left of limits; answers counts those given, and stays at its last value.
+-- The code, the number of the query, and how far its run has come. The labels are the newest first. lost: memory was wanting. budget and limit are what is left
+-- of limits; answers counts those given, and stays at its last value.
 pub record State : Type 0 where
   pub area : Area
   pub query : ℕ
@@ -61,7 +63,20 @@ no_limits = record { steps = 0; answers = None; infinity = 0 }
 
 abbrev pub state_of : Area → branch.State → Run → Bool → State
 state_of area s r lost =
-    record { area = area; query = r.query; branch = s; areas = r.areas; labels = reverse r.labels.items; stage = r.stage; budget = r.budget; limit = r.limit; spent = r.spent; lost = lost; limits = no_limits; answers = 0 }
+    record {
+      area = area;
+      query = r.query;
+      branch = s;
+      areas = r.areas;
+      labels = reverse r.labels.items;
+      stage = r.stage;
+      budget = r.budget;
+      limit = r.limit;
+      spent = r.spent;
+      lost = lost;
+      limits = no_limits;
+      answers = 0;
+    }
 
 -- a run with these
 abbrev pub state_within : Area → branch.State → Run → Bool → Limits → ℕ → State
@@ -257,7 +272,8 @@ pub record Tells (old : State) (w : Saying) (new : State) : Type 0 where
 abbrev pub IsStep : State → Option Saying → State → Type 0
 IsStep old o new = MatchOption o (IsQuiet old new) (λ w. Tells old w new)
 
--- With this budget, an instruction that may say something: the answer, a goal that is no call, no disjunction, no test and no cut, or any goal where no reduction is left.
+-- With this budget, an instruction that may say something: the answer, a goal that is no call, no disjunction, no test and no cut, or any goal where no
+-- reduction is left.
 abbrev pub MaySay : ℕ → Code → Type 0
 MaySay n step.AnswerNow = Unit {0}
 MaySay n (step.Builtin k) = Unit {0}

@@ -6,18 +6,18 @@ use Rattle.branch_state.specs.States.{IsSameBelow, with_pair}
 use Rattle.wam_code.specs.Area.{Area}
 use Rattle.wam_code.specs.declared.instruction.Code.{Code}
 use Rattle.code_areas.specs.Areas.{Contents}
-use Rattle.code_states.specs.declared.went.Went.{Went}
-use Rattle.code_states.specs.declared.went.Went.TheVariants.{On, Back}
-use Rattle.code_states.specs.Choices.{point_of}
-use Rattle.code_states.specs.Queries.{KeepsQuery, KeepsQueryThen}
-use Rattle.code_states.specs.Safety.{IsSafeThen}
-use Rattle.code_states.specs.Stages.{Future, RunsAt, ReturnsTo, RunsThen, LeavesChoice}
-use Rattle.code_states.specs.Standing.{IsNaming}
-use Rattle.code_states.specs.Work.{work_at, work_then}
+use Rattle.code_safety.specs.declared.instruction_outcomes.Went.{Went}
+use Rattle.code_safety.specs.declared.instruction_outcomes.Went.TheVariants.{On, Back}
+use Rattle.code_safety.specs.Choices.{point_of}
+use Rattle.code_safety.specs.Queries.{KeepsQuery, KeepsQueryThen}
+use Rattle.code_safety.specs.Safety.{IsSafeThen}
+use Rattle.code_safety.specs.RemainingEvents.{Future, RunsAt, ReturnsTo, RunsThen, LeavesChoice}
+use Rattle.code_safety.specs.RepresentedBranch.{IsNaming}
+use Rattle.code_safety.specs.Work.{work_at, work_then}
 use Rattle.code_goals.specs.declared.labels.ValuesLeft.{ValuesLeft}
-use Rattle.code_goals.specs.declared.next.Next.{Next}
-use Rattle.code_goals.specs.declared.next.Next.TheVariants as next
-use Rattle.code_goals.specs.Taking.{IsSafeNext, RunsNext}
+use Rattle.code_goals.specs.declared.goal_outcomes.Next.{Next}
+use Rattle.code_goals.specs.declared.goal_outcomes.Next.TheVariants as next
+use Rattle.code_goals.specs.GoalOutcomes.{IsSafeNext, RunsNext}
 use Rattle.code_goals.specs.Tasks.{names_of, task_of}
 use Rattle.code_goals.specs.Values.{RunsWent}
 use Rattle.code_machine.specs.declared.run.Ending.TheVariants as ending
@@ -131,7 +131,8 @@ NoMore area c ls Back w = whole_back area c ls < w
 pub record ComesBack (area : Area) (s : branch.State) (c : Contents) (ls : List Label) (s' : branch.State) (c' : Contents) (ls' : List Label) (w : Went) : Type 0 where
   pub safe : IsSafeThen area s' c' w
   pub labels : AreLabels area c'.points s'.heaps.below ls'
-  pub runs : (prog : Program) (q : Query) (f : Future) → IsNaming area (names_of area) → ReturnsTo area (task_of area prog q) s c (lefts_by c.points ls) f → RunsWent area (task_of area prog q) s' c' (lefts_by c'.points ls') w f
+  pub runs : (prog : Program) (q : Query) (f : Future) → IsNaming area (names_of area) → ReturnsTo area (task_of area prog q) s c (lefts_by c.points ls) f
+      → RunsWent area (task_of area prog q) s' c' (lefts_by c'.points ls') w f
   pub inside : (number : ℕ) → IsInside area number c Returning → IsInside area number c' (stage_of w)
   pub work : NoMore area c' ls' w (whole_back area c ls)
 

@@ -1,16 +1,15 @@
 //! Goals, each of which spends a reduction.
 
-ghost use Rattle.std.specs.Prelude.{◌≡◌, reverse, IfOk, OnOk};
+ghost use Rattle.std.specs.Prelude.{◌≡◌, ◌<◌, length, reverse, IfOk, OnOk};
 ghost use Rattle.wam_code.specs.declared.instruction.Code.TheVariants as step;
 ghost use Rattle.branch_state.specs.States.{IsSameBelow};
 ghost use Rattle.wam_code.specs.Area.{Holds};
-ghost use Rattle.wam_code.specs.Standing.{StandsAt};
-ghost use Rattle.code_states.specs.Safety.{IsSafe};
+ghost use Rattle.code_safety.specs.Safety.{IsSafe};
 ghost use Rattle.code_goals.specs.Builtins.{IsSilent};
-ghost use Rattle.code_goals.specs.Taking.{IsSafeNext, LeadsNext, SaysNothing, Takes};
+ghost use Rattle.code_goals.specs.GoalOutcomes.{IsSafeNext, LeadsNext, SaysNothing, Takes};
 ghost use Rattle.code_machine.specs.Labels.{AreLabels};
-ghost use Rattle.code_machine.specs.Instructions.{IsCall, IsGoal, IsPost};
-ghost use Rattle.code_goals.specs.declared.next.Next.TheVariants as next;
+ghost use Rattle.code_machine.specs.Instructions.{IsCall, IsGoal};
+ghost use Rattle.code_goals.specs.declared.goal_outcomes.Next.TheVariants as next;
 ghost use Rattle.code_machine.specs.Steps.{next_of, Spends};
 
 use crate::labels::{drop_labels, keep_values};
@@ -21,13 +20,13 @@ use code_control::{call, cut_to, either, enter_test, execute, test_only};
 use code_goals::{
     Labelled, Next, take_best, take_builtin, take_constraint, take_label, take_post, take_silent,
 };
-use code_states::Went;
+use code_safety::Went;
 use fd_language::NoMemory;
 use fd_model::kinds::{BuiltinKind, Order};
 use propagate_queue::Agenda;
 use term_instructions::Scratch;
 use unify_core::Touch;
-use wam_code::{Code, CodeArea, Instr};
+use wam_code::{Code, CodeArea};
 
 /// Where a labelling leads that has tried a value.
 fn next_of(went: Went) -> Next
@@ -66,29 +65,33 @@ fn take_labelling<A: Agenda + Drop>(
     }
 }
 
-/// Posts the range at a place, as `take_goal` does.
+/// Posts the range at a place, which has this number there, as `take_goal` does.
 fn post<A: Agenda + Drop>(
     code: &CodeArea,
     at: usize,
-    instr: Instr<'_>,
+    range: usize,
+    count: usize,
     branch: &mut BranchState<A>,
     areas: &Areas,
     scratch: &mut Scratch,
 ) -> Result<Next, NoMemory>
     requires safe { IsSafe code.now branch.old at 0 areas.now }
-    requires stands { StandsAt code.now at instr }
-    requires post { IsPost instr }
+    requires holds { Holds code.now at (step.PostRange range count) }
+    requires there { range < length code.now.ranges }
     ensures safe { IfOk result (IsSafeNext code.now branch.new areas.now) }
     ensures takes { IfOk result (Takes code.now branch.old at areas.now branch.new) }
     ensures leads { IfOk result (LeadsNext at) }
     ensures same { OnOk result (IsSameBelow branch.old branch.new) }
 {
-    match instr {
-        Instr::PostRange(range, count) => {
-            take_post(code, at, range, count, branch, areas, &mut scratch.cells)
-        }
-        _ => unreachable!(),
-    }
+    take_post(
+        code,
+        at,
+        code.range(range),
+        count,
+        branch,
+        areas,
+        &mut scratch.cells,
+    )
 }
 
 /// Takes the cut at a place, to the level in the slot `n`, and gives the next place. What is left for the choice points that it drops is
@@ -194,7 +197,7 @@ pub(crate) fn take_goal<A: Agenda + Drop>(
         Code::Best(order, least) => {
             take_best(code, at, order, least, branch, areas, &mut scratch.touches)
         }
-        Code::PostRange(_, _) => post(code, at, code.instr(at), branch, areas, scratch),
+        Code::PostRange(range, count) => post(code, at, range, count, branch, areas, scratch),
         _ => unreachable!(),
     }
 }

@@ -4,10 +4,10 @@
 mod goals;
 mod labels;
 mod machine;
-mod quiet;
 mod run;
+mod silent_steps;
 mod start;
 mod steps;
-mod walk;
+mod uncounted_instructions;
 
 pub use crate::machine::Machine;

@@ -4,7 +4,7 @@ ghost use Rattle.std.specs.Prelude.{◌≡◌, ◌<◌, ◌≤◌, ◌∷◌, []
 ghost use Rattle.fd_language.specs.declared.TheConstants.{INFINITY as TOP};
 ghost use Rattle.fd_model.specs.Goal.{Program, Query, Event, start_of};
 ghost use Rattle.fd_model.specs.Run.{Run as Runs, IsLimit};
-ghost use Rattle.machine_relation.specs.Next.{is_final, IsNext};
+ghost use Rattle.branch_meaning.specs.NextEvent.{is_final, IsNext};
 ghost use Rattle.machine_events.specs.Events.{event_of, HasTerms};
 ghost use Rattle.machine_events.specs.declared.MachineEvent.TheVariants as event;
 ghost use Rattle.code_machine.specs.Instructions.{HasGoal};

@@ -10,7 +10,7 @@ ghost use Rattle.code_machine.specs.Steps.{saying_next, stage_next};
 
 use crate::goals::take_goal;
 use crate::run::{Ending, Run, Saying, Stage};
-use crate::walk::{code_at, walk};
+use crate::silent_steps::{code_at, walk};
 use branch_state::BranchState;
 use code_goals::{Next, show_answer, show_written};
 use fd_language::NoMemory;

@@ -5,16 +5,16 @@ use Rattle.std.specs.Prelude.{MatchOption}
 use Rattle.wam_code.specs.declared.instruction.Code.TheVariants.{AnswerNow}
 use Rattle.wam_code.specs.declared.parts.Entry.{Entry}
 use Rattle.wam_code.specs.Area.{State, Span, Area, Holds, HasEntry, HasQuery}
-use Rattle.code_text.specs.Alone.{AreAloneTold, FitsAlone, IsAnswerTold, AreAnswersTold}
-use Rattle.code_flow.specs.Failing.{FitsAt, FitsEntry, FitsQuery, IsLastOf, ShowsAt, IsFirstFailing}
+use Rattle.code_text.specs.LocalConditions.{AreAloneTold, FitsAlone, IsAnswerTold, AreAnswersTold}
+use Rattle.code_flow.specs.PlaceConditions.{FitsAt, FitsEntry, FitsQuery, IsLastOf, ShowsAt, IsFirstFailing}
 use Rattle.code_text.specs.Owners.{owner_at, AreOwners, IsOwnerTold, IsOwnersPlace, AreCrossings}
 use Rattle.code_text.specs.Places.{FitsPlace, IsEntryTold, AreSpansTold, HasAllKeys}
-use Rattle.code_text.specs.Told.{IsTold, IsFault, Tells, TellsFaults}
-use Rattle.code_text.proofs.Crossing.{query_fits, entry_fails}
-use Rattle.code_text.proofs.Owning.{owners_kept, one_query}
-use Rattle.code_text.proofs.Placing.{place_past}
-use Rattle.code_text.proofs.Stepping.{crossings_kept}
-use Rattle.code_text.proofs.Telling.{faults_by}
+use Rattle.code_text.specs.FaultPlaces.{IsTold, IsFault, Tells, TellsFaults}
+use Rattle.code_text.proofs.QueryCrossings.{query_fits, entry_fails}
+use Rattle.code_text.proofs.PlaceOwners.{owners_kept, one_query}
+use Rattle.code_text.proofs.PlaceConditions.{place_past}
+use Rattle.code_text.proofs.CrossingFaults.{crossings_kept}
+use Rattle.code_text.proofs.FaultPlaces.{faults_by}
 
 -- ---- what fits at a place
 
@@ -92,8 +92,10 @@ module _ (a : Area) (ss : List State) where
 -- ---- predicates and queries
 
 module _ (a : Area) (ss : List State) (own : List (Option ℕ)) (told entered crossed new : Option ℕ) where
-  pub spans_told : AreOwners a (length a.code) told own → ((p : ℕ) → IsTold told p → IsTold new p) → ((n : ℕ) → n < length a.entries → IsEntryTold a ss own entered n) → ((p : ℕ) → IsTold entered p → IsTold new p)
-      → ((at : ℕ) → at < length a.code → AreCrossings a own crossed at) → ((p : ℕ) → IsTold crossed p → IsTold new p) → AreAloneTold a ss new → AreAnswersTold a ss new → ((n : ℕ) (e : Entry) → HasEntry a n e → n < length a.entries) → AreSpansTold a ss new
+  pub spans_told : AreOwners a (length a.code) told own → ((p : ℕ) → IsTold told p → IsTold new p)
+      → ((n : ℕ) → n < length a.entries → IsEntryTold a ss own entered n) → ((p : ℕ) → IsTold entered p → IsTold new p)
+      → ((at : ℕ) → at < length a.code → AreCrossings a own crossed at) → ((p : ℕ) → IsTold crossed p → IsTold new p) → AreAloneTold a ss new
+      → AreAnswersTold a ss new → ((n : ℕ) (e : Entry) → HasEntry a n e → n < length a.entries) → AreSpansTold a ss new
   spans_told o first es second cs third alone answers low = record { entries = λ n e h. (es_new n e h).0; queries = queries; answers = answers }
     where
       es_new : (n : ℕ) → IsEntryTold a ss own new n
@@ -111,11 +113,16 @@ module _ (a : Area) (ss : List State) (own : List (Option ℕ)) (told entered cr
           go (inr never) (inl f) = inl (query_fits a own new (owners_kept a (length a.code) told new own first o) ss cs_new (λ k e x. (es_new k e x).1) n q h never f)
 
 pub spans_kept : (a : Area) (ss : List State) (old new : Option ℕ) → ((p : ℕ) → IsTold old p → IsTold new p) → AreSpansTold a ss old → AreSpansTold a ss new
-spans_kept a ss old new kept s = record { entries = λ n e h. fits_kept (FitsEntry a ss e) old new e.at kept (s.entries n e h); queries = λ n q h. fits_kept (FitsQuery a ss n q) old new q.at kept (s.queries n q h); answers = λ n q h. answer_kept a ss old new q kept (s.answers n q h) }
+spans_kept a ss old new kept s = record {
+  entries = λ n e h. fits_kept (FitsEntry a ss e) old new e.at kept (s.entries n e h);
+  queries = λ n q h. fits_kept (FitsQuery a ss n q) old new q.at kept (s.queries n q h);
+  answers = λ n q h. answer_kept a ss old new q kept (s.answers n q h);
+}
 
 -- ---- all places
 
-module _ (a : Area) (ss : List State) (told : Option ℕ) (lengths : (length ss ≡ length a.code) ⊎ IsTold told (min (length ss) (length a.code))) (tables : HasAllKeys a ⊎ IsTold told (length a.code)) (spans : AreSpansTold a ss told)
+module _ (a : Area) (ss : List State) (told : Option ℕ) (lengths : (length ss ≡ length a.code) ⊎ IsTold told (min (length ss) (length a.code)))
+    (tables : HasAllKeys a ⊎ IsTold told (length a.code)) (spans : AreSpansTold a ss told)
     (places : (at : ℕ) → at < length a.code → FitsPlace a ss at ⊎ IsTold told at) where
   module _ (at : ℕ) (never : ¬ IsTold told at) where
     not_told : (A : Type 0) (p : ℕ) → p ≡ at → A ⊎ IsTold told p → A

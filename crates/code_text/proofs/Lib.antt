@@ -1,9 +1,9 @@
-mod Telling
-mod Owning
-mod Stepping
-mod Crossing
-mod Reaching
-mod Beginning
-mod Placing
+mod FaultPlaces
+mod PlaceOwners
+mod CrossingFaults
+mod QueryCrossings
+mod Predecessors
+mod EntryStates
+mod PlaceConditions
 mod Faults
-mod Alls
+mod ListPrefixes

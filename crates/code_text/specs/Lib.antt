@@ -1,6 +1,6 @@
-pub mod Told
+pub mod FaultPlaces
 pub mod Owners
-pub mod Alone
-pub mod Reached
+pub mod LocalConditions
+pub mod Predecessors
 pub mod Places
 pub mod Verdict

@@ -4,7 +4,7 @@ use Rattle.wam_code.specs.declared.instruction.Code.{Code}
 use Rattle.wam_code.specs.declared.instruction.Code.TheVariants.{Proceed, Execute}
 use Rattle.wam_code.specs.Area.{Span, Area, HasQuery}
 use Rattle.wam_code.specs.VerifiedCode.{Names, Falls, IsIn, HoldsOne}
-use Rattle.code_text.specs.Told.{IsTold}
+use Rattle.code_text.specs.FaultPlaces.{IsTold}
 
 -- the number of the query that a place is in, as it was found
 abbrev pub owner_at : List (Option ℕ) → ℕ → Option ℕ

@@ -5,9 +5,9 @@ use Rattle.wam_code.specs.declared.instruction.Code.TheVariants.{AnswerNow}
 use Rattle.wam_code.specs.declared.parts.Entry.{Entry}
 use Rattle.wam_code.specs.Area.{State, Span, Area, Holds, HasEntry, HasQuery}
 use Rattle.wam_code.specs.VerifiedCode.{Names, Falls, is_other, NamesOther, is_before, is_behind, HoldsOne, IsNoStart, IsKey}
-use Rattle.code_flow.specs.Failing.{FitsInstruction, FitsBefore, FitsEntry, FitsQuery, IsLast}
-use Rattle.code_text.specs.Told.{IsTold}
-use Rattle.code_text.specs.Alone.{AreAnswersTold}
+use Rattle.code_flow.specs.PlaceConditions.{FitsInstruction, FitsBefore, FitsEntry, FitsQuery, IsLast}
+use Rattle.code_text.specs.FaultPlaces.{IsTold}
+use Rattle.code_text.specs.LocalConditions.{AreAnswersTold}
 use Rattle.code_text.specs.Owners.{owner_at, IsOwnerTold}
 
 -- all that belongs to a place of the code

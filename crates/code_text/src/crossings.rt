@@ -4,10 +4,10 @@ ghost use Rattle.std.specs.Prelude.{◌≡◌, ◌+◌, ◌<◌, ℕ, List, leng
 ghost use Rattle.fd_language.specs.Family.{has};
 ghost use Rattle.wam_code.specs.Area.{State, area_of};
 ghost use Rattle.wam_code.specs.VerifiedCode.{goes_on as its_goes_on};
-ghost use Rattle.code_text.specs.Told.{Tells, TellsFaults};
+ghost use Rattle.code_text.specs.FaultPlaces.{Tells, TellsFaults};
 ghost use Rattle.code_text.specs.Owners.{owner_at as its_owner, AreOwners, IsCrossing, AreCrossings, IsOwnersPlace, IsOwnerTold, IsCrossed, leaves};
 
-use crate::first::First;
+use crate::least_place::First;
 use crate::owners::{is_same, owner_at, tell_owner};
 use code_flow::{goes_on, named_by};
 use fd_language::NoMemory;

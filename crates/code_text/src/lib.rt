@@ -2,13 +2,13 @@
 #![tactic(auto)]
 
 mod crossings;
-mod first;
-mod firsts;
+mod entry_states;
+mod least_place;
 mod owners;
+mod place_predecessors;
 mod places;
-mod reach;
-mod there;
-mod verifying;
+mod reference_checks;
+mod verification;
 
-pub use crate::verifying::{VerifyFault, verify};
+pub use crate::verification::{VerifyFault, verify};
 pub use code_listing::{Listed, PlaceState, Slot, write_listing};

@@ -2,10 +2,10 @@
 
 ghost use Rattle.std.specs.Prelude.{◌≡◌, ◌↔◌, ◌+◌, ℕ, List, None, Some, length, replicate, IsTrue, IfOk, MatchOption};
 ghost use Rattle.wam_code.specs.Area.{State, Span, HasQuery, area_of, span_of};
-ghost use Rattle.code_text.specs.Told.{IsTold, Tells, TellsFaults};
+ghost use Rattle.code_text.specs.FaultPlaces.{IsTold, Tells, TellsFaults};
 ghost use Rattle.code_text.specs.Owners.{owner_at as its_owner, AreBegins, AreOwners, GoesOn, IsOwnersPlace, IsOwnerTold};
 
-use crate::first::First;
+use crate::least_place::First;
 use fd_language::NoMemory;
 use std::alloc::Global;
 use wam_code::{CodeParts, QueryEntry};

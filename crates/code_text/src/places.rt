@@ -7,17 +7,17 @@ ghost use Rattle.wam_code.specs.declared.instruction.Code.TheVariants.{AnswerNow
 ghost use Rattle.wam_code.specs.Area.{Holds, area_of};
 ghost use Rattle.wam_code.specs.VerifiedCode as verified;
 ghost use Rattle.wam_code.specs.VerifiedCode.{HoldsOne};
-ghost use Rattle.code_flow.specs.Leading.{AreRegisters};
-ghost use Rattle.code_flow.specs.Failing.{FitsInstruction, FitsBefore, IsLast};
+ghost use Rattle.code_flow.specs.Successors.{AreRegisters};
+ghost use Rattle.code_flow.specs.PlaceConditions.{FitsInstruction, FitsBefore, IsLast};
 ghost use Rattle.code_text.specs.Places.{FitsPlace, LiesAhead, HasChoices, FitsOther, FitsBehind};
-ghost use Rattle.code_text.specs.Reached as reached;
-ghost use Rattle.code_text.specs.Reached.{IsReach, namers_at};
+ghost use Rattle.code_text.specs.Predecessors as reached;
+ghost use Rattle.code_text.specs.Predecessors.{IsReach, namers_at};
 ghost use Rattle.code_listing.specs.States.{states_of};
-ghost use Rattle.code_text.specs.Told.{IsTold, TellsFaults};
+ghost use Rattle.code_text.specs.FaultPlaces.{IsTold, TellsFaults};
 
-use crate::first::First;
-use crate::reach::{Namers, Reach, other_of};
-use crate::there::{has_keys, is_there};
+use crate::least_place::First;
+use crate::place_predecessors::{Namers, Reach, other_of};
+use crate::reference_checks::{has_keys, is_there};
 use code_flow::{goes_on, leads, named_by, rows_of};
 use code_listing::PlaceState;
 use fd_language::NoMemory;

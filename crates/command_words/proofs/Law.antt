@@ -1,5 +1,6 @@
 -- Words of the form are words that clap takes, and it finds the values as they are written.
-use Rattle.std.proofs.Common.{◌≡◌, ◌∙◌, ◌<◌, ◌&&◌, ◌||◌, ℕ, Bool, cond, refl, sym, ap, subst, true, false, true≢false, not, is_some, List, [], ◌∷◌, ◌++◌, Option, Some, None, codes, append-nil, append_assoc, arith}
+use Rattle.std.proofs.Common.{◌≡◌, ◌∙◌, ◌<◌, ◌&&◌, ◌||◌, ℕ, Bool, cond, refl, sym, ap, subst, true, false, true≢false, not, is_some, List, [], ◌∷◌, ◌++◌}
+use Rattle.std.proofs.Common.{Option, Some, None, codes, append-nil, append_assoc, arith}
 use Rattle.std.specs.Prelude.{◌==◌, length, map, option_and_then, slice_get}
 use Rattle.std.specs.List.{fold, list_all, find}
 use Rattle.std.specs.Str.{bytes_eq}
@@ -15,13 +16,15 @@ use Rattle.clap.specs.Lexer.{long_of, short_of}
 use Rattle.clap.specs.Simple.{Shape}
 use Rattle.clap.specs.Takes.{default_passes, is_valid, level_passes, settle_passes, turn_passes, walk_passes}
 use Rattle.clap.specs.Values.{reading_of}
-use Rattle.clap.specs.Walk.{Held, Step, Walk, after_step, at_row, default_rows, finished, has_row, is_empty, more_values, nothing_held, option, plain_word, reading_by, settled, settled_rows, walk_from, walked, with_default, with_values, without, word_met}
+use Rattle.clap.specs.Walk.{Held, Step, Walk, after_step, at_row, default_rows, finished, has_row, is_empty, more_values, nothing_held, option, plain_word}
+use Rattle.clap.specs.Walk.{reading_by, settled, settled_rows, walk_from, walked, with_default, with_values, without, word_met}
 use Rattle.clap.specs.Words.{Row, Rule, Text, built, first_of, matches_of, takes}
 use Rattle.clap.specs.declared.builder.value_parser.ValueParser.TheVariants as vp
 use Rattle.clap.specs.declared.parser.matches.ValueSource.TheVariants.{CommandLine}
 use Rattle.fd_language.specs.declared.TheConstants.{INFINITY}
 use Rattle.fd_model.specs.Output.{default_options}
-use Rattle.command_words.specs.Words.{agenda_in, command_app, found_value, has_form, infinity_in, is_choice, limit_in, options_by, options_of, size_in, value_behind}
+use Rattle.command_words.specs.Words.{agenda_in, command_app, found_value, has_form, infinity_in, is_choice, limit_in, options_by, options_of, size_in}
+use Rattle.command_words.specs.Words.{value_behind}
 
 abbrev top : Shape
 top = (built command_app).top

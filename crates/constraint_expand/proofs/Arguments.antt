@@ -5,7 +5,7 @@ use Rattle.fd_model.specs.declared.kinds.QueryFault.TheVariants.{BadType}
 use Rattle.fd_model.specs.declared.kinds.Relation.{Relation}
 use Rattle.fd_model.specs.declared.kinds.ConstraintKind.{ConstraintKind}
 use Rattle.fd_model.specs.declared.kinds.ConstraintKind.TheVariants.{Compare, AllDifferent, Element, Atmost, And, Or, Not, Reified}
-use Rattle.fd_model.specs.Constraining.{basic}
+use Rattle.fd_model.specs.ConstraintExpansion.{basic}
 use Rattle.term_pool.specs.declared.TermId.{TermId}
 use Rattle.term_pool.specs.Terms.{terms_by}
 

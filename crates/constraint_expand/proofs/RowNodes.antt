@@ -1,17 +1,18 @@
 -- The nodes of a row spell the row.
-use Rattle.std.proofs.Common.{◌≡◌, ℕ, suc, ◌+◌, ◌*◌, Bool, true, false, cond, ℤ, pos, negsuc, neg_ℤ, ◌*ℤ◌, List, [], ◌∷◌, ◌++◌, length, take, drop, get_or, refl, sym, ap, subst, ◌∙◌, arith, append_assoc, length-append}
+use Rattle.std.proofs.Common.{◌≡◌, ℕ, suc, ◌+◌, ◌*◌, Bool, true, false, cond, ℤ, pos, negsuc, neg_ℤ, ◌*ℤ◌, List, [], ◌∷◌, ◌++◌, length, take, drop, get_or}
+use Rattle.std.proofs.Common.{refl, sym, ap, subst, ◌∙◌, arith, append_assoc, length-append}
 use Rattle.std.proofs.Math.Seq.{take-append_seam, drop-append_seam, get_or-append_seam}
 use Rattle.fd_language.specs.declared.range_node.RangeNode.{RangeNode}
 use Rattle.fd_language.specs.declared.range_node.RangeNode.TheVariants as node
 use Rattle.fd_language.specs.Range.{Expr, Number, Min, Max, Val, Sub, Mul}
-use Rattle.fd_language.specs.Flat.{expr_nodes, nodes_of}
+use Rattle.fd_language.specs.PostfixRanges.{expr_nodes, nodes_of}
 use Rattle.fd_model.specs.Linear.{scaled}
 use Rattle.fd_model.specs.LinearRows.{by_sign, minus_products, row, row_by_sign}
 use Rattle.constraint_expand.specs.declared.rows.Comparison.{Comparison}
 use Rattle.constraint_expand.specs.declared.rows.Comparison.TheVariants as comparison
 use Rattle.constraint_expand.specs.declared.rows.BoundReading.{BoundReading}
 use Rattle.constraint_expand.specs.declared.rows.BoundReading.TheVariants as reading
-use Rattle.constraint_expand.specs.declared.rows.Form.{Form}
+use Rattle.constraint_expand.specs.declared.rows.RowForm.{RowForm}
 use Rattle.constraint_expand.specs.Nodes.{comparison_of, feature_of, product_nodes, divisor, bound_nodes, upper_nodes, last_nodes, row_list, IsForm}
 
 -- the readings of a bound, by the sign of the coefficient
@@ -63,10 +64,11 @@ products_before r before after t i h =
 products_behind : (r : BoundReading) (before after : List (ℕ × ℤ)) (t : ℕ × ℤ) (i : ℕ) → i ≡ length before → drop (4 * i + 4) (product_nodes r (before ++ t ∷ after)) ≡ product_nodes r after
 products_behind r before after t i h =
     ap (drop (4 * i + 4)) (products_append r before (t ∷ after) ∙ sym (append_assoc (product_nodes r before) (product_nodes r (t ∷ [])) (product_nodes r after)))
-    ∙ drop_exact (product_nodes r before ++ product_nodes r (t ∷ [])) (product_nodes r after) (4 * i + 4) (omega (arith, products_length r before, length-append (product_nodes r before) (product_nodes r (t ∷ []))))
+    ∙ drop_exact (product_nodes r before ++ product_nodes r (t ∷ [])) (product_nodes r after) (4 * i + 4)
+    (omega (arith, products_length r before, length-append (product_nodes r before) (product_nodes r (t ∷ []))))
 
 -- a bound of a row
-module _ (before after : List (ℕ × ℤ)) (x a : ℕ) (c : ℤ) (form : Form) (i : ℕ) (h : i ≡ length before) (e : form.terms.items ≡ before ++ (x, pos a) ∷ after) (k : form.constant ≡ c) where
+module _ (before after : List (ℕ × ℤ)) (x a : ℕ) (c : ℤ) (form : RowForm) (i : ℕ) (h : i ≡ length before) (e : form.terms.items ≡ before ++ (x, pos a) ∷ after) (k : form.constant ≡ c) where
   divisor_is : divisor form i ≡ pos a
   divisor_is = (λ j. (get_or (e j) (h j) (0, pos 0)).1) ∙ ap (λ (t : ℕ × ℤ). t.1) (get_or-append_seam before (x, pos a) after (0, pos 0))
 
@@ -88,12 +90,15 @@ module _ (before after : List (ℕ × ℤ)) (x a : ℕ) (c : ℤ) (form : Form) 
       ∙ ap (λ ns. expr_nodes (reads reading.Low c (before ++ after)) (node.Int (pos a) ∷ node.DivUp ∷ ns)) (bound_spelled reading.High form.upper.items node.DivDown (node.Span ∷ []) f.upper)
   row_spelled comparison.Other turned f =
       bound_spelled reading.Exact form.lower.items node.DivUp (upper_nodes comparison.Other form i ++ last_nodes comparison.Other) f.lower
-      ∙ ap (λ ns. expr_nodes (reads reading.Exact c (before ++ after)) (node.Int (pos a) ∷ node.DivUp ∷ ns)) (bound_spelled reading.Exact form.upper.items node.DivDown (node.Span ∷ node.Outside ∷ []) f.upper)
+      ∙ ap (λ ns. expr_nodes (reads reading.Exact c (before ++ after)) (node.Int (pos a) ∷ node.DivUp ∷ ns))
+      (bound_spelled reading.Exact form.upper.items node.DivDown (node.Span ∷ node.Outside ∷ []) f.upper)
   row_spelled comparison.AtMost false f =
-      (λ j. cond (f.side j) (bound_nodes form i form.lower.items node.DivUp) (node.Int (pos 0) ∷ []) ++ (cond (f.side j) (node.Infinity ∷ []) (bound_nodes form i form.upper.items node.DivDown) ++ (node.Span ∷ [])))
+      (λ j. cond (f.side j) (bound_nodes form i form.lower.items node.DivUp) (node.Int (pos 0) ∷ [])
+      ++ (cond (f.side j) (node.Infinity ∷ []) (bound_nodes form i form.upper.items node.DivDown) ++ (node.Span ∷ [])))
       ∙ ap (λ (ns : List RangeNode). node.Int (pos 0) ∷ ns) (bound_spelled reading.High form.upper.items node.DivDown (node.Span ∷ []) f.upper)
   row_spelled comparison.AtMost true f =
-      (λ j. cond (f.side j) (bound_nodes form i form.lower.items node.DivUp) (node.Int (pos 0) ∷ []) ++ (cond (f.side j) (node.Infinity ∷ []) (bound_nodes form i form.upper.items node.DivDown) ++ (node.Span ∷ [])))
+      (λ j. cond (f.side j) (bound_nodes form i form.lower.items node.DivUp) (node.Int (pos 0) ∷ [])
+      ++ (cond (f.side j) (node.Infinity ∷ []) (bound_nodes form i form.upper.items node.DivDown) ++ (node.Span ∷ [])))
       ∙ bound_spelled reading.Low form.lower.items node.DivUp (node.Infinity ∷ node.Span ∷ []) f.lower
 
 -- ---- the row of a product by the sign of its coefficient
@@ -112,11 +117,12 @@ scaled_parts : (before after : List (ℕ × ℤ)) (x n : ℕ) → scaled (negsuc
 scaled_parts before after x n = scaled_append before ((x, negsuc n) ∷ after) ∙ (λ j. scaled (negsuc 0) before ++ (x, turned_sign n j) ∷ scaled (negsuc 0) after)
 
 -- the side that the row is solved on
-pub straight_row : (k : Comparison) (before after : List (ℕ × ℤ)) (x a : ℕ) (c : ℤ) (form : Form) (i : ℕ) → i ≡ length before → IsForm k false (before ++ (x, pos a) ∷ after) c form
+pub straight_row : (k : Comparison) (before after : List (ℕ × ℤ)) (x a : ℕ) (c : ℤ) (form : RowForm) (i : ℕ) → i ≡ length before → IsForm k false (before ++ (x, pos a) ∷ after) c form
     → row_list k form i ≡ nodes_of (row_by_sign (comparison_of k) c (before ++ after) (pos a))
 straight_row k before after x a c form i h f = row_spelled before after x a c form i h f.terms f.constant k false f
 
-pub turned_row : (k : Comparison) (before after : List (ℕ × ℤ)) (x n : ℕ) (c : ℤ) (form : Form) (i : ℕ) → i ≡ length before → IsForm k true (scaled (negsuc 0) (before ++ (x, negsuc n) ∷ after)) (neg_ℤ c) form
+pub turned_row : (k : Comparison) (before after : List (ℕ × ℤ)) (x n : ℕ) (c : ℤ) (form : RowForm) (i : ℕ) → i ≡ length before
+    → IsForm k true (scaled (negsuc 0) (before ++ (x, negsuc n) ∷ after)) (neg_ℤ c) form
     → row_list k form i ≡ nodes_of (row_by_sign (comparison_of k) c (before ++ after) (negsuc n))
 turned_row k before after x n c form i h f =
     let g : IsForm k true (scaled (negsuc 0) before ++ (x, pos (suc n)) ∷ scaled (negsuc 0) after) (neg_ℤ c) form = subst (λ ts. IsForm k true ts (neg_ℤ c) form) (scaled_parts before after x n) f in

@@ -10,7 +10,7 @@ use Rattle.fd_model.specs.ListRows.{element_ranges, counts, units, atmost_rows}
 use Rattle.fd_model.specs.declared.kinds.Relation.{Relation}
 use Rattle.fd_model.specs.declared.kinds.ConstraintKind.TheVariants.{Compare, Atmost}
 use Rattle.fd_model.specs.Members.{Member, placed, fresh_after}
-use Rattle.fd_model.specs.Constraining.{compare, atmost}
+use Rattle.fd_model.specs.ConstraintExpansion.{compare, atmost}
 use Rattle.fd_model.proofs.Lemmas.{posted_right, AllSmall, compare_within, element_within, sum_within, all_accepted, IsFitting, element_fitting, basic_fitting}
 use Rattle.constraint_expand.specs.Lists.{AreWords}
 use Rattle.constraint_expand.specs.Posts.{Accepted}
@@ -31,7 +31,8 @@ compared_accepted r s t n x e = all_accepted INFINITY small_infinity x.ranges (b
 
 -- The check accepts what an element and its number give of each other.
 pub element_accepted : (i : ℕ) (zs : List ℤ) (x : ℕ) → AreWords zs → length zs < 2 ^ 64 → Accepted (element_ranges i zs x)
-element_accepted i zs x w l = all_accepted INFINITY small_infinity (element_ranges i zs x) (element_fitting INFINITY i x zs) (element_within INFINITY small_infinity i x zs (words_small zs w) (omega arith))
+element_accepted i zs x w l = all_accepted INFINITY small_infinity (element_ranges i zs x) (element_fitting INFINITY i x zs)
+    (element_within INFINITY small_infinity i x zs (words_small zs w) (omega arith))
 
 -- The check accepts the rows of the counters' sum.
 pub sum_accepted : (m l v : Term) (n : ℕ) (z w : ℤ) (ms : List Member) → atmost m l v n ≡ Ok (atmost_rows z ms w n) → FitsSigned w64 z → length (placed n ms) < 2 ^ 64

@@ -3,7 +3,7 @@ use Rattle.std.specs.Prelude.{◌≡◌, Option, Some, None, MatchOption, MatchR
 use Rattle.fd_model.specs.declared.kinds.QueryFault.{QueryFault}
 use Rattle.linear_forms.specs.declared.LinearFault.{LinearFault}
 use Rattle.linear_forms.specs.declared.LinearFault.TheVariants as linear
-use Rattle.linear_forms.specs.Form as form
+use Rattle.linear_forms.specs.LinearForm as form
 pub use Rattle.product_bool.specs.Faults.{cause_of}
 use Rattle.product_bool.specs.declared.faults.SplitFault.{SplitFault}
 use Rattle.product_bool.specs.declared.faults.SplitFault.TheVariants as split

@@ -1,5 +1,6 @@
 -- The nodes of rows.
-use Rattle.std.specs.Prelude.{◌≡◌, ℕ, ◌+◌, ◌*◌, ◌<◌, ◌≤◌, Bool, true, false, ℤ, pos, negsuc, neg_ℤ, ◌<ℤ◌, if◌then◌else◌, List, [], ◌∷◌, ◌++◌, length, take, drop, slice_index_or}
+use Rattle.std.specs.Prelude.{◌≡◌, ℕ, ◌+◌, ◌*◌, ◌<◌, ◌≤◌, Bool, true, false, ℤ, pos, negsuc, neg_ℤ, ◌<ℤ◌, if◌then◌else◌, List, [], ◌∷◌, ◌++◌, length, take}
+use Rattle.std.specs.Prelude.{drop, slice_index_or}
 use Rattle.fd_language.specs.declared.range_node.RangeNode.{RangeNode}
 use Rattle.fd_language.specs.declared.range_node.RangeNode.TheVariants as node
 use Rattle.fd_language.specs.Range.{Indexical}
@@ -10,7 +11,7 @@ use Rattle.constraint_expand.specs.declared.rows.Comparison.{Comparison}
 use Rattle.constraint_expand.specs.declared.rows.Comparison.TheVariants as comparison
 use Rattle.constraint_expand.specs.declared.rows.BoundReading.{BoundReading}
 use Rattle.constraint_expand.specs.declared.rows.BoundReading.TheVariants as reading
-use Rattle.constraint_expand.specs.declared.rows.Form.{Form}
+use Rattle.constraint_expand.specs.declared.rows.RowForm.{RowForm}
 
 -- Where a coefficient is below 0, the constant is an integer of the language, so that it can be negated.
 abbrev pub CanTurn : List (ℕ × ℤ) → ℤ → Type 0
@@ -46,7 +47,7 @@ product_nodes r [] = []
 product_nodes r (t ∷ ts) = node.Int t.1 ∷ feature_of r t.0 t.1 ∷ node.Mul ∷ node.Sub ∷ product_nodes r ts
 
 -- the form with the nodes of its products
-pub record IsForm (k : Comparison) (turned : Bool) (ts : List (ℕ × ℤ)) (c : ℤ) (form : Form) : Type 0 where
+pub record IsForm (k : Comparison) (turned : Bool) (ts : List (ℕ × ℤ)) (c : ℤ) (form : RowForm) : Type 0 where
   pub side : form.turned ≡ turned
   pub terms : form.terms.items ≡ ts
   pub constant : form.constant ≡ c
@@ -54,24 +55,24 @@ pub record IsForm (k : Comparison) (turned : Bool) (ts : List (ℕ × ℤ)) (c :
   pub upper : form.upper.items ≡ product_nodes (upper_reading k) ts
 
 -- a product of the form, and its nodes
-pub record HasProduct (form : Form) (i : ℕ) (products : List RangeNode) : Type 0 where
+pub record HasProduct (form : RowForm) (i : ℕ) (products : List RangeNode) : Type 0 where
   pub term : i < length form.terms.items
   pub nodes : 4 * i + 4 ≤ length products
 
 -- the coefficient of the product
-abbrev pub divisor : Form → ℕ → ℤ
+abbrev pub divisor : RowForm → ℕ → ℤ
 divisor form i = (slice_index_or form.terms.items i (0, pos 0)).1
 
 -- the constant less all products but one, divided by the coefficient of that one
-abbrev pub bound_nodes : Form → ℕ → List RangeNode → RangeNode → List RangeNode
+abbrev pub bound_nodes : RowForm → ℕ → List RangeNode → RangeNode → List RangeNode
 bound_nodes form i products division = node.Int form.constant ∷ (take (4 * i) products ++ (drop (4 * i + 4) products ++ (node.Int (divisor form i) ∷ division ∷ [])))
 
-abbrev pub lower_nodes : Comparison → Form → ℕ → List RangeNode
+abbrev pub lower_nodes : Comparison → RowForm → ℕ → List RangeNode
 lower_nodes comparison.AtMost form i = if form.turned then bound_nodes form i form.lower.items node.DivUp else node.Int (pos 0) ∷ []
 lower_nodes comparison.Equal form i = bound_nodes form i form.lower.items node.DivUp
 lower_nodes comparison.Other form i = bound_nodes form i form.lower.items node.DivUp
 
-abbrev pub upper_nodes : Comparison → Form → ℕ → List RangeNode
+abbrev pub upper_nodes : Comparison → RowForm → ℕ → List RangeNode
 upper_nodes comparison.AtMost form i = if form.turned then node.Infinity ∷ [] else bound_nodes form i form.upper.items node.DivDown
 upper_nodes comparison.Equal form i = bound_nodes form i form.upper.items node.DivDown
 upper_nodes comparison.Other form i = bound_nodes form i form.upper.items node.DivDown
@@ -83,26 +84,26 @@ last_nodes comparison.Other = node.Span ∷ node.Outside ∷ []
 last_nodes comparison.AtMost = node.Span ∷ []
 
 -- the row that the form is solved for at i
-abbrev pub row_list : Comparison → Form → ℕ → List RangeNode
+abbrev pub row_list : Comparison → RowForm → ℕ → List RangeNode
 row_list k form i = lower_nodes k form i ++ (upper_nodes k form i ++ last_nodes k)
 
 -- the product at i
-abbrev pub product_at : Form → ℕ → ℕ × ℤ
+abbrev pub product_at : RowForm → ℕ → ℕ × ℤ
 product_at form i = slice_index_or form.terms.items i (0, pos 0)
 
 -- a product of the form, and the form as it is and, where the coefficient is below 0, turned
-pub record AreSides (k : Comparison) (straight turned : Form) (i : ℕ) : Type 0 where
+pub record AreSides (k : Comparison) (straight turned : RowForm) (i : ℕ) : Type 0 where
   pub straight_form : IsForm k false straight.terms.items straight.constant straight
   pub turned_form : (product_at straight i).1 <ℤ pos 0 → IsForm k true (linear.scaled (negsuc 0) straight.terms.items) (neg_ℤ straight.constant) turned
   pub within : i < length straight.terms.items
 
 -- the row of the variable at i
-abbrev pub row_at : Comparison → Form → ℕ → Indexical
+abbrev pub row_at : Comparison → RowForm → ℕ → Indexical
 row_at k form i = record {
   target = (product_at form i).0;
   range = row_by_sign (comparison_of k) form.constant (take i form.terms.items ++ drop (i + 1) form.terms.items) (product_at form i).1;
 }
 
 -- all rows
-abbrev pub form_rows : Comparison → Form → List Indexical
+abbrev pub form_rows : Comparison → RowForm → List Indexical
 form_rows k form = rows_behind (comparison_of k) form.constant [] form.terms.items

@@ -6,7 +6,7 @@ use Rattle.fd_model.specs.LinearRows.{rows_behind}
 use Rattle.constraint_expand.specs.declared.differences.Pairs.{Pairs}
 use Rattle.constraint_expand.specs.declared.counts.Counters.{Counters}
 use Rattle.constraint_expand.specs.declared.rows.Comparison.{Comparison}
-use Rattle.constraint_expand.specs.declared.rows.Form.{Form}
+use Rattle.constraint_expand.specs.declared.rows.RowForm.{RowForm}
 use Rattle.constraint_expand.specs.declared.rows.Rows.{Rows}
 use Rattle.constraint_expand.specs.Nodes.{comparison_of, AreSides}
 use Rattle.constraint_expand.specs.Posts.{indexicals, Accepted}
@@ -33,7 +33,7 @@ abbrev pub AreNumbers : Counters → Type 0
 AreNumbers c = c.first + length c.variables.items < 2 ^ 64
 
 -- the rows behind the first i
-abbrev pub rows_from : Comparison → Form → ℕ → List Indexical
+abbrev pub rows_from : Comparison → RowForm → ℕ → List Indexical
 rows_from k form i = rows_behind (comparison_of k) form.constant (take i form.terms.items) (drop i form.terms.items)
 
 abbrev pub rows_ahead : Rows → List Indexical

@@ -3,8 +3,8 @@ use Rattle.std.specs.Prelude.{◌≡◌, suc, ◌<◌, List, [], ◌++◌, lengt
 use Rattle.fd_language.specs.Range.{Indexical}
 use Rattle.fd_model.specs.Linear as linear
 use Rattle.fd_model.specs.Splitting.{sum_rows}
-use Rattle.linear_forms.specs.Form.{form_of}
-use Rattle.linear_forms.specs.Inside.{IsInside}
+use Rattle.linear_forms.specs.LinearForm.{form_of}
+use Rattle.linear_forms.specs.IntegerSums.{IsInside}
 use Rattle.fd_language.specs.Lists.{Each}
 use Rattle.constraint_expand.specs.declared.sums.Sums.{Sums}
 use Rattle.constraint_expand.specs.Pieces.{rows_ahead, AreReady}

@@ -1,6 +1,6 @@
 -- What an element and its number give of each other.
 use Rattle.std.specs.Prelude.{ℕ, ℤ, pos, List, [], ◌∷◌, ◌++◌}
-use Rattle.fd_language.specs.Flat.{nodes_of}
+use Rattle.fd_language.specs.PostfixRanges.{nodes_of}
 use Rattle.fd_language.specs.Range.{Range, Indexical}
 use Rattle.fd_language.specs.declared.range_node.RangeNode.{RangeNode}
 use Rattle.fd_language.specs.declared.range_node.RangeNode.TheVariants as node

@@ -9,7 +9,8 @@ use Rattle.constraint_expand.specs.declared.faults.ExpandFault.{ExpandFault}
 use Rattle.constraint_expand.specs.Faults.{Answers}
 
 abbrev pub expansion_coded : Coded Expansion
-expansion_coded = code_by (List (ℕ × ℤ) × (List Indexical × ℕ)) (coded× (coded_list (coded× coded_ℕ coded_ℤ)) (coded× (coded_list indexical_coded) coded_ℕ)) (λ x. (x.equated, (x.ranges, x.fresh))) (λ d. record { equated = d.0; ranges = d.1.0; fresh = d.1.1 }) (λ _. refl)
+expansion_coded = code_by (List (ℕ × ℤ) × (List Indexical × ℕ)) (coded× (coded_list (coded× coded_ℕ coded_ℤ)) (coded× (coded_list indexical_coded) coded_ℕ))
+    (λ x. (x.equated, (x.ranges, x.fresh))) (λ d. record { equated = d.0; ranges = d.1.0; fresh = d.1.1 }) (λ _. refl)
 
 -- the expansion that the definition gives, or its fault
 abbrev pub Expands : Result Expansion QueryFault → Result Expansion ExpandFault → Type 0

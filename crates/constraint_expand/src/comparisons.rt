@@ -1,7 +1,7 @@
 //! Comparisons of linear terms.
 
 ghost use Rattle.std.specs.Prelude.{◌≡◌, ◌^◌, ◌<◌, length, IfOk};
-ghost use Rattle.fd_model.specs.Constraining.{compare as compared};
+ghost use Rattle.fd_model.specs.ConstraintExpansion.{compare as compared};
 ghost use Rattle.fd_model.specs.Linear.{comparison};
 ghost use Rattle.term_pool.specs.Terms.{term_of};
 ghost use Rattle.constraint_expand.specs.Nodes.{comparison_of};

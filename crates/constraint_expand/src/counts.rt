@@ -1,7 +1,7 @@
 //! Lists of which at most so many members are a value.
 
 ghost use Rattle.std.specs.Prelude.{◌≡◌, ◌+◌, ◌^◌, ◌<◌, [], ◌∷◌, length, MatchOption, IfOk, OnOk, OnErr};
-ghost use Rattle.fd_model.specs.Constraining.{atmost as atmost_of};
+ghost use Rattle.fd_model.specs.ConstraintExpansion.{atmost as atmost_of};
 ghost use Rattle.fd_model.specs.ListRows.{counter as counter_row, counted as counted_row};
 ghost use Rattle.fd_model.specs.ListRows.{units as units_of};
 ghost use Rattle.term_pool.specs.Terms.{term_of};

@@ -1,7 +1,7 @@
 //! Lists of members that differ.
 
 ghost use Rattle.std.specs.Prelude.{◌≡◌, ◌^◌, ◌<◌, ◌++◌, [], ◌∷◌, length, MatchOption, IfOk, OnOk, OnErr};
-ghost use Rattle.fd_model.specs.Constraining.{all_different as different};
+ghost use Rattle.fd_model.specs.ConstraintExpansion.{all_different as different};
 ghost use Rattle.fd_model.specs.ListRows.{differs, against, pairwise, different_ranges as ranges_of};
 ghost use Rattle.term_pool.specs.Terms.{term_of};
 ghost use Rattle.constraint_expand.specs.Posts.{Posts, indexicals};

@@ -1,8 +1,8 @@
 //! An element of a list of integers by its number.
 
 ghost use Rattle.std.specs.Prelude.{◌≡◌, ◌+◌, ◌^◌, ◌<◌, ◌++◌, [], ◌∷◌, length, IfOk, OnOk};
-ghost use Rattle.fd_language.specs.Flat.{nodes_of};
-ghost use Rattle.fd_model.specs.Constraining.{element as element_of};
+ghost use Rattle.fd_language.specs.PostfixRanges.{nodes_of};
+ghost use Rattle.fd_model.specs.ConstraintExpansion.{element as element_of};
 ghost use Rattle.fd_model.specs.ListRows.{where_is, element_ranges as ranges_of};
 ghost use Rattle.term_pool.specs.Terms.{term_of};
 ghost use Rattle.constraint_expand.specs.Lists.{AreWords};

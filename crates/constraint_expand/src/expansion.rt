@@ -3,8 +3,8 @@
 ghost use Rattle.std.specs.Prelude.{◌≡◌, ◌<◌, ◌+◌, ◌^◌, ◌++◌, [], length, map, MatchOption, IfOk, OnErr};
 ghost use Rattle.fd_language.specs.Lists.{Each};
 ghost use Rattle.fd_model.specs.Splitting.{joined, sum_rows};
-ghost use Rattle.linear_forms.specs.Form.{form_of};
-ghost use Rattle.linear_forms.specs.Inside.{IsInside};
+ghost use Rattle.linear_forms.specs.LinearForm.{form_of};
+ghost use Rattle.linear_forms.specs.IntegerSums.{IsInside};
 ghost use Rattle.product_bool.specs.Views.{parts_of};
 ghost use Rattle.fd_model.specs.ListRows.{counts, pairwise};
 ghost use Rattle.constraint_expand.specs.Pieces.{IsPiece, IsOver, rows_ahead, AreReady};

@@ -4,7 +4,7 @@
 
 ghost use Rattle.std.specs.Prelude.{◌^◌, ◌<◌, length, All, IfOk};
 ghost use Rattle.fd_language.specs.declared.TheConstants.{INFINITY};
-ghost use Rattle.fd_model.specs.Constraining.{expand as expanded, basic as basic_of};
+ghost use Rattle.fd_model.specs.ConstraintExpansion.{expand as expanded, basic as basic_of};
 ghost use Rattle.term_pool.specs.Terms.{term_of, terms_by};
 ghost use Rattle.constraint_expand.specs.Views.{Expands};
 

@@ -3,7 +3,7 @@
 ghost use Rattle.std.specs.Prelude.{◌≡◌, ◌<◌, ◌^◌, length, map, IfOk, OnOk};
 ghost use Rattle.fd_model.specs.Members.{as_member, as_integer, walk, after, fresh_after};
 ghost use Rattle.term_pool.specs.Terms.{term_of};
-ghost use Rattle.term_pool.specs.Valid.{IsPool};
+ghost use Rattle.term_pool.specs.PoolInvariant.{IsPool};
 ghost use Rattle.constraint_expand.specs.Faults.{Answers};
 ghost use Rattle.constraint_expand.specs.Lists.{member_of, Reads, FindsCell, Places, AllPlaced};
 

@@ -5,7 +5,7 @@ ghost use Rattle.fd_model.specs.Linear.{in_integers, scaled};
 ghost use Rattle.fd_model.specs.LinearRows.{rows_behind, compares, linear_rows as rows_of};
 ghost use Rattle.constraint_expand.specs.Pieces.{IsPiece, IsOver, rows_ahead, AreReady};
 ghost use Rattle.constraint_expand.specs.Posts.{Posts, Accepted, indexicals};
-ghost use Rattle.linear_forms.specs.Inside.{AreIntegers};
+ghost use Rattle.linear_forms.specs.IntegerSums.{AreIntegers};
 ghost use Rattle.constraint_expand.specs.Nodes.{CanTurn, comparison_of, lower_reading, upper_reading, feature_of, product_nodes, bound_nodes, lower_nodes, upper_nodes, row_list, HasProduct, IsForm, AreSides, row_at};
 
 use crate::posts::{post, post_none};
@@ -33,7 +33,7 @@ pub(crate) enum BoundReading {
 /// A form, at `true` turned, with the nodes of its products for the lower and for the upper ends of
 /// rows. Each product is taken away from what is before it, and has four nodes.
 #[derive(Drop)]
-pub(crate) struct Form {
+pub(crate) struct RowForm {
     pub turned: bool,
     pub terms: Vec<(u64, i64)>,
     pub constant: i64,
@@ -122,12 +122,12 @@ fn form_of(
     turned: bool,
     terms: Vec<(u64, i64)>,
     constant: i64,
-) -> Result<Form, NoMemory>
+) -> Result<RowForm, NoMemory>
     ensures { IfOk result (IsForm comparison turned terms.items constant) }
 {
     let lower = write_products(alloc, &terms, lower_of(comparison))?;
     let upper = write_products(alloc, &terms, upper_of(comparison))?;
-    Ok(Form {
+    Ok(RowForm {
         turned,
         terms,
         constant,
@@ -140,7 +140,7 @@ fn form_of(
 /// of that one.
 fn write_bound(
     nodes: &mut Vec<RangeNode>,
-    form: &Form,
+    form: &RowForm,
     products: &[RangeNode],
     index: usize,
     division: RangeNode,
@@ -162,7 +162,7 @@ fn write_bound(
 fn write_lower(
     nodes: &mut Vec<RangeNode>,
     comparison: Comparison,
-    form: &Form,
+    form: &RowForm,
     index: usize,
 ) -> Result<(), NoMemory>
     requires { HasProduct form.now index form.now.lower.items }
@@ -186,7 +186,7 @@ fn write_lower(
 fn write_upper(
     nodes: &mut Vec<RangeNode>,
     comparison: Comparison,
-    form: &Form,
+    form: &RowForm,
     index: usize,
 ) -> Result<(), NoMemory>
     requires { HasProduct form.now index form.now.upper.items }
@@ -210,7 +210,7 @@ fn write_upper(
 fn row_nodes(
     alloc: Global,
     comparison: Comparison,
-    form: &Form,
+    form: &RowForm,
     index: usize,
 ) -> Result<Vec<RangeNode>, NoMemory>
     requires lower { HasProduct form.now index form.now.lower.items }
@@ -233,8 +233,8 @@ fn post_row(
     alloc: Global,
     list: &mut Vec<(u64, Checked)>,
     comparison: Comparison,
-    straight: &Form,
-    turned: &Form,
+    straight: &RowForm,
+    turned: &RowForm,
     index: usize,
 ) -> Result<(), NoMemory>
     requires sides { AreSides comparison straight.now turned.now index }
@@ -257,8 +257,8 @@ fn post_row(
 #[derive(Drop)]
 pub(crate) struct Rows {
     pub comparison: Comparison,
-    pub straight: Form,
-    pub turned: Form,
+    pub straight: RowForm,
+    pub turned: RowForm,
     pub next: usize,
 }
 
@@ -306,10 +306,10 @@ impl Rows {
 }
 
 /// A form without variables.
-fn empty_form(alloc: Global) -> Form
+fn empty_form(alloc: Global) -> RowForm
     ensures { result.terms.items ≡ [] }
 {
-    Form {
+    RowForm {
         turned: false,
         terms: Vec::new(alloc),
         constant: 0,

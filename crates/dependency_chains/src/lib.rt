@@ -114,7 +114,7 @@ impl<'c> Model for Chain<'c> {
 }
 
 ghost use Rattle.domain_ranges.specs.Narrowing.{AreEnds};
-ghost use Rattle.dependency_chains.specs.Waking.{change_of, wakes};
+ghost use Rattle.dependency_chains.specs.WokenAgents.{change_of, wakes};
 ghost use Rattle.dependency_chains.specs.AgentReads.{read_by};
 ghost use Rattle.dependency_chains.specs.Links.{agents_from, AreLinked, AreChains, reads_of, head_of};
 

@@ -1,5 +1,6 @@
 -- A set and its ends.
-use Rattle.std.proofs.Common.{◌≡◌, ℕ, ◌+◌, ◌-◌, ◌<◌, ◌≤◌, ◌⊎◌, inl, inr, Bool, true, false, not, ◌==◌, List, [], ◌∷◌, refl, sym, ◌∙◌, ap, subst, arith, length, get_or}
+use Rattle.std.proofs.Common.{◌≡◌, ℕ, ◌+◌, ◌-◌, ◌<◌, ◌≤◌, ◌⊎◌, inl, inr, Bool, true, false, not, ◌==◌, List, [], ◌∷◌, refl, sym, ◌∙◌, ap, subst, arith, length}
+use Rattle.std.proofs.Common.{get_or}
 use Rattle.std.proofs.lemmas.Bool.{true≢false}
 use Rattle.std.proofs.lemmas.Bool.Decides.{nat_tests}
 use Rattle.fd_language.specs.declared.TheConstants.{INFINITY}
@@ -8,7 +9,7 @@ use Rattle.fd_language.specs.Range.{least, greatest, is_none_left}
 use Rattle.fd_language.proofs.Lemmas.{least_low, least_in, greatest_in, greatest_high}
 use Rattle.domain_ranges.specs.Spans.{Span, within, IsSpans, AreWithEnds, members}
 use Rattle.domain_ranges.proofs.Spans.{in_head}
-use Rattle.domain_ranges.proofs.Made.{out_low, out_high}
+use Rattle.domain_ranges.proofs.PartialSets.{out_low, out_high}
 use Rattle.domain_ranges.proofs.Members.{has_members, members_rising, least_is, greatest_is, none_is}
 
 -- some member of the one isn't in the other
@@ -64,7 +65,8 @@ module _ (s : Span) (order : s.0 ≤ s.1) (high : s.1 ≤ INFINITY) where
     pub ends_inside : s.0 ≤ ends.0 → ends.1 ≤ s.1 → IsSubset xs (members (s ∷ []))
     ends_inside h g = subst (λ l. IsSubset l (members (s ∷ []))) same (inside_ends (members ss) (members_rising 0 INFINITY ss held.spans) (omega (arith, held.least)) (omega (arith, held.greatest)))
 
-    pub ends_outside : (qs : List Span) (empty : Bool) → IsSpans 0 INFINITY qs → members qs ≡ xs → empty ≡ (length qs == 0) → not empty ≡ true → ((s.0 ≤ ends.0) × (s.1 < ends.1)) ⊎ (ends.0 < s.0) → HasOther xs (members (s ∷ []))
+    pub ends_outside : (qs : List Span) (empty : Bool) → IsSpans 0 INFINITY qs → members qs ≡ xs → empty ≡ (length qs == 0) → not empty ≡ true
+        → ((s.0 ≤ ends.0) × (s.1 < ends.1)) ⊎ (ends.0 < s.0) → HasOther xs (members (s ∷ []))
     ends_outside qs empty r e f t k =
         let some = (least_is INFINITY qs xs r e (some_there empty (length qs) f t)).0 in
         let least : ends.0 ≡ least xs = held.least ∙ ap least same in

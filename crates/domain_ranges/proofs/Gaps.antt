@@ -1,12 +1,13 @@
 -- The loop of the complement of a list of intervals.
-use Rattle.std.proofs.Common.{◌≡◌, ℕ, ◌+◌, ◌-◌, ◌<◌, ◌≤◌, false, not, ltb, List, [], ◌∷◌, ◌++◌, filter, ap, ◌∙◌, subst, inl, inr, arith, length, get_or, drop, append-nil, drop_of_length-le}
+use Rattle.std.proofs.Common.{◌≡◌, ℕ, ◌+◌, ◌-◌, ◌<◌, ◌≤◌, false, not, ltb, List, [], ◌∷◌, ◌++◌, filter, ap, ◌∙◌, subst, inl, inr, arith, length, get_or, drop}
+use Rattle.std.proofs.Common.{append-nil, drop_of_length-le}
 use Rattle.std.proofs.lemmas.Bool.{cases_Bool, ltb-true, ltb-false}
 use Rattle.std.proofs.lemmas.List.{drop_more}
 use Rattle.fd_language.specs.Family.{universe}
 use Rattle.domain_ranges.specs.Spans.{Span, within, IsSpans, members, interval_count, gap}
 use Rattle.domain_ranges.proofs.Spans.{in_head, past_first}
-use Rattle.domain_ranges.proofs.Made.{Made, IsNext, made_skip, made_push, made_all, made_many}
-use Rattle.domain_ranges.proofs.Meeting.{below_first}
+use Rattle.domain_ranges.proofs.PartialSets.{Made, IsNext, made_skip, made_push, made_all, made_many}
+use Rattle.domain_ranges.proofs.Intersection.{below_first}
 
 -- out is made below next, and from there on the intervals to come tell
 pub record Gapped (M : ℕ) (ss out : List Span) (next : ℕ) (rest : List Span) : Type 0 where
@@ -40,7 +41,9 @@ made_gap M ss out next x xs g =
       | inl t ↦
           let h : next < x.0 = ltb-true next x.0 t in
           let e : x.0 - 1 + 2 ≡ x.0 + 1 = omega arith in
-          rw t (made_skip M (λ n. not (within ss n)) (out ++ (next, x.0 - 1) ∷ []) (x.0 + 1) (x.1 + 1) (subst (Made M (λ n. not (within ss n)) (out ++ (next, x.0 - 1) ∷ [])) e (made_push M (λ n. not (within ss n)) out next (next, x.0 - 1) g.made (next_gap M ss out next x xs g h))) (omega (arith, r.1))
+          rw t (made_skip M (λ n. not (within ss n)) (out ++ (next, x.0 - 1) ∷ []) (x.0 + 1) (x.1 + 1)
+          (subst (Made M (λ n. not (within ss n)) (out ++ (next, x.0 - 1) ∷ [])) e
+          (made_push M (λ n. not (within ss n)) out next (next, x.0 - 1) g.made (next_gap M ss out next x xs g h))) (omega (arith, r.1))
           (λ n l k j. in_first M ss out next x xs g n l (omega arith) (omega arith) (omega arith)))
       | inr t ↦
           let h : x.0 ≤ next = ltb-false next x.0 t in
@@ -58,7 +61,8 @@ gapped_more M ss out next x xs g =
       same = λ n h k. g.same n h (omega (arith, g.start, r.0, r.1)) ∙ past_first x xs n (omega arith);
     }
 
-pub gap_many : (M : ℕ) (ss out : List Span) (next : ℕ) (x : Span) (xs : List Span) → Gapped M ss out next (x ∷ xs) → next < x.0 → 2 ≤ length out → 2 < interval_count (filter (λ n. not (within ss n)) (universe M))
+pub gap_many : (M : ℕ) (ss out : List Span) (next : ℕ) (x : Span) (xs : List Span) → Gapped M ss out next (x ∷ xs) → next < x.0 → 2 ≤ length out
+    → 2 < interval_count (filter (λ n. not (within ss n)) (universe M))
 gap_many M ss out next x xs g h l =
     let n = next_gap M ss out next x xs g h in
     made_many M (λ n. not (within ss n)) out next next g.made l (omega arith) (omega (arith, n.order, n.high)) (n.inside next (omega arith) n.order)

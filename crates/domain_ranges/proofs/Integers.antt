@@ -1,5 +1,6 @@
 -- Integers beside the numbers of U.
-use Rattle.std.proofs.Common.{◌≡◌, ℕ, true, false, arith, ℤ, pos, negsuc, int_le, ◌<ℤ◌, ◌≤◌, ◌≤ℤ◌, ◌∙◌, refl, sym, ap, subst, to_z, of_z, leb, ◌&&◌, Fits, SFits, to_z-of_z}
+use Rattle.std.proofs.Common.{◌≡◌, ℕ, true, false, arith, ℤ, pos, negsuc, int_le, ◌<ℤ◌, ◌≤◌, ◌≤ℤ◌, ◌∙◌, refl, sym, ap, subst, to_z, of_z, leb, ◌&&◌, Fits}
+use Rattle.std.proofs.Common.{SFits, to_z-of_z}
 use Rattle.std.proofs.lemmas.Bool.{true≢false}
 use mir.Syntax.{w32, w64, w128}
 use mir.ValLaws.{to_z_pos}
@@ -53,7 +54,8 @@ pub wide_number : (k : ℕ) → Fits w32 k → to_z w64 k ≡ pos k
 wide_number k f = to_z_pos w64 k (omega (arith, f.fits))
 
 -- an integer of 64 bits between two numbers
-pub held_between : (z : ℤ) (a b : ℕ) → SFits w64 z → lt_z z (pos a) ≡ false → lt_z (pos b) z ≡ false → (z ≡ pos (nat_abs (to_z w64 (of_z w64 z)))) × (a ≤ nat_abs (to_z w64 (of_z w64 z))) × (nat_abs (to_z w64 (of_z w64 z)) ≤ b)
+pub held_between : (z : ℤ) (a b : ℕ) → SFits w64 z → lt_z z (pos a) ≡ false → lt_z (pos b) z ≡ false
+    → (z ≡ pos (nat_abs (to_z w64 (of_z w64 z)))) × (a ≤ nat_abs (to_z w64 (of_z w64 z))) × (nat_abs (to_z w64 (of_z w64 z)) ≤ b)
 held_between z a b f g h =
     let above : pos a ≤ℤ z = grind (arith, ints, g) in
     let is = held_number z a f above in
@@ -69,12 +71,14 @@ high_cut : (M : ℕ) (hi h : ℤ) (n : ℕ) → h ≡ int_min hi (pos M) → pos
 high_cut M hi (pos b) n e g l = grind (arith, ints, nat_tests)
 high_cut M hi (negsuc b) n e g l = absurd (omega (arith, ints))
 
-pub cut_same : (M : ℕ) (lo hi l h : ℤ) → l ≡ int_max lo (pos 0) → h ≡ int_min hi (pos M) → pos 0 ≤ℤ l → int_le l h ≡ true → (n : ℕ) → n ≤ M → (leb (nat_abs l) n && leb n (nat_abs h)) ≡ (int_le lo (pos n) && int_le (pos n) hi)
+pub cut_same : (M : ℕ) (lo hi l h : ℤ) → l ≡ int_max lo (pos 0) → h ≡ int_min hi (pos M) → pos 0 ≤ℤ l → int_le l h ≡ true → (n : ℕ) → n ≤ M
+    → (leb (nat_abs l) n && leb n (nat_abs h)) ≡ (int_le lo (pos n) && int_le (pos n) hi)
 cut_same M lo hi l h e f g k n m =
     let above : pos 0 ≤ℤ h = (let o : l ≤ℤ h = grind (arith, ints, k) in omega (arith, ints, o, g)) in
     ap (λ b. b && leb n (nat_abs h)) (low_cut lo l n e) ∙ ap (λ b. int_le lo (pos n) && b) (high_cut M hi h n f above m)
 
 -- the same, as the code holds them
-pub cut_held : (M : ℕ) (lo hi l h u v x y : ℤ) → x ≡ l → y ≡ h → u ≡ lo → v ≡ hi → l ≡ int_max u (pos 0) → h ≡ int_min v (pos M) → pos 0 ≤ℤ l → int_le x y ≡ true → (n : ℕ) → n ≤ M → (leb (nat_abs x) n && leb n (nat_abs y)) ≡ (int_le lo (pos n) && int_le (pos n) hi)
+pub cut_held : (M : ℕ) (lo hi l h u v x y : ℤ) → x ≡ l → y ≡ h → u ≡ lo → v ≡ hi → l ≡ int_max u (pos 0) → h ≡ int_min v (pos M) → pos 0 ≤ℤ l
+    → int_le x y ≡ true → (n : ℕ) → n ≤ M → (leb (nat_abs x) n && leb n (nat_abs y)) ≡ (int_le lo (pos n) && int_le (pos n) hi)
 cut_held M lo hi l h u v x y a b c d e f g k n m =
     cut_same M lo hi x y (a ∙ (e ∙ ap (λ z. int_max z (pos 0)) c)) (b ∙ (f ∙ ap (λ z. int_min z (pos M)) d)) (subst (λ z. pos 0 ≤ℤ z) (sym a) g) k n m

@@ -1,5 +1,6 @@
 -- The numbers of a list of intervals.
-use Rattle.std.proofs.Common.{◌≡◌, ℕ, zero, suc, ◌+◌, ◌-◌, ◌<◌, ◌≤◌, Bool, true, false, ◌||◌, ◌&&◌, ◌==◌, not, leb, List, [], ◌∷◌, ◌++◌, filter, refl, ap, sym, ◌∙◌, subst, inl, inr, arith, length, get_or, length-append, ℤ, pos, negsuc, int_le, ◌<ℤ◌, ◌⊎◌, append-nil}
+use Rattle.std.proofs.Common.{◌≡◌, ℕ, zero, suc, ◌+◌, ◌-◌, ◌<◌, ◌≤◌, Bool, true, false, ◌||◌, ◌&&◌, ◌==◌, not, leb, List, [], ◌∷◌, ◌++◌, filter, refl, ap, sym}
+use Rattle.std.proofs.Common.{◌∙◌, subst, inl, inr, arith, length, get_or, length-append, ℤ, pos, negsuc, int_le, ◌<ℤ◌, ◌⊎◌, append-nil}
 use Rattle.std.proofs.lemmas.Bool.{and_parts, and_from, true≢false, cases_lt}
 use Rattle.std.proofs.lemmas.Bool.Decides.{nat_tests}
 use Rattle.std.proofs.lemmas.Int.{ints}
@@ -7,7 +8,8 @@ use Rattle.std.proofs.Math.Bool.{or-false}
 use Rattle.std.proofs.lemmas.List.Elements.{filter_agree}
 use Rattle.fd_language.specs.Family.{has, universe, IsRising, count_up}
 use Rattle.fd_language.specs.Range.{least, greatest, is_none_left}
-use Rattle.fd_language.proofs.Lemmas.{rising_same, has-filter, has-filter_back, universe_rising, in_universe, has_high, has_low, rising-filter, least_low, least_in, greatest_in, greatest_high, not_empty, rising_later as rising_from, later_in}
+use Rattle.fd_language.proofs.Lemmas.{rising_same, has-filter, has-filter_back, universe_rising, in_universe, has_high, has_low, rising-filter, least_low}
+use Rattle.fd_language.proofs.Lemmas.{least_in, greatest_in, greatest_high, not_empty, rising_later as rising_from, later_in}
 use Rattle.domain_ranges.proofs.Spans.{within_low, least_first, greatest_end, count, in_head, past_first, behind_first}
 use Rattle.domain_ranges.specs.Spans.{Span, within, IsSpans, members, interval_count, has_int}
 
@@ -55,9 +57,13 @@ members_is M ss p r h =
 -- an intersection as a part of U, and as a part of one of the two
 pub filter_inside : (M : ℕ) (xs ys : List ℕ) → IsRising 0 M xs → filter (λ n. has xs n && has ys n) (universe M) ≡ filter (has ys) xs
 filter_inside M xs ys r =
-    rising_same 0 M (filter (λ n. has xs n && has ys n) (universe M)) (filter (has ys) xs) (rising-filter (λ n. has xs n && has ys n) 0 M (universe M) (universe_rising M)) (rising-filter (has ys) 0 M xs r)
+    rising_same 0 M (filter (λ n. has xs n && has ys n) (universe M)) (filter (has ys) xs)
+    (rising-filter (λ n. has xs n && has ys n) 0 M (universe M) (universe_rising M)) (rising-filter (has ys) 0 M xs r)
     (record { each = λ n m. let both = and_parts (has xs n) (has ys n) (has-filter_back (λ k. has xs k && has ys k) (universe M) n m).1 in has-filter (has ys) xs n both.0 both.1 })
-    (record { each = λ n m. let both = has-filter_back (has ys) xs n m in has-filter (λ k. has xs k && has ys k) (universe M) n (in_universe M n (has_high 0 M xs n r both.0)) (and_from (has xs n) (has ys n) both.0 both.1) })
+    (record {
+      each = λ n m. let both = has-filter_back (has ys) xs n m in
+          has-filter (λ k. has xs k && has ys k) (universe M) n (in_universe M n (has_high 0 M xs n r both.0)) (and_from (has xs n) (has ys n) both.0 both.1);
+    })
 
 pub length_up : (low n : ℕ) → length (count_up low n) ≡ n
 length_up low zero = refl
@@ -127,7 +133,8 @@ past_greatest M xs false r h = refl
 past_greatest M xs true r h = absurd (omega (arith, greatest_high 0 M (suc (greatest xs)) xs r h))
 
 -- two members that end an interval, and one past them
-pub three_intervals : (M a b x : ℕ) (xs : List ℕ) → IsRising 0 M xs → has xs a ≡ true → has xs (suc a) ≡ false → has xs b ≡ true → has xs (suc b) ≡ false → has xs x ≡ true → a < b → b < x → 2 < interval_count xs
+pub three_intervals : (M a b x : ℕ) (xs : List ℕ) → IsRising 0 M xs → has xs a ≡ true → has xs (suc a) ≡ false → has xs b ≡ true → has xs (suc b) ≡ false
+    → has xs x ≡ true → a < b → b < x → 2 < interval_count xs
 unfolding interval_count
 three_intervals M a b x xs r p p' q q' h k l =
     let up = greatest_high 0 M x xs r h in
@@ -180,7 +187,9 @@ outside M xs (pos n) r (inl h) = absurd (omega (arith, ints))
 outside M xs (pos n) r (inr h) = has_above M xs n (has xs n) r (omega (arith, ints)) refl
 outside M xs (negsuc n) r h = refl
 
-pub interval_some : (M : ℕ) (s : Span) (lo hi : ℤ) → s.0 ≤ s.1 → s.1 ≤ M → ((n : ℕ) → n ≤ M → (leb s.0 n && leb n s.1) ≡ (int_le lo (pos n) && int_le (pos n) hi)) → members (s ∷ []) ≡ filter (λ n. int_le lo (pos n) && int_le (pos n) hi) (universe M)
+pub interval_some : (M : ℕ) (s : Span) (lo hi : ℤ) → s.0 ≤ s.1 → s.1 ≤ M
+    → ((n : ℕ) → n ≤ M → (leb s.0 n && leb n s.1) ≡ (int_le lo (pos n) && int_le (pos n) hi))
+    → members (s ∷ []) ≡ filter (λ n. int_le lo (pos n) && int_le (pos n) hi) (universe M)
 interval_some M s lo hi h g f = members_is M (s ∷ []) (λ n. int_le lo (pos n) && int_le (pos n) hi) (omega arith, h, g, tt) (λ n l. or-false (leb s.0 n && leb n s.1) ∙ f n l)
 
 pub interval_none : (M : ℕ) (lo hi : ℤ) → ((n : ℕ) → n ≤ M → (int_le lo (pos n) && int_le (pos n) hi) ≡ false) → members [] ≡ filter (λ n. int_le lo (pos n) && int_le (pos n) hi) (universe M)
@@ -204,10 +213,12 @@ low_bit : (low n : ℕ) (b : Bool) → (b ≡ true → low ≤ n) → n < low �
 low_bit low n false f h = refl
 low_bit low n true f h = absurd (omega (arith, f refl))
 
-rest_same : (low high : ℕ) (s t : Span) (ss ts : List Span) → IsSpans low high (s ∷ ss) → IsSpans low high (t ∷ ts) → s ≡ t → ((n : ℕ) → within (s ∷ ss) n ≡ within (t ∷ ts) n) → (n : ℕ) → within ss n ≡ within ts n
+rest_same : (low high : ℕ) (s t : Span) (ss ts : List Span) → IsSpans low high (s ∷ ss) → IsSpans low high (t ∷ ts) → s ≡ t
+    → ((n : ℕ) → within (s ∷ ss) n ≡ within (t ∷ ts) n) → (n : ℕ) → within ss n ≡ within ts n
 rest_same low high s t ss ts r q e h n = elim (cases_lt s.1 n) [
   | inl l ↦ sym (past_first s ss n l) ∙ h n ∙ past_first t ts n (subst (λ (u : Span). u.1 < n) e l)
-  | inr l ↦ low_bit (s.1 + 2) n (within ss n) (within_low (s.1 + 2) high ss n r.3) (omega arith) ∙ sym (low_bit (t.1 + 2) n (within ts n) (within_low (t.1 + 2) high ts n q.3) (let g : n ≤ t.1 = subst (λ (u : Span). n ≤ u.1) e l in omega arith))
+  | inr l ↦ low_bit (s.1 + 2) n (within ss n) (within_low (s.1 + 2) high ss n r.3) (omega arith)
+      ∙ sym (low_bit (t.1 + 2) n (within ts n) (within_low (t.1 + 2) high ts n q.3) (let g : n ≤ t.1 = subst (λ (u : Span). n ≤ u.1) e l in omega arith))
 ]
 
 pub spans_once : (low high : ℕ) (ss ts : List Span) → IsSpans low high ss → IsSpans low high ts → ((n : ℕ) → within ss n ≡ within ts n) → ss ≡ ts

@@ -1,5 +1,6 @@
 -- What an interval leaves of a set, by its ends.
-use Rattle.std.proofs.Common.{◌≡◌, ℕ, ◌<◌, ◌≤◌, ◌⊎◌, inl, inr, true, false, ◌==◌, ◌&&◌, ℤ, pos, int_le, ◌<ℤ◌, ◌≤ℤ◌, max, min, List, [], ◌∷◌, filter, refl, sym, ◌∙◌, ap, subst, arith, length, set, eq-eqb}
+use Rattle.std.proofs.Common.{◌≡◌, ℕ, ◌<◌, ◌≤◌, ◌⊎◌, inl, inr, true, false, ◌==◌, ◌&&◌, ℤ, pos, int_le, ◌<ℤ◌, ◌≤ℤ◌, max, min, List, [], ◌∷◌, filter, refl, sym}
+use Rattle.std.proofs.Common.{◌∙◌, ap, subst, arith, length, set, eq-eqb}
 use Rattle.std.specs.List.{refill}
 use Rattle.std.proofs.lemmas.Bool.{or_left, or_right, cases_Bool}
 use Rattle.std.proofs.lemmas.Bool.Decides.{nat_tests}
@@ -14,8 +15,8 @@ use Rattle.domain_ranges.specs.Narrowing.{between, IsInterval, IsPart}
 use Rattle.domain_ranges.specs.declared.Part.TheVariants.{Within}
 use Rattle.domain_ranges.proofs.Members.{has_members, members_rising, meet_is, spans_once, has_within, least_is, greatest_is}
 use Rattle.domain_ranges.proofs.Images.{has_set}
-use Rattle.domain_ranges.proofs.Meeting.{one_set}
-use Rattle.domain_ranges.proofs.Inside.{left_of, met_one}
+use Rattle.domain_ranges.proofs.Intersection.{one_set}
+use Rattle.domain_ranges.proofs.Inclusion.{left_of, met_one}
 use Rattle.domain_ranges.proofs.Ends.{below_ends, above_ends}
 
 -- nothing is left of a set among numbers none of which it has
@@ -45,7 +46,9 @@ module _ (xs : List ℕ) (b : Span) (rises : IsRising 0 INFINITY xs) (some : is_
       ∙ sym (met_one own b low high (members ((low, high) ∷ [])) e f l refl).0
 
 -- the same of the ends that are held beside the intervals
-module _ (ss : List Span) (xs set : List ℕ) (ends b : Span) (low high : ℕ) (held : AreWithEnds ss ends) (same : members ss ≡ xs) (some : is_none_left xs ≡ false) (order : b.0 ≤ b.1) (limit : b.1 ≤ INFINITY) (is : members (b ∷ []) ≡ set) (e : low ≡ max ends.0 b.0) (f : high ≡ min ends.1 b.1) where
+module _ (ss : List Span) (xs set : List ℕ) (ends b : Span) (low high : ℕ) (held : AreWithEnds ss ends) (same : members ss ≡ xs)
+    (some : is_none_left xs ≡ false) (order : b.0 ≤ b.1) (limit : b.1 ≤ INFINITY) (is : members (b ∷ []) ≡ set) (e : low ≡ max ends.0 b.0)
+    (f : high ≡ min ends.1 b.1) where
   rises : IsRising 0 INFINITY xs
   rises = subst (IsRising 0 INFINITY) same (members_rising 0 INFINITY ss held.spans)
 
@@ -110,12 +113,18 @@ module _ (ss : List Span) (xs : List ℕ) (ends : Span) (lo hi : ℤ) (held : Ar
     in_both : (a b n : ℕ) → low ≡ pos a → high ≡ pos b → ends.0 ≤ n → n ≤ ends.1 → within ((a, b) ∷ []) n ≡ (int_le lo (pos n) && int_le (pos n) hi)
     in_both a b n e f h g = grind (arith, ints, clamps, nat_tests)
 
-    pub some_between : (a b : ℕ) → low ≡ pos a → high ≡ pos b → a ≤ b → is_none_left xs ≡ false → ((lo ≤ℤ pos ends.0) × (hi <ℤ pos ends.1)) ⊎ (pos ends.0 <ℤ lo) → IsPart xs (between lo hi) (Within a b)
+    pub some_between : (a b : ℕ) → low ≡ pos a → high ≡ pos b → a ≤ b → is_none_left xs ≡ false → ((lo ≤ℤ pos ends.0) × (hi <ℤ pos ends.1)) ⊎ (pos ends.0 <ℤ lo)
+        → IsPart xs (between lo hi) (Within a b)
     some_between a b e f l some out =
         let a0 : ends.0 ≤ a = omega (arith, ints, clamps) in
         let b1 : b ≤ ends.1 = omega (arith, ints, clamps) in
-        let last_high : ends.1 ≤ INFINITY = omega (arith, held.greatest ∙ ap greatest same, has_high 0 INFINITY xs (greatest xs) (subst (IsRising 0 INFINITY) same (members_rising 0 INFINITY ss held.spans)) (greatest_in xs some)) in
-        let moved : ((a ≤ ends.0) × (b < ends.1)) ⊎ (ends.0 < a) = elim out [ inl h ↦ inl (omega (arith, ints, clamps, h.0, h.1), omega (arith, ints, clamps, h.0, h.1)) | inr h ↦ inr (omega (arith, ints, clamps, h)) ] in
+        let last_high : ends.1 ≤ INFINITY = omega (
+          arith,
+          held.greatest ∙ ap greatest same,
+          has_high 0 INFINITY xs (greatest xs) (subst (IsRising 0 INFINITY) same (members_rising 0 INFINITY ss held.spans)) (greatest_in xs some),
+        ) in
+        let moved : ((a ≤ ends.0) × (b < ends.1)) ⊎ (ends.0 < a) = elim out
+        [ inl h ↦ inl (omega (arith, ints, clamps, h.0, h.1), omega (arith, ints, clamps, h.0, h.1)) | inr h ↦ inr (omega (arith, ints, clamps, h)) ] in
         let part = held_within ss xs (members ((a, b) ∷ [])) ends (a, b) a b held same some l (omega arith) refl (omega arith) (omega arith) l moved in
         let agree = filter_on xs (members ((a, b) ∷ [])) (between lo hi) (λ n m. let w = in_ends n m in
         has_members 0 INFINITY ((a, b) ∷ []) n (omega arith, l, omega arith, tt) ∙ in_both a b n e f w.0 w.1 ∙ sym (between_is n w.2)) in

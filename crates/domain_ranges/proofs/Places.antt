@@ -1,5 +1,6 @@
 -- The first interval that doesn't end below a number.
-use Rattle.std.proofs.Common.{◌≡◌, ℕ, zero, suc, ◌+◌, ◌<◌, ◌≤◌, Bool, true, false, leb, ltb, List, [], ◌∷◌, refl, ap, sym, ◌∙◌, subst, arith, length, get_or, drop, drop_of_length-le, max, le-leb}
+use Rattle.std.proofs.Common.{◌≡◌, ℕ, zero, suc, ◌+◌, ◌<◌, ◌≤◌, Bool, true, false, leb, ltb, List, [], ◌∷◌, refl, ap, sym, ◌∙◌, subst, arith, length, get_or}
+use Rattle.std.proofs.Common.{drop, drop_of_length-le, max, le-leb}
 use Rattle.std.proofs.lemmas.Bool.Decides.{nat_tests}
 use Rattle.std.proofs.lemmas.List.{drop_more}
 use Rattle.domain_ranges.specs.Spans.{Span, within, IsSpans}
@@ -33,7 +34,8 @@ drop_spans low high (suc i) [] r = (low, r)
 drop_spans low high (suc i) (s ∷ ss) r = drop_spans (s.1 + 2) high i ss r.3
 
 -- whether a number is in the intervals, by that place
-pub there : (high i n : ℕ) (ss : List Span) → IsSpans 0 high ss → ((k : ℕ) (d : Span) → k < i → (get_or ss k d).1 < n) → i < length ss → n ≤ (get_or ss i (0, 0)).1 → within ss n ≡ leb (get_or ss i (0, 0)).0 n
+pub there : (high i n : ℕ) (ss : List Span) → IsSpans 0 high ss → ((k : ℕ) (d : Span) → k < i → (get_or ss k d).1 < n) → i < length ss
+    → n ≤ (get_or ss i (0, 0)).1 → within ss n ≡ leb (get_or ss i (0, 0)).0 n
 there high i n ss r h g l =
     let rest = drop_spans 0 high i ss r in
     passed i n ss h (omega arith) ∙ ap (λ t. within t n) (drop_more ss i (0, 0) g)
@@ -49,14 +51,16 @@ no_less a b c h e = grind (arith, nat_tests)
 first_low : (low high n : ℕ) (s : Span) (ss : List Span) (k : ℕ) → IsSpans low high (s ∷ ss) → within (s ∷ ss) k ≡ true → s.0 ≤ k
 first_low low high n s ss k r h = within_low s.0 high (s ∷ ss) k (omega arith, r.1, r.2, r.3) h
 
-pub next_least : (high i n k : ℕ) (ss : List Span) → IsSpans 0 high ss → ((j : ℕ) (d : Span) → j < i → (get_or ss j d).1 < n) → i < length ss → n ≤ k → within ss k ≡ true → max (get_or ss i (0, 0)).0 n ≤ k
+pub next_least : (high i n k : ℕ) (ss : List Span) → IsSpans 0 high ss → ((j : ℕ) (d : Span) → j < i → (get_or ss j d).1 < n) → i < length ss → n ≤ k
+    → within ss k ≡ true → max (get_or ss i (0, 0)).0 n ≤ k
 next_least high i n k ss r h g l t =
     let rest = drop_spans 0 high i ss r in
     let low : (get_or ss i (0, 0)).0 ≤ k = first_low rest.0 high n (get_or ss i (0, 0)) (drop (i + 1) ss) k (subst (IsSpans rest.0 high) (drop_more ss i (0, 0) g) rest.1)
     (sym (ap (λ t. within t k) (drop_more ss i (0, 0) g)) ∙ sym (passed i k ss (λ j d m. (let e = h j d m in omega arith)) (omega arith)) ∙ t) in
     omega arith
 
-pub next_there : (high i n : ℕ) (ss : List Span) → IsSpans 0 high ss → ((j : ℕ) (d : Span) → j < i → (get_or ss j d).1 < n) → i < length ss → n ≤ (get_or ss i (0, 0)).1 → within ss (max (get_or ss i (0, 0)).0 n) ≡ true
+pub next_there : (high i n : ℕ) (ss : List Span) → IsSpans 0 high ss → ((j : ℕ) (d : Span) → j < i → (get_or ss j d).1 < n) → i < length ss
+    → n ≤ (get_or ss i (0, 0)).1 → within ss (max (get_or ss i (0, 0)).0 n) ≡ true
 next_there high i n ss r h g l =
     let at = spans_at 0 high i ss (0, 0) r g in
     there high i (max (get_or ss i (0, 0)).0 n) ss r (λ j d m. (let e = h j d m in omega arith)) g (omega (arith, at.0)) ∙ le-leb (get_or ss i (0, 0)).0 (max (get_or ss i (0, 0)).0 n) (omega arith)

@@ -1,5 +1,6 @@
 -- The only member of a set.
-use Rattle.std.proofs.Common.{◌≡◌, ℕ, suc, pos, ◌≤◌, true, false, eqb, List, [], ◌∷◌, Option, Some, None, MatchOption, OnSome, refl, ap, sym, ◌∙◌, arith, eq-eqb, eqb-true}
+use Rattle.std.proofs.Common.{◌≡◌, ℕ, suc, pos, ◌≤◌, true, false, eqb, List, [], ◌∷◌, Option, Some, None, MatchOption, OnSome, refl, ap, sym, ◌∙◌, arith}
+use Rattle.std.proofs.Common.{eq-eqb, eqb-true}
 use Rattle.std.specs.Option.{option_eq}
 use Rattle.std.proofs.lemmas.Bool.{true≢false}
 use Rattle.fd_language.specs.Family.{IsRising}
@@ -24,7 +25,8 @@ cons_none : (w : ℕ) (ws : List ℕ) → w ∷ ws ≡ [] → ⊥
 cons_none w ws e = cc
 
 -- the least and the greatest member are one
-pub only_least : (M : ℕ) (xs : List ℕ) (a b : Option ℕ) → IsRising 0 M xs → MatchOption a (xs ≡ []) (λ n. n ≡ least xs) → OnSome a (is_none_left xs ≡ false) → MatchOption b (xs ≡ []) (λ n. n ≡ greatest xs) → option_eq eqb a b ≡ true → a ≡ only xs
+pub only_least : (M : ℕ) (xs : List ℕ) (a b : Option ℕ) → IsRising 0 M xs → MatchOption a (xs ≡ []) (λ n. n ≡ least xs) → OnSome a (is_none_left xs ≡ false)
+    → MatchOption b (xs ≡ []) (λ n. n ≡ greatest xs) → option_eq eqb a b ≡ true → a ≡ only xs
 only_least M [] a b r h s g e = none_left [] a refl s
 only_least M (w ∷ []) a b r h s g e = some_of (w ∷ []) a least h (cons_none w [])
 only_least M (x ∷ y ∷ ys) a b r h s g e =

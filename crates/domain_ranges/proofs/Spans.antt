@@ -1,5 +1,6 @@
 -- Lemmas on lists of intervals.
-use Rattle.std.proofs.Common.{◌≡◌, ℕ, zero, suc, ◌+◌, ◌-◌, ◌<◌, ◌≤◌, Bool, true, false, ◌||◌, ◌&&◌, leb, List, [], ◌∷◌, ◌++◌, refl, ap, sym, ◌∙◌, subst, inl, inr, ◌⊎◌, arith, leb-true, le-leb, length, get_or, take, add-one}
+use Rattle.std.proofs.Common.{◌≡◌, ℕ, zero, suc, ◌+◌, ◌-◌, ◌<◌, ◌≤◌, Bool, true, false, ◌||◌, ◌&&◌, leb, List, [], ◌∷◌, ◌++◌, refl, ap, sym, ◌∙◌, subst, inl}
+use Rattle.std.proofs.Common.{inr, ◌⊎◌, arith, leb-true, le-leb, length, get_or, take, add-one}
 use Rattle.std.proofs.lemmas.Bool.{true≢false}
 use Rattle.std.proofs.lemmas.Bool.Decides.{nat_tests}
 use Rattle.domain_ranges.specs.Spans.{Span, within, IsSpans}
@@ -83,7 +84,8 @@ count-take (suc i) (s ∷ ss) = omega (arith, count-take i ss)
 count-more : (i : ℕ) (ss : List Span) (d : Span) → i < length ss → count (take (i + 1) ss) ≡ count (take i ss) + (suc (get_or ss i d).1 - (get_or ss i d).0)
 count-more i [] d h = absurd (omega arith)
 count-more zero (s ∷ ss) d h = omega arith
-count-more (suc i) (s ∷ ss) d h = let later = count-more i ss d (omega arith) in rw add-one (let l : count (take (suc i) ss) ≡ count (take i ss) + (suc (get_or ss i d).1 - (get_or ss i d).0) = rw add-one at later in omega arith)
+count-more (suc i) (s ∷ ss) d h = let later = count-more i ss d (omega arith) in
+    rw add-one (let l : count (take (suc i) ss) ≡ count (take i ss) + (suc (get_or ss i d).1 - (get_or ss i d).0) = rw add-one at later in omega arith)
 
 pub spans_at : (low high i : ℕ) (ss : List Span) (d : Span) → IsSpans low high ss → i < length ss → ((get_or ss i d).0 ≤ (get_or ss i d).1) × ((get_or ss i d).1 ≤ high)
 spans_at low high i [] d r h = absurd (omega arith)

@@ -43,7 +43,8 @@ pub record AreEnds (ends : ℕ × ℕ) (ns : List ℕ) : Type 0 where
 abbrev pub IsInterval : List ℕ → Type 0
 IsInterval ns = ns ≡ members ((least ns, greatest ns) ∷ [])
 
--- The set `old`, intersected with another one: all of it is left, nothing is, or not all is but the members between two numbers, which are those of an interval.
+-- The set `old`, intersected with another one: all of it is left, nothing is, or not all is but the members between two numbers, which are those of an
+-- interval.
 abbrev pub IsPart : List ℕ → List ℕ → Part → Type 0
 IsPart old set All = IsSubset old set
 IsPart old set Nothing = filter (has set) old ≡ []

@@ -1,5 +1,6 @@
 -- Sets of numbers as lists of intervals that rise and don't touch.
-use Rattle.std.specs.Prelude.{◌≡◌, ℕ, zero, suc, ◌+◌, ◌-◌, ◌≤◌, Bool, false, ◌&&◌, not, ◌==◌, ◌*◌, ◌/◌, nat_le, nat_lt, int_le, ◌+ℤ◌, max, min, if◌then◌else◌, ℤ, pos, negsuc, List, [], ◌∷◌, ◌++◌, filter, length, Option, Some, None}
+use Rattle.std.specs.Prelude.{◌≡◌, ℕ, zero, suc, ◌+◌, ◌-◌, ◌≤◌, Bool, false, ◌&&◌, not, ◌==◌, ◌*◌, ◌/◌, nat_le, nat_lt, int_le, ◌+ℤ◌, max, min, if◌then◌else◌}
+use Rattle.std.specs.Prelude.{ℤ, pos, negsuc, List, [], ◌∷◌, ◌++◌, filter, length, Option, Some, None}
 use Rattle.std.specs.List.{list_any}
 use Rattle.fd_language.specs.declared.TheConstants.{INFINITY}
 use Rattle.fd_language.specs.Family.{has, count_up}

@@ -1,5 +1,6 @@
 -- How the operators of range terms keep orders.
-use Rattle.std.proofs.Common.{◌≡◌, ℕ, zero, suc, ◌*◌, ◌/◌, ◌≤◌, max, ℤ, pos, negsuc, ◌+ℤ◌, ◌-ℤ◌, ◌*ℤ◌, neg_ℤ, ◌≤ℤ◌, ap, arith, mul-le-mul, mul-le-mul_left, suc-le-suc, div-mul-le_self, div-le_self}
+use Rattle.std.proofs.Common.{◌≡◌, ℕ, zero, suc, ◌*◌, ◌/◌, ◌≤◌, max, ℤ, pos, negsuc, ◌+ℤ◌, ◌-ℤ◌, ◌*ℤ◌, neg_ℤ, ◌≤ℤ◌, ap, arith, mul-le-mul, mul-le-mul_left}
+use Rattle.std.proofs.Common.{suc-le-suc, div-mul-le_self, div-le_self}
 use Rattle.std.proofs.Math.Nat.{zero-div}
 use Rattle.std.proofs.lemmas.Nat.{le-div}
 use Rattle.std.proofs.lemmas.Int.{ints}
@@ -134,7 +135,8 @@ up_natural M (pos zero) (pos b) (pos (suc c)) (pos d) h g i j = rw (up_zero M c)
 up_natural M (pos zero) (pos b) (pos zero) (pos zero) h g i j = up_positive M (pos b) (pos zero) (pos_le 0 b (omega arith)) g
 up_natural M (pos (suc a)) (pos zero) c d h g i j = absurd (let l = le_pos (suc a) 0 i in omega arith)
 up_natural M (pos (suc a)) (pos (suc b)) (pos (suc c)) (pos (suc d)) h g i j =
-    pos_le (suc (a / suc c)) (suc (b / suc d)) (let l : d ≤ c = omega (arith, le_pos (suc d) (suc c) j) in let e = div_falls a c d l in let k : a ≤ b = omega (arith, le_pos (suc a) (suc b) i) in let f = div_grows a b d k in omega arith)
+    pos_le (suc (a / suc c)) (suc (b / suc d)) (let l : d ≤ c = omega (arith, le_pos (suc d) (suc c) j) in let e = div_falls a c d l in
+    let k : a ≤ b = omega (arith, le_pos (suc a) (suc b) i) in let f = div_grows a b d k in omega arith)
 up_natural M (pos (suc a)) (pos (suc b)) (pos (suc c)) (pos zero) h g i j =
     pos_le (suc (a / suc c)) (max (suc b) M) (let e = up_bound a c in let f = le_pos (suc a) (suc b) i in omega arith)
 up_natural M (pos (suc a)) (pos (suc b)) (pos zero) (pos zero) h g i j = pos_le (max (suc a) M) (max (suc b) M) (let f = le_pos (suc a) (suc b) i in omega arith)

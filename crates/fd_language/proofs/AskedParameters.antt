@@ -5,7 +5,8 @@ use Rattle.std.proofs.lemmas.List.{map-append, append-nil}
 use Rattle.fd_language.specs.declared.range_node.Need.{Need}
 use Rattle.fd_language.specs.declared.range_node.Need.TheVariants.{Divisor}
 use Rattle.fd_language.specs.Lists.{Each}
-use Rattle.fd_language.specs.Range.{Range, Span, One, Dom, Union, Inter, Outside, Plus, Minus, Times, Over, Expr, Number, Infinity, Param, Add, Sub, Mul, DivDown, DivUp, expr_params, params}
+use Rattle.fd_language.specs.Range.{Range, Span, One, Dom, Union, Inter, Outside, Plus, Minus, Times, Over, Expr, Number, Infinity, Param, Add, Sub, Mul}
+use Rattle.fd_language.specs.Range.{DivDown, DivUp, expr_params, params}
 use Rattle.fd_language.specs.Needs.{is_literal, quotient_asks, expr_asks, over_asks, asks}
 use Rattle.fd_language.proofs.Lists.{each_of_map}
 use Rattle.fd_language.proofs.Leaves.{two}
@@ -29,13 +30,15 @@ either : (c : Bool) (xs ys : List (ℕ × Need)) (us : List ℕ) → of_asks xs 
 either true xs ys us h g = h
 either false xs ys us h g = g
 
-plain_or_both : (b : Expr) (plain left right : List (ℕ × Need)) (us : List ℕ) → of_asks plain ≡ us → of_asks left ≡ us → of_asks right ≡ expr_params b → of_asks (cond (is_literal b) plain (left ++ right)) ≡ us ++ expr_params b
+plain_or_both : (b : Expr) (plain left right : List (ℕ × Need)) (us : List ℕ) → of_asks plain ≡ us → of_asks left ≡ us → of_asks right ≡ expr_params b
+    → of_asks (cond (is_literal b) plain (left ++ right)) ≡ us ++ expr_params b
 plain_or_both b plain left right us h g k = elim (cases_Bool (is_literal b)) [
   | inl i ↦ ap (λ c. of_asks (cond c plain (left ++ right))) i ∙ (h ∙ sym (ap (λ l. us ++ l) (no_params b i) ∙ append-nil us))
   | inr i ↦ ap (λ c. of_asks (cond c plain (left ++ right))) i ∙ both left right us (expr_params b) g k
 ]
 
-quotient_asked : (b : Expr) (plain left right : List (ℕ × Need)) (us : List ℕ) → of_asks plain ≡ us → of_asks left ≡ us → of_asks right ≡ expr_params b → of_asks (quotient_asks b plain left right) ≡ us ++ expr_params b
+quotient_asked : (b : Expr) (plain left right : List (ℕ × Need)) (us : List ℕ) → of_asks plain ≡ us → of_asks left ≡ us → of_asks right ≡ expr_params b
+    → of_asks (quotient_asks b plain left right) ≡ us ++ expr_params b
 quotient_asked (Param x) plain left right us h g k = both plain ((x, Divisor) ∷ []) us (x ∷ []) h refl
 quotient_asked b plain left right us h g k = plain_or_both b plain left right us h g k
 
@@ -44,7 +47,8 @@ expr_asked (Add a b) n = both (expr_asks a n) (expr_asks b n) (expr_params a) (e
 expr_asked (Sub a b) n = both (expr_asks a n) (expr_asks b n) (expr_params a) (expr_params b) (expr_asked a n) (expr_asked b n)
 expr_asked (Mul a b) n =
     either (is_literal a || is_literal b) (expr_asks a n ++ expr_asks b n) (expr_asks a true ++ expr_asks b true) (expr_params a ++ expr_params b)
-    (both (expr_asks a n) (expr_asks b n) (expr_params a) (expr_params b) (expr_asked a n) (expr_asked b n)) (both (expr_asks a true) (expr_asks b true) (expr_params a) (expr_params b) (expr_asked a true) (expr_asked b true))
+    (both (expr_asks a n) (expr_asks b n) (expr_params a) (expr_params b) (expr_asked a n) (expr_asked b n))
+    (both (expr_asks a true) (expr_asks b true) (expr_params a) (expr_params b) (expr_asked a true) (expr_asked b true))
 expr_asked (DivDown a b) n = quotient_asked b (expr_asks a n) (expr_asks a true) (expr_asks b true) (expr_params a) (expr_asked a n) (expr_asked a true) (expr_asked b true)
 expr_asked (DivUp a b) n = quotient_asked b (expr_asks a n) (expr_asks a true) (expr_asks b true) (expr_params a) (expr_asked a n) (expr_asked a true) (expr_asked b true)
 expr_asked e n = refl

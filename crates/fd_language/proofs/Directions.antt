@@ -1,17 +1,21 @@
 -- An accepted term moves the way that is wanted of it.
-use Rattle.std.proofs.Common.{◌≡◌, ℕ, ◌≤◌, Bool, true, false, cond, ◌||◌, ◌&&◌, ℤ, pos, negsuc, ◌+ℤ◌, ◌-ℤ◌, ◌*ℤ◌, ◌≤ℤ◌, int_le, List, ◌++◌, refl, sym, ap, subst, inl, inr, arith}
+use Rattle.std.proofs.Common.{◌≡◌, ℕ, ◌≤◌, Bool, true, false, cond, ◌||◌, ◌&&◌, ℤ, pos, negsuc, ◌+ℤ◌, ◌-ℤ◌, ◌*ℤ◌, ◌≤ℤ◌, int_le, List, ◌++◌, refl, sym, ap}
+use Rattle.std.proofs.Common.{subst, inl, inr, arith}
 use Rattle.std.proofs.lemmas.Int.{ints}
 use Rattle.std.proofs.lemmas.Bool.{cases_Bool, true≢false, or_left, or_right, and_from, and_parts, or_from}
 use Rattle.std.specs.Int.Signed.{≤ℤ_refl}
 use Rattle.std.proofs.Math.IntN.{*ℤ_comm}
 use Rattle.fd_language.specs.Family.{Family, IsSubset}
 use Rattle.fd_language.specs.Lists.{Each}
-use Rattle.fd_language.specs.Range.{Expr, Number, Infinity, Param, Min, Max, Val, Add, Sub, Mul, DivDown, DivUp, Leaf, Role, a_parameter, a_min, a_max, a_val, a_dom, expr_leaves, value, least, greatest, div_down, div_up}
+use Rattle.fd_language.specs.Range.{Expr, Number, Infinity, Param, Min, Max, Val, Add, Sub, Mul, DivDown, DivUp, Leaf, Role, a_parameter, a_min, a_max, a_val}
+use Rattle.fd_language.specs.Range.{a_dom, expr_leaves, value, least, greatest, div_down, div_up}
 use Rattle.fd_language.specs.Needs.{is_literal}
-use Rattle.fd_language.specs.Check.{Wish, Rising, Falling, Constant, turn, is_rising, is_falling, literal_value, by_sign, is_natural, quotient_fits, expr_fits, fill}
+use Rattle.fd_language.specs.Check.{Wish, Rising, Falling, Constant, turn, is_rising, is_falling, literal_value, by_sign, is_natural, quotient_fits, expr_fits}
+use Rattle.fd_language.specs.Check.{fill}
 use Rattle.fd_language.proofs.Lists.{each_before, each_after}
 use Rattle.fd_language.proofs.PartNeeds.{divisor_meets, expr_meets, above_zero}
-use Rattle.fd_language.proofs.Arithmetic.{add_keeps, sub_keeps, mul_keeps, mul_turns, natural_product, product_natural, down_keeps, up_keeps, down_natural, up_natural, down_positive, up_positive}
+use Rattle.fd_language.proofs.Arithmetic.{add_keeps, sub_keeps, mul_keeps, mul_turns, natural_product, product_natural, down_keeps, up_keeps, down_natural}
+use Rattle.fd_language.proofs.Arithmetic.{up_natural, down_positive, up_positive}
 
 -- from the value in a family to that in a family inside it
 abbrev pub Moves : Wish → ℤ → ℤ → Type 0
@@ -98,12 +102,15 @@ module _ (M : ℕ) (p : ℕ → ℤ) where
 
   literal_meets : (e : Expr) (n : Bool) → is_literal e ≡ true → expr_meets p e n ≡ true
   literal_meets (Param x) n h = absurd (true≢false (sym h))
-  literal_meets (Add a b) n h = and_from (expr_meets p a n) (expr_meets p b n) (literal_meets a n ((and_parts (is_literal a) (is_literal b) h).0)) (literal_meets b n ((and_parts (is_literal a) (is_literal b) h).1))
-  literal_meets (Sub a b) n h = and_from (expr_meets p a n) (expr_meets p b n) (literal_meets a n ((and_parts (is_literal a) (is_literal b) h).0)) (literal_meets b n ((and_parts (is_literal a) (is_literal b) h).1))
+  literal_meets (Add a b) n h = and_from (expr_meets p a n) (expr_meets p b n) (literal_meets a n ((and_parts (is_literal a) (is_literal b) h).0))
+      (literal_meets b n ((and_parts (is_literal a) (is_literal b) h).1))
+  literal_meets (Sub a b) n h = and_from (expr_meets p a n) (expr_meets p b n) (literal_meets a n ((and_parts (is_literal a) (is_literal b) h).0))
+      (literal_meets b n ((and_parts (is_literal a) (is_literal b) h).1))
   literal_meets (Mul a b) n h =
       either_meet (is_literal a || is_literal b) (expr_meets p a n) (expr_meets p b n) (expr_meets p a true) (expr_meets p b true)
       (and_from (expr_meets p a n) (expr_meets p b n) (literal_meets a n ((and_parts (is_literal a) (is_literal b) h).0)) (literal_meets b n ((and_parts (is_literal a) (is_literal b) h).1)))
-      (and_from (expr_meets p a true) (expr_meets p b true) (literal_meets a true ((and_parts (is_literal a) (is_literal b) h).0)) (literal_meets b true ((and_parts (is_literal a) (is_literal b) h).1)))
+      (and_from (expr_meets p a true) (expr_meets p b true) (literal_meets a true ((and_parts (is_literal a) (is_literal b) h).0))
+      (literal_meets b true ((and_parts (is_literal a) (is_literal b) h).1)))
   literal_meets (DivDown a b) n h = absurd (true≢false (sym h))
   literal_meets (DivUp a b) n h = absurd (true≢false (sym h))
   literal_meets e n h = refl
@@ -118,11 +125,14 @@ module _ (M : ℕ) (p : ℕ → ℤ) where
       cond (is_literal b) (expr_meets p a n) (expr_meets p a true && expr_meets p b true) ≡ true → Quotient a b w
   plain_quotient a b w n h g = elim (cases_Bool (is_literal b)) [
     | inl l ↦
-        let f : (int_le (pos 1) (literal_value M b) && expr_fits M a w) ≡ true = if_yes (is_literal b) (int_le (pos 1) (literal_value M b) && expr_fits M a w) ((is_natural M a && is_natural M b) && (expr_fits M a w && expr_fits M b (turn w))) h l in
-        by_constant n (literal_value M b) ((and_parts (int_le (pos 1) (literal_value M b)) (expr_fits M a w) f).1) (if_yes (is_literal b) (expr_meets p a n) (expr_meets p a true && expr_meets p b true) g l)
+        let f : (int_le (pos 1) (literal_value M b) && expr_fits M a w) ≡ true = if_yes (is_literal b) (int_le (pos 1) (literal_value M b) && expr_fits M a w)
+        ((is_natural M a && is_natural M b) && (expr_fits M a w && expr_fits M b (turn w))) h l in
+        by_constant n (literal_value M b) ((and_parts (int_le (pos 1) (literal_value M b)) (expr_fits M a w) f).1)
+        (if_yes (is_literal b) (expr_meets p a n) (expr_meets p a true && expr_meets p b true) g l)
         (λ S. literal_is S b l) (int_le_true (pos 1) (literal_value M b) ((and_parts (int_le (pos 1) (literal_value M b)) (expr_fits M a w) f).0))
     | inr l ↦
-        let f : ((is_natural M a && is_natural M b) && (expr_fits M a w && expr_fits M b (turn w))) ≡ true = if_no (is_literal b) (int_le (pos 1) (literal_value M b) && expr_fits M a w) ((is_natural M a && is_natural M b) && (expr_fits M a w && expr_fits M b (turn w))) h l in
+        let f : ((is_natural M a && is_natural M b) && (expr_fits M a w && expr_fits M b (turn w))) ≡ true = if_no (is_literal b)
+        (int_le (pos 1) (literal_value M b) && expr_fits M a w) ((is_natural M a && is_natural M b) && (expr_fits M a w && expr_fits M b (turn w))) h l in
         let k : (expr_meets p a true && expr_meets p b true) ≡ true = if_no (is_literal b) (expr_meets p a n) (expr_meets p a true && expr_meets p b true) g l in
         let nat : (is_natural M a && is_natural M b) ≡ true = (and_parts (is_natural M a && is_natural M b) (expr_fits M a w && expr_fits M b (turn w)) f).0 in
         let fit : (expr_fits M a w && expr_fits M b (turn w)) ≡ true = (and_parts (is_natural M a && is_natural M b) (expr_fits M a w && expr_fits M b (turn w)) f).1 in
@@ -133,7 +143,8 @@ module _ (M : ℕ) (p : ℕ → ℤ) where
 
   pub quotient : (a b : Expr) (w : Wish) (n : Bool) → quotient_fits M b (expr_fits M a w) (expr_fits M b (turn w)) (is_natural M a && is_natural M b) ≡ true →
       divisor_meets p b (expr_meets p a n) (expr_meets p a true && expr_meets p b true) ≡ true → Quotient a b w
-  quotient a (Param x) w n h g = by_constant n (p x) h ((and_parts (int_le (pos 1) (p x)) (expr_meets p a n) g).1) (λ S. refl) (int_le_true (pos 1) (p x) ((and_parts (int_le (pos 1) (p x)) (expr_meets p a n) g).0))
+  quotient a (Param x) w n h g = by_constant n (p x) h ((and_parts (int_le (pos 1) (p x)) (expr_meets p a n) g).1) (λ S. refl)
+      (int_le_true (pos 1) (p x) ((and_parts (int_le (pos 1) (p x)) (expr_meets p a n) g).0))
   quotient a e w n h g = plain_quotient a e w n h g
 
   -- the values of natural terms
@@ -184,10 +195,12 @@ module _ (M : ℕ) (p : ℕ → ℤ) where
   ]
   natural_is S (DivDown a b) h g =
       let m = divided_meets b (expr_meets p a true) g in
-      down_positive M (value M S (fill p a)) (value M S (fill p b)) (natural_is S a ((and_parts (is_natural M a) (is_natural M b) h).0) m.0) (natural_is S b ((and_parts (is_natural M a) (is_natural M b) h).1) m.1)
+      down_positive M (value M S (fill p a)) (value M S (fill p b)) (natural_is S a ((and_parts (is_natural M a) (is_natural M b) h).0) m.0)
+      (natural_is S b ((and_parts (is_natural M a) (is_natural M b) h).1) m.1)
   natural_is S (DivUp a b) h g =
       let m = divided_meets b (expr_meets p a true) g in
-      up_positive M (value M S (fill p a)) (value M S (fill p b)) (natural_is S a ((and_parts (is_natural M a) (is_natural M b) h).0) m.0) (natural_is S b ((and_parts (is_natural M a) (is_natural M b) h).1) m.1)
+      up_positive M (value M S (fill p a)) (value M S (fill p b)) (natural_is S a ((and_parts (is_natural M a) (is_natural M b) h).0) m.0)
+      (natural_is S b ((and_parts (is_natural M a) (is_natural M b) h).1) m.1)
 
 -- what the variable of a leaf keeps, from a family to one inside it
 abbrev pub LeafKeeps : Family → Family → Role → ℕ → Type 0
@@ -264,13 +277,15 @@ module _ (M : ℕ) (p : ℕ → ℤ) (S' S : Family) where
             let q = if_no (is_literal a) (by_sign (literal_value M a) (expr_fits M b w) (expr_fits M b (turn w))) right f o in
             elim (cases_Bool (is_literal b)) [
               | inl l ↦
-                  let s = if_yes (is_literal b) (by_sign (literal_value M b) (expr_fits M a w) (expr_fits M a (turn w))) ((is_natural M a && is_natural M b) && (expr_fits M a w && expr_fits M b w)) q l in
+                  let s = if_yes (is_literal b) (by_sign (literal_value M b) (expr_fits M a w) (expr_fits M a (turn w)))
+                  ((is_natural M a && is_natural M b) && (expr_fits M a w && expr_fits M b w)) q l in
                   let g = if_yes (is_literal a || is_literal b) (expr_meets p a n && expr_meets p b n) (expr_meets p a true && expr_meets p b true) m (or_right (is_literal a) (is_literal b) l) in
                   let h : expr_meets p a n ≡ true = (and_parts (expr_meets p a n) (expr_meets p b n) g).0 in
                   literal_right w (literal_value M b) _ _ _ _ (expr_fits M a w) (expr_fits M a (turn w)) (literal_is M p S' b l) (literal_is M p S b l)
                   (λ t. expr_moves a w n (left_operand a b k) t h) (λ t. expr_moves a (turn w) n (left_operand a b k) t h) s
               | inr l ↦
-                  let s = if_no (is_literal b) (by_sign (literal_value M b) (expr_fits M a w) (expr_fits M a (turn w))) ((is_natural M a && is_natural M b) && (expr_fits M a w && expr_fits M b w)) q l in
+                  let s = if_no (is_literal b) (by_sign (literal_value M b) (expr_fits M a w) (expr_fits M a (turn w)))
+                  ((is_natural M a && is_natural M b) && (expr_fits M a w && expr_fits M b w)) q l in
                   let g = if_no (is_literal a || is_literal b) (expr_meets p a n && expr_meets p b n) (expr_meets p a true && expr_meets p b true) m (or_from (is_literal a) (is_literal b) o l) in
                   let i = (and_parts (is_natural M a && is_natural M b) (expr_fits M a w && expr_fits M b w) s).0 in
                   let j = (and_parts (is_natural M a && is_natural M b) (expr_fits M a w && expr_fits M b w) s).1 in
@@ -279,16 +294,19 @@ module _ (M : ℕ) (p : ℕ → ℤ) (S' S : Family) where
                   let na = (and_parts (is_natural M a) (is_natural M b) i).0 in
                   let nb = (and_parts (is_natural M a) (is_natural M b) i).1 in
                   product_moves w _ _ _ _ (natural_is M p S' a na ma) (natural_is M p S a na ma) (natural_is M p S' b nb mb) (natural_is M p S b nb mb)
-                  (expr_moves a w true (left_operand a b k) ((and_parts (expr_fits M a w) (expr_fits M b w) j).0) ma) (expr_moves b w true (right_operand a b k) ((and_parts (expr_fits M a w) (expr_fits M b w) j).1) mb)
+                  (expr_moves a w true (left_operand a b k) ((and_parts (expr_fits M a w) (expr_fits M b w) j).0) ma)
+                  (expr_moves b w true (right_operand a b k) ((and_parts (expr_fits M a w) (expr_fits M b w) j).1) mb)
             ]
       ]
   expr_moves (DivDown a b) w n k f m = elim (quotient M p a b w n f m) [
     | by_constant c d g h e o ↦ subst (λ t. Moves w (div_down M (value M S' (fill p a)) t) (div_down M (value M S (fill p a)) (value M S (fill p b)))) (sym (e S'))
         (subst (λ t. Moves w (div_down M (value M S' (fill p a)) d) (div_down M (value M S (fill p a)) t)) (sym (e S)) (down_moves w M d _ _ o (expr_moves a w c (left_operand a b k) g h)))
-    | by_term i j g h c d ↦ down_both w M _ _ _ _ (natural_is M p S' a i c) (natural_is M p S a i c) (natural_is M p S' b j d) (natural_is M p S b j d) (expr_moves a w true (left_operand a b k) g c) (expr_moves b (turn w) true (right_operand a b k) h d)
+    | by_term i j g h c d ↦ down_both w M _ _ _ _ (natural_is M p S' a i c) (natural_is M p S a i c) (natural_is M p S' b j d) (natural_is M p S b j d)
+        (expr_moves a w true (left_operand a b k) g c) (expr_moves b (turn w) true (right_operand a b k) h d)
   ]
   expr_moves (DivUp a b) w n k f m = elim (quotient M p a b w n f m) [
     | by_constant c d g h e o ↦ subst (λ t. Moves w (div_up M (value M S' (fill p a)) t) (div_up M (value M S (fill p a)) (value M S (fill p b)))) (sym (e S'))
         (subst (λ t. Moves w (div_up M (value M S' (fill p a)) d) (div_up M (value M S (fill p a)) t)) (sym (e S)) (up_moves w M d _ _ o (expr_moves a w c (left_operand a b k) g h)))
-    | by_term i j g h c d ↦ up_both w M _ _ _ _ (natural_is M p S' a i c) (natural_is M p S a i c) (natural_is M p S' b j d) (natural_is M p S b j d) (expr_moves a w true (left_operand a b k) g c) (expr_moves b (turn w) true (right_operand a b k) h d)
+    | by_term i j g h c d ↦ up_both w M _ _ _ _ (natural_is M p S' a i c) (natural_is M p S a i c) (natural_is M p S' b j d) (natural_is M p S b j d)
+        (expr_moves a w true (left_operand a b k) g c) (expr_moves b (turn w) true (right_operand a b k) h d)
   ]

@@ -1,5 +1,6 @@
 -- The greatest family that passes a test which only grows with the family.
-use Rattle.std.proofs.Common.{◌≡◌, ℕ, zero, suc, ◌+◌, ◌<◌, ◌≤◌, Bool, true, false, cond, ◌==◌, List, [], ◌∷◌, filter, length, refl, ap, sym, subst, inl, inr, ◌⊎◌, arith, eqb-true}
+use Rattle.std.proofs.Common.{◌≡◌, ℕ, zero, suc, ◌+◌, ◌<◌, ◌≤◌, Bool, true, false, cond, ◌==◌, List, [], ◌∷◌, filter, length, refl, ap, sym, subst, inl, inr}
+use Rattle.std.proofs.Common.{◌⊎◌, arith, eqb-true}
 use Rattle.std.proofs.lemmas.Bool.{or_cases, cases_Bool}
 use Rattle.fd_language.specs.Family.{has, IsRising, Family, IsFamily, IsInside}
 use Rattle.fd_language.proofs.Sets.{has-filter, has-filter_back}

@@ -8,7 +8,10 @@ use Rattle.std.proofs.lemmas.List.Concat.{flat_map-append}
 use mathlib.Core.Path.{fun_ext}
 use Rattle.fd_language.specs.declared.range_node.RangeNode.{RangeNode}
 use Rattle.fd_language.specs.declared.range_node.RangeNode.TheVariants as node
-use Rattle.fd_language.specs.Range.{Range, Span, One, Dom, Union, Inter, Outside, Plus, Minus, Times, Over, Expr, Number, Infinity, Param, Min, Max, Val, Add, Sub, Mul, DivDown, DivUp, Leaf, Role, leaf, a_parameter, a_min, a_max, a_val, a_dom, is_parameter_role, Walk, walk_expr, walk_range, leaf_of, from_leaf, from_node, collecting, from_expr, from_range, expr_leaves, leaves, reads, read_by, read_at, vals, val_by, val_at, params, param_by, param_at}
+use Rattle.fd_language.specs.Range.{Range, Span, One, Dom, Union, Inter, Outside, Plus, Minus, Times, Over, Expr, Number, Infinity, Param, Min, Max, Val, Add}
+use Rattle.fd_language.specs.Range.{Sub, Mul, DivDown, DivUp, Leaf, Role, leaf, a_parameter, a_min, a_max, a_val, a_dom, is_parameter_role, Walk, walk_expr}
+use Rattle.fd_language.specs.Range.{walk_range, leaf_of, from_leaf, from_node, collecting, from_expr, from_range, expr_leaves, leaves, reads, read_by, read_at}
+use Rattle.fd_language.specs.Range.{vals, val_by, val_at, params, param_by, param_at}
 use Rattle.fd_language.specs.Occurrences.{Occurrence, occurrence_at, range_occurrences}
 use Rattle.fd_language.specs.Features.{feature_at}
 use Rattle.fd_language.specs.Lists.{Each}
@@ -16,7 +19,7 @@ use Rattle.fd_language.specs.NewLeaves.{NewLeaves, new_expr, new_range}
 use Rattle.fd_language.specs.RangeRenaming.{rename_expr, rename_range, renaming}
 use Rattle.fd_language.specs.Check.{fill_range, filling}
 use Rattle.fd_language.specs.Counts.{takes}
-use Rattle.fd_language.specs.Flat.{InFront, postfix, expr_nodes, range_nodes, nodes_of}
+use Rattle.fd_language.specs.PostfixRanges.{InFront, postfix, expr_nodes, range_nodes, nodes_of}
 use Rattle.fd_language.specs.RangeVerdict.{counting, range_size}
 use Rattle.fd_language.specs.RangeLaws.{LeavesTell}
 use Rattle.fd_language.specs.Family.{has}
@@ -97,7 +100,8 @@ pub nodes_leaves : {X : Type 0} (f : Leaf → List X) (r : Range) (rest : List R
 nodes_leaves f r = ranges_related (λ (ns : InFront) xs. (rest : List RangeNode) → flat_map (from_node f) (ns rest) ≡ xs ++ flat_map (from_node f) rest) postfix (collecting f)
     (λ n h rest. refl)
     (λ n h x y e rest. e (n ∷ rest) ∙ ap (λ l. y ++ (l ++ flat_map (from_node f) rest)) (no_leaf f n 0 h))
-    (λ n h x u y v e g rest. e (u (n ∷ rest)) ∙ (ap (λ l. y ++ l) (g (n ∷ rest) ∙ ap (λ l. v ++ (l ++ flat_map (from_node f) rest)) (no_leaf f n 1 h)) ∙ sym (append_assoc y v (flat_map (from_node f) rest))))
+    (λ n h x u y v e g rest. e (u (n ∷ rest)) ∙ (ap (λ l. y ++ l) (g (n ∷ rest) ∙ ap (λ l. v ++ (l ++ flat_map (from_node f) rest)) (no_leaf f n 1 h))
+    ∙ sym (append_assoc y v (flat_map (from_node f) rest))))
     r
 
 listed : (ns : List RangeNode) → filter_map leaf_of ns ≡ flat_map (from_node (λ l. l ∷ [])) ns
@@ -231,7 +235,9 @@ module _ (h g : NewLeaves) where
   range_agrees (Over r c) s = both_agree Over (leaves r) (expr_leaves c) (range_agrees r) (expr_agrees c) s
 
 -- Where a fact that makes them agree holds of each occurrence, they give the same range.
-pub occurrences_agree : (h g : NewLeaves) (P : Occurrence → Type 0) → ((k : Role) (y : ℕ) → P (record { variable = y; parameter = is_parameter_role k }) → Agree h g k y) → (r : Range) → Each P (range_occurrences r) → new_range h r ≡ new_range g r
+pub occurrences_agree : (h g : NewLeaves) (P : Occurrence → Type 0)
+    → ((k : Role) (y : ℕ) → P (record { variable = y; parameter = is_parameter_role k }) → Agree h g k y) → (r : Range) → Each P (range_occurrences r)
+    → new_range h r ≡ new_range g r
 occurrences_agree h g P by r s = range_agrees h g r (at_leaves (leaves r) (subst (λ ps. Each P ps) (range_leaves occurrence_at r) s)) where
   at_leaves : (ls : List Leaf) → Each P (flat_map occurrence_at ls) → Each (λ l. Agree h g l.role l.variable) ls
   at_leaves [] e = tt
@@ -259,7 +265,13 @@ filled_agree p q r s = occurrences_agree (filling p) (filling q) (λ x. p x.vari
 
 -- what becomes of leaves that are replaced by g and then by h
 abbrev pub both_new : NewLeaves → NewLeaves → NewLeaves
-both_new h g = record { param = λ x. new_expr h (g.param x); for_min = λ y. new_expr h (g.for_min y); for_max = λ y. new_expr h (g.for_max y); one_value = λ y. new_expr h (g.one_value y); domain = λ y. h.domain (g.domain y) }
+both_new h g = record {
+  param = λ x. new_expr h (g.param x);
+  for_min = λ y. new_expr h (g.for_min y);
+  for_max = λ y. new_expr h (g.for_max y);
+  one_value = λ y. new_expr h (g.one_value y);
+  domain = λ y. h.domain (g.domain y);
+}
 
 -- Leaves that are replaced twice are replaced at once so.
 module _ (h g : NewLeaves) where
@@ -344,6 +356,12 @@ vals_read r v h =
 
 pub leaves_tell : LeavesTell
 leaves_tell r = (
-  record { reads_are = range_leaves read_at r; vals_are = range_leaves val_at r; params_are = range_leaves param_at r; occurrences_are = range_leaves occurrence_at r; features_are = range_leaves feature_at r },
+  record {
+    reads_are = range_leaves read_at r;
+    vals_are = range_leaves val_at r;
+    params_are = range_leaves param_at r;
+    occurrences_are = range_leaves occurrence_at r;
+    features_are = range_leaves feature_at r;
+  },
   record { node_leaves = listed (nodes_of r) ∙ whole_nodes (λ l. l ∷ []) r; features_are = whole_nodes feature_at r; size = count_nodes r },
 )

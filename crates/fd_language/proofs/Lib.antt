@@ -2,7 +2,7 @@ pub mod Lemmas
 mod Sets
 mod Lists
 mod Leaves
-mod Collected
+mod LeafCollection
 mod RangeOccurrences
 mod AskedParameters
 mod GreatestFamily
@@ -10,12 +10,12 @@ mod Arithmetic
 mod PartNeeds
 mod Directions
 mod Monotone
-mod Solving
+mod Unifier
 mod RangeRenaming
-mod Fitting
+mod DirectionRenaming
 mod OperatorTable
 mod OperatorLaws
-mod ReadingWhole
+mod ReadingCompleteness
 mod GrammarVerdict
 mod TokenLaws
 mod QuotedAtoms
@@ -28,4 +28,4 @@ mod NoOffences
 mod Uses
 mod VerdictLaw
 mod Limits
-mod Substituting
+mod Substitutions

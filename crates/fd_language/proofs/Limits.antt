@@ -1,5 +1,7 @@
 -- Every value of an accepted range keeps the limit, and no divisor is negative.
-use Rattle.std.proofs.Common.{◌≡◌, ℕ, zero, suc, ◌+◌, ◌-◌, ◌*◌, ◌/◌, ◌^◌, ◌≤◌, ◌<◌, max, Bool, true, false, cond, not, ◌||◌, ◌&&◌, ℤ, pos, negsuc, ◌+ℤ◌, ◌-ℤ◌, ◌*ℤ◌, neg_ℤ, ◌≤ℤ◌, int_le, nat_lt, nat_abs, List, [], ◌∷◌, ◌++◌, map, refl, sym, subst, inl, inr, ◌⊎◌, arith, mul-le-mul, div-le_self}
+use Rattle.std.proofs.Common.{◌≡◌, ℕ, zero, suc, ◌+◌, ◌-◌, ◌*◌, ◌/◌, ◌^◌, ◌≤◌, ◌<◌, max, Bool, true, false, cond, not, ◌||◌, ◌&&◌, ℤ, pos, negsuc, ◌+ℤ◌, ◌-ℤ◌}
+use Rattle.std.proofs.Common.{◌*ℤ◌, neg_ℤ, ◌≤ℤ◌, int_le, nat_lt, nat_abs, List, [], ◌∷◌, ◌++◌, map, refl, sym, subst, inl, inr, ◌⊎◌, arith, mul-le-mul}
+use Rattle.std.proofs.Common.{div-le_self}
 use Rattle.std.specs.List.{All}
 use Rattle.std.proofs.lemmas.List.Elements.{All-append, All-cons, All-map}
 use Rattle.std.proofs.lemmas.Int.{ints}
@@ -8,9 +10,11 @@ use Rattle.std.proofs.Math.Nat.{le_trans}
 use Rattle.fd_language.specs.declared.range_node.Need.{Need}
 use Rattle.fd_language.specs.declared.range_node.Need.TheVariants.{Divisor}
 use Rattle.fd_language.specs.Family.{Family, IsFamily, IsRising, count_up, universe}
-use Rattle.fd_language.specs.Range.{Range, Span, One, Dom, Union, Inter, Outside, Plus, Minus, Times, Over, Expr, Number, Infinity, Param, Min, Max, Val, Add, Sub, Mul, DivDown, DivUp, value, least, greatest, down_by, div_down, div_up}
+use Rattle.fd_language.specs.Range.{Range, Span, One, Dom, Union, Inter, Outside, Plus, Minus, Times, Over, Expr, Number, Infinity, Param, Min, Max, Val, Add}
+use Rattle.fd_language.specs.Range.{Sub, Mul, DivDown, DivUp, value, least, greatest, down_by, div_down, div_up}
 use Rattle.fd_language.specs.Needs.{meets, is_literal, by_place, quotient_asks, expr_asks, over_asks, asks}
-use Rattle.fd_language.specs.Check.{Wish, Rising, Falling, Constant, turn, literal_value, by_sign, is_parameter, is_natural, quotient_fits, expr_fits, range_fits, fill, fill_range}
+use Rattle.fd_language.specs.Check.{Wish, Rising, Falling, Constant, turn, literal_value, by_sign, is_parameter, is_natural, quotient_fits, expr_fits}
+use Rattle.fd_language.specs.Check.{range_fits, fill, fill_range}
 use Rattle.fd_language.specs.RangeVerdict.{bound, over_limit, factor_over_limit, expr_within, range_within, has_one_use}
 use Rattle.fd_language.specs.EvaluatedValues.{expr_values, range_values, expr_divisors, range_divisors}
 use Rattle.fd_language.specs.CheckLaws.{BoundedValues}
@@ -213,44 +217,78 @@ module _ (M : ℕ) (p : ℕ → ℤ) (S : Family) (family : IsFamily M S) where
   node_kept e s h = le_trans (value_bound e s) (not_over (bound M e) h)
 
   values_kept : (e : Expr) → SmallParams p e → expr_within M e ≡ true → All Kept (expr_values M S (fill p e))
-  values_kept (Add a b) s h = All-cons Kept (value M S (fill p (Add a b))) (expr_values M S (fill p a) ++ expr_values M S (fill p b)) (node_kept (Add a b) s (within_here (expr_within M a) (expr_within M b) (not (over_limit (bound M (Add a b)))) h))
-      (All-append Kept (expr_values M S (fill p a)) (expr_values M S (fill p b)) (values_kept a s.0 (within_left (expr_within M a) (expr_within M b) (not (over_limit (bound M (Add a b)))) h)) (values_kept b s.1 (within_right (expr_within M a) (expr_within M b) (not (over_limit (bound M (Add a b)))) h)))
-  values_kept (Sub a b) s h = All-cons Kept (value M S (fill p (Sub a b))) (expr_values M S (fill p a) ++ expr_values M S (fill p b)) (node_kept (Sub a b) s (within_here (expr_within M a) (expr_within M b) (not (over_limit (bound M (Sub a b)))) h))
-      (All-append Kept (expr_values M S (fill p a)) (expr_values M S (fill p b)) (values_kept a s.0 (within_left (expr_within M a) (expr_within M b) (not (over_limit (bound M (Sub a b)))) h)) (values_kept b s.1 (within_right (expr_within M a) (expr_within M b) (not (over_limit (bound M (Sub a b)))) h)))
-  values_kept (Mul a b) s h = All-cons Kept (value M S (fill p (Mul a b))) (expr_values M S (fill p a) ++ expr_values M S (fill p b)) (node_kept (Mul a b) s (within_here (expr_within M a) (expr_within M b) (not (over_limit (bound M (Mul a b)))) h))
-      (All-append Kept (expr_values M S (fill p a)) (expr_values M S (fill p b)) (values_kept a s.0 (within_left (expr_within M a) (expr_within M b) (not (over_limit (bound M (Mul a b)))) h)) (values_kept b s.1 (within_right (expr_within M a) (expr_within M b) (not (over_limit (bound M (Mul a b)))) h)))
-  values_kept (DivDown a b) s h = All-cons Kept (value M S (fill p (DivDown a b))) (expr_values M S (fill p a) ++ expr_values M S (fill p b)) (node_kept (DivDown a b) s (within_here (expr_within M a) (expr_within M b) (not (over_limit (bound M (DivDown a b)))) h))
-      (All-append Kept (expr_values M S (fill p a)) (expr_values M S (fill p b)) (values_kept a s.0 (within_left (expr_within M a) (expr_within M b) (not (over_limit (bound M (DivDown a b)))) h)) (values_kept b s.1 (within_right (expr_within M a) (expr_within M b) (not (over_limit (bound M (DivDown a b)))) h)))
-  values_kept (DivUp a b) s h = All-cons Kept (value M S (fill p (DivUp a b))) (expr_values M S (fill p a) ++ expr_values M S (fill p b)) (node_kept (DivUp a b) s (within_here (expr_within M a) (expr_within M b) (not (over_limit (bound M (DivUp a b)))) h))
-      (All-append Kept (expr_values M S (fill p a)) (expr_values M S (fill p b)) (values_kept a s.0 (within_left (expr_within M a) (expr_within M b) (not (over_limit (bound M (DivUp a b)))) h)) (values_kept b s.1 (within_right (expr_within M a) (expr_within M b) (not (over_limit (bound M (DivUp a b)))) h)))
+  values_kept (Add a b) s h = All-cons Kept (value M S (fill p (Add a b))) (expr_values M S (fill p a) ++ expr_values M S (fill p b))
+      (node_kept (Add a b) s (within_here (expr_within M a) (expr_within M b) (not (over_limit (bound M (Add a b)))) h))
+      (All-append Kept (expr_values M S (fill p a)) (expr_values M S (fill p b))
+      (values_kept a s.0 (within_left (expr_within M a) (expr_within M b) (not (over_limit (bound M (Add a b)))) h))
+      (values_kept b s.1 (within_right (expr_within M a) (expr_within M b) (not (over_limit (bound M (Add a b)))) h)))
+  values_kept (Sub a b) s h = All-cons Kept (value M S (fill p (Sub a b))) (expr_values M S (fill p a) ++ expr_values M S (fill p b))
+      (node_kept (Sub a b) s (within_here (expr_within M a) (expr_within M b) (not (over_limit (bound M (Sub a b)))) h))
+      (All-append Kept (expr_values M S (fill p a)) (expr_values M S (fill p b))
+      (values_kept a s.0 (within_left (expr_within M a) (expr_within M b) (not (over_limit (bound M (Sub a b)))) h))
+      (values_kept b s.1 (within_right (expr_within M a) (expr_within M b) (not (over_limit (bound M (Sub a b)))) h)))
+  values_kept (Mul a b) s h = All-cons Kept (value M S (fill p (Mul a b))) (expr_values M S (fill p a) ++ expr_values M S (fill p b))
+      (node_kept (Mul a b) s (within_here (expr_within M a) (expr_within M b) (not (over_limit (bound M (Mul a b)))) h))
+      (All-append Kept (expr_values M S (fill p a)) (expr_values M S (fill p b))
+      (values_kept a s.0 (within_left (expr_within M a) (expr_within M b) (not (over_limit (bound M (Mul a b)))) h))
+      (values_kept b s.1 (within_right (expr_within M a) (expr_within M b) (not (over_limit (bound M (Mul a b)))) h)))
+  values_kept (DivDown a b) s h = All-cons Kept (value M S (fill p (DivDown a b))) (expr_values M S (fill p a) ++ expr_values M S (fill p b))
+      (node_kept (DivDown a b) s (within_here (expr_within M a) (expr_within M b) (not (over_limit (bound M (DivDown a b)))) h))
+      (All-append Kept (expr_values M S (fill p a)) (expr_values M S (fill p b))
+      (values_kept a s.0 (within_left (expr_within M a) (expr_within M b) (not (over_limit (bound M (DivDown a b)))) h))
+      (values_kept b s.1 (within_right (expr_within M a) (expr_within M b) (not (over_limit (bound M (DivDown a b)))) h)))
+  values_kept (DivUp a b) s h = All-cons Kept (value M S (fill p (DivUp a b))) (expr_values M S (fill p a) ++ expr_values M S (fill p b))
+      (node_kept (DivUp a b) s (within_here (expr_within M a) (expr_within M b) (not (over_limit (bound M (DivUp a b)))) h))
+      (All-append Kept (expr_values M S (fill p a)) (expr_values M S (fill p b))
+      (values_kept a s.0 (within_left (expr_within M a) (expr_within M b) (not (over_limit (bound M (DivUp a b)))) h))
+      (values_kept b s.1 (within_right (expr_within M a) (expr_within M b) (not (over_limit (bound M (DivUp a b)))) h)))
   values_kept e s h = All-cons Kept (value M S (fill p e)) [] (node_kept e s h) nothing
 
   each_kept : (f : ℕ → ℤ) → ((e : ℕ) → e ≤ M → Kept (f e)) → All Kept (map f (universe M))
   each_kept f g = All-map Kept f (universe M) (λ k d l. g _ (universe_all M k d l))
 
   ranges_kept : (r : Range) → AllSmall p r → range_within M r ≡ true → All Kept (range_values M S (fill_range p r))
-  ranges_kept (Span a b) s h = All-append Kept (expr_values M S (fill p a)) (expr_values M S (fill p b)) (values_kept a s.0 ((and_parts (expr_within M a) (expr_within M b) h).0)) (values_kept b s.1 ((and_parts (expr_within M a) (expr_within M b) h).1))
+  ranges_kept (Span a b) s h = All-append Kept (expr_values M S (fill p a)) (expr_values M S (fill p b))
+      (values_kept a s.0 ((and_parts (expr_within M a) (expr_within M b) h).0)) (values_kept b s.1 ((and_parts (expr_within M a) (expr_within M b) h).1))
   ranges_kept (One t) s h = values_kept t s h
   ranges_kept (Dom y) s h = nothing
-  ranges_kept (Union r q) s h = All-append Kept (range_values M S (fill_range p r)) (range_values M S (fill_range p q)) (ranges_kept r s.0 ((and_parts (range_within M r) (range_within M q) h).0)) (ranges_kept q s.1 ((and_parts (range_within M r) (range_within M q) h).1))
-  ranges_kept (Inter r q) s h = All-append Kept (range_values M S (fill_range p r)) (range_values M S (fill_range p q)) (ranges_kept r s.0 ((and_parts (range_within M r) (range_within M q) h).0)) (ranges_kept q s.1 ((and_parts (range_within M r) (range_within M q) h).1))
+  ranges_kept (Union r q) s h = All-append Kept (range_values M S (fill_range p r)) (range_values M S (fill_range p q))
+      (ranges_kept r s.0 ((and_parts (range_within M r) (range_within M q) h).0)) (ranges_kept q s.1 ((and_parts (range_within M r) (range_within M q) h).1))
+  ranges_kept (Inter r q) s h = All-append Kept (range_values M S (fill_range p r)) (range_values M S (fill_range p q))
+      (ranges_kept r s.0 ((and_parts (range_within M r) (range_within M q) h).0)) (ranges_kept q s.1 ((and_parts (range_within M r) (range_within M q) h).1))
   ranges_kept (Outside r) s h = ranges_kept r s h
   ranges_kept (Plus r c) s h =
       let f : ℕ → ℤ = λ e. pos e +ℤ value M S (fill p c) in
-      All-append Kept (range_values M S (fill_range p r)) (expr_values M S (fill p c) ++ map f (universe M)) (ranges_kept r s.0 (within_left (range_within M r) (expr_within M c) (not (over_limit (M + bound M c))) h))
-      (All-append Kept (expr_values M S (fill p c)) (map f (universe M)) (values_kept c s.1 (within_right (range_within M r) (expr_within M c) (not (over_limit (M + bound M c))) h)) (each_kept f (λ e l. le_trans (sums _ _ _ _ _ (abs_add (pos e) (value M S (fill p c))) l (value_bound c s.1)) (not_over (M + bound M c) (within_here (range_within M r) (expr_within M c) (not (over_limit (M + bound M c))) h)))))
+      All-append Kept (range_values M S (fill_range p r)) (expr_values M S (fill p c) ++ map f (universe M))
+      (ranges_kept r s.0 (within_left (range_within M r) (expr_within M c) (not (over_limit (M + bound M c))) h))
+      (All-append Kept (expr_values M S (fill p c)) (map f (universe M))
+      (values_kept c s.1 (within_right (range_within M r) (expr_within M c) (not (over_limit (M + bound M c))) h))
+      (each_kept f (λ e l. le_trans (sums _ _ _ _ _ (abs_add (pos e) (value M S (fill p c))) l (value_bound c s.1))
+      (not_over (M + bound M c) (within_here (range_within M r) (expr_within M c) (not (over_limit (M + bound M c))) h)))))
   ranges_kept (Minus r c) s h =
       let f : ℕ → ℤ = λ e. pos e -ℤ value M S (fill p c) in
-      All-append Kept (range_values M S (fill_range p r)) (expr_values M S (fill p c) ++ map f (universe M)) (ranges_kept r s.0 (within_left (range_within M r) (expr_within M c) (not (over_limit (M + bound M c))) h))
-      (All-append Kept (expr_values M S (fill p c)) (map f (universe M)) (values_kept c s.1 (within_right (range_within M r) (expr_within M c) (not (over_limit (M + bound M c))) h)) (each_kept f (λ e l. le_trans (sums _ _ _ _ _ (abs_sub (pos e) (value M S (fill p c))) l (value_bound c s.1)) (not_over (M + bound M c) (within_here (range_within M r) (expr_within M c) (not (over_limit (M + bound M c))) h)))))
+      All-append Kept (range_values M S (fill_range p r)) (expr_values M S (fill p c) ++ map f (universe M))
+      (ranges_kept r s.0 (within_left (range_within M r) (expr_within M c) (not (over_limit (M + bound M c))) h))
+      (All-append Kept (expr_values M S (fill p c)) (map f (universe M))
+      (values_kept c s.1 (within_right (range_within M r) (expr_within M c) (not (over_limit (M + bound M c))) h))
+      (each_kept f (λ e l. le_trans (sums _ _ _ _ _ (abs_sub (pos e) (value M S (fill p c))) l (value_bound c s.1))
+      (not_over (M + bound M c) (within_here (range_within M r) (expr_within M c) (not (over_limit (M + bound M c))) h)))))
   ranges_kept (Times r c) s h =
       let f : ℕ → ℤ = λ e. pos e *ℤ value M S (fill p c) in
-      All-append Kept (range_values M S (fill_range p r)) (expr_values M S (fill p c) ++ map f (universe M)) (ranges_kept r s.0 (within_left (range_within M r) (expr_within M c) (not (factor_over_limit M (bound M c))) h))
-      (All-append Kept (expr_values M S (fill p c)) (map f (universe M)) (values_kept c s.1 (within_right (range_within M r) (expr_within M c) (not (factor_over_limit M (bound M c))) h)) (each_kept f (λ e l. le_trans (products _ _ _ _ _ (abs_mul (pos e) (value M S (fill p c))) l (value_bound c s.1)) (factor_not_over M (bound M c) (within_here (range_within M r) (expr_within M c) (not (factor_over_limit M (bound M c))) h)))))
+      All-append Kept (range_values M S (fill_range p r)) (expr_values M S (fill p c) ++ map f (universe M))
+      (ranges_kept r s.0 (within_left (range_within M r) (expr_within M c) (not (factor_over_limit M (bound M c))) h))
+      (All-append Kept (expr_values M S (fill p c)) (map f (universe M))
+      (values_kept c s.1 (within_right (range_within M r) (expr_within M c) (not (factor_over_limit M (bound M c))) h))
+      (each_kept f (λ e l. le_trans (products _ _ _ _ _ (abs_mul (pos e) (value M S (fill p c))) l (value_bound c s.1))
+      (factor_not_over M (bound M c) (within_here (range_within M r) (expr_within M c) (not (factor_over_limit M (bound M c))) h)))))
   ranges_kept (Over r c) s h =
       let f : ℕ → ℤ = λ e. pos e *ℤ value M S (fill p c) in
-      All-append Kept (range_values M S (fill_range p r)) (expr_values M S (fill p c) ++ map f (universe M)) (ranges_kept r s.0 (within_left (range_within M r) (expr_within M c) (not (factor_over_limit M (bound M c))) h))
-      (All-append Kept (expr_values M S (fill p c)) (map f (universe M)) (values_kept c s.1 (within_right (range_within M r) (expr_within M c) (not (factor_over_limit M (bound M c))) h)) (each_kept f (λ e l. le_trans (products _ _ _ _ _ (abs_mul (pos e) (value M S (fill p c))) l (value_bound c s.1)) (factor_not_over M (bound M c) (within_here (range_within M r) (expr_within M c) (not (factor_over_limit M (bound M c))) h)))))
+      All-append Kept (range_values M S (fill_range p r)) (expr_values M S (fill p c) ++ map f (universe M))
+      (ranges_kept r s.0 (within_left (range_within M r) (expr_within M c) (not (factor_over_limit M (bound M c))) h))
+      (All-append Kept (expr_values M S (fill p c)) (map f (universe M))
+      (values_kept c s.1 (within_right (range_within M r) (expr_within M c) (not (factor_over_limit M (bound M c))) h))
+      (each_kept f (λ e l. le_trans (products _ _ _ _ _ (abs_mul (pos e) (value M S (fill p c))) l (value_bound c s.1))
+      (factor_not_over M (bound M c) (within_here (range_within M r) (expr_within M c) (not (factor_over_limit M (bound M c))) h)))))
 
   no_divisor : All NotNegative []
   no_divisor = λ k d l. absurd (none k l) where
@@ -321,7 +359,8 @@ module _ (M : ℕ) (p : ℕ → ℤ) (S : Family) (family : IsFamily M S) where
   dividend a b w (by_constant m d g h e o) = (m, (g, h))
   dividend a b w (by_term i j g h c d) = (true, (g, c))
 
-  quotient_kept : (a b : Expr) (w : Wish) (n : Bool) → quotient_fits M b (expr_fits M a w) (expr_fits M b (turn w)) (is_natural M a && is_natural M b) ≡ true → divisor_meets p b (expr_meets p a n) (expr_meets p a true && expr_meets p b true) ≡ true
+  quotient_kept : (a b : Expr) (w : Wish) (n : Bool) → quotient_fits M b (expr_fits M a w) (expr_fits M b (turn w)) (is_natural M a && is_natural M b) ≡ true
+      → divisor_meets p b (expr_meets p a n) (expr_meets p a true && expr_meets p b true) ≡ true
       → ((k : Bool) → expr_fits M a w ≡ true → expr_meets p a k ≡ true → Divides a) → (expr_fits M b (turn w) ≡ true → expr_meets p b true ≡ true → Divides b)
       → All NotNegative (value M S (fill p b) ∷ (expr_divisors M S (fill p a) ++ expr_divisors M S (fill p b)))
   quotient_kept a b w n f m left right =
@@ -350,7 +389,8 @@ module _ (M : ℕ) (p : ℕ → ℤ) (S : Family) (family : IsFamily M S) where
       let mb = met_right (is_literal a || is_literal b) (expr_meets p a n) (expr_meets p b n) (expr_meets p a true) (expr_meets p b true) m in
       let da : (v : Wish) → expr_fits M a v ≡ true → Divides a = λ v g. elim ma [ inl i ↦ divisors_kept a v n g i | inr i ↦ divisors_kept a v true g i ] in
       let db : (v : Wish) → expr_fits M b v ≡ true → Divides b = λ v g. elim mb [ inl i ↦ divisors_kept b v n g i | inr i ↦ divisors_kept b v true g i ] in
-      elim (product_parts (is_literal a) (is_literal b) (is_natural M a && is_natural M b) (literal_value M a) (literal_value M b) (expr_fits M a w) (expr_fits M a (turn w)) (expr_fits M b w) (expr_fits M b (turn w)) f) [
+      elim (product_parts (is_literal a) (is_literal b) (is_natural M a && is_natural M b) (literal_value M a) (literal_value M b) (expr_fits M a w)
+      (expr_fits M a (turn w)) (expr_fits M b w) (expr_fits M b (turn w)) f) [
         | inl l ↦ two_divide a b (literal_divides a l.0) (elim l.1 [ inl g ↦ db w g | inr g ↦ db (turn w) g ])
         | inr o ↦ elim o [
           | inl k ↦ two_divide a b (elim k.1 [ inl g ↦ da w g | inr g ↦ da (turn w) g ]) (literal_divides b k.0)
@@ -365,26 +405,45 @@ module _ (M : ℕ) (p : ℕ → ℤ) (S : Family) (family : IsFamily M S) where
   above_one z h = grind (arith, ints)
 
   by_literal : (c : Expr) → (is_literal c && int_le (pos 1) (literal_value M c)) ≡ true → NotNegative (value M S (fill p c))
-  by_literal c h = subst NotNegative (sym (literal_is M p S c ((and_parts (is_literal c) (int_le (pos 1) (literal_value M c)) h).0))) (above_one (literal_value M c) ((and_parts (is_literal c) (int_le (pos 1) (literal_value M c)) h).1))
+  by_literal c h = subst NotNegative (sym (literal_is M p S c ((and_parts (is_literal c) (int_le (pos 1) (literal_value M c)) h).0)))
+      (above_one (literal_value M c) ((and_parts (is_literal c) (int_le (pos 1) (literal_value M c)) h).1))
 
   over_divides : (c : Expr) → (is_parameter c || (is_literal c && int_le (pos 1) (literal_value M c))) ≡ true → over_meets p c ≡ true → NotNegative (value M S (fill p c))
   over_divides (Param x) h g = above_one (p x) g
   over_divides e h g = by_literal e h
 
   ranges_divide : (r : Range) (w : Bool) → range_fits M r w ≡ true → range_meets p r ≡ true → All NotNegative (range_divisors M S (fill_range p r))
-  ranges_divide (Span a b) true f m = two_divide a b (divisors_kept a Rising false ((and_parts (expr_fits M a Rising) (expr_fits M b Falling) f).0) ((and_parts (expr_meets p a false) (expr_meets p b false) m).0)) (divisors_kept b Falling false ((and_parts (expr_fits M a Rising) (expr_fits M b Falling) f).1) ((and_parts (expr_meets p a false) (expr_meets p b false) m).1))
-  ranges_divide (Span a b) false f m = two_divide a b (divisors_kept a Falling false ((and_parts (expr_fits M a Falling) (expr_fits M b Rising) f).0) ((and_parts (expr_meets p a false) (expr_meets p b false) m).0)) (divisors_kept b Rising false ((and_parts (expr_fits M a Falling) (expr_fits M b Rising) f).1) ((and_parts (expr_meets p a false) (expr_meets p b false) m).1))
+  ranges_divide (Span a b) true f m = two_divide a b (divisors_kept a Rising false ((and_parts (expr_fits M a Rising) (expr_fits M b Falling) f).0)
+      ((and_parts (expr_meets p a false) (expr_meets p b false) m).0))
+      (divisors_kept b Falling false ((and_parts (expr_fits M a Rising) (expr_fits M b Falling) f).1)
+      ((and_parts (expr_meets p a false) (expr_meets p b false) m).1))
+  ranges_divide (Span a b) false f m = two_divide a b
+      (divisors_kept a Falling false ((and_parts (expr_fits M a Falling) (expr_fits M b Rising) f).0)
+      ((and_parts (expr_meets p a false) (expr_meets p b false) m).0))
+      (divisors_kept b Rising false ((and_parts (expr_fits M a Falling) (expr_fits M b Rising) f).1)
+      ((and_parts (expr_meets p a false) (expr_meets p b false) m).1))
   ranges_divide (One t) w f m = divisors_kept t Constant false f m
   ranges_divide (Dom y) w f m = no_divisor
-  ranges_divide (Union r q) w f m = All-append NotNegative (range_divisors M S (fill_range p r)) (range_divisors M S (fill_range p q)) (ranges_divide r w ((and_parts (range_fits M r w) (range_fits M q w) f).0) ((and_parts (range_meets p r) (range_meets p q) m).0)) (ranges_divide q w ((and_parts (range_fits M r w) (range_fits M q w) f).1) ((and_parts (range_meets p r) (range_meets p q) m).1))
-  ranges_divide (Inter r q) w f m = All-append NotNegative (range_divisors M S (fill_range p r)) (range_divisors M S (fill_range p q)) (ranges_divide r w ((and_parts (range_fits M r w) (range_fits M q w) f).0) ((and_parts (range_meets p r) (range_meets p q) m).0)) (ranges_divide q w ((and_parts (range_fits M r w) (range_fits M q w) f).1) ((and_parts (range_meets p r) (range_meets p q) m).1))
+  ranges_divide (Union r q) w f m = All-append NotNegative (range_divisors M S (fill_range p r)) (range_divisors M S (fill_range p q))
+      (ranges_divide r w ((and_parts (range_fits M r w) (range_fits M q w) f).0) ((and_parts (range_meets p r) (range_meets p q) m).0))
+      (ranges_divide q w ((and_parts (range_fits M r w) (range_fits M q w) f).1) ((and_parts (range_meets p r) (range_meets p q) m).1))
+  ranges_divide (Inter r q) w f m = All-append NotNegative (range_divisors M S (fill_range p r)) (range_divisors M S (fill_range p q))
+      (ranges_divide r w ((and_parts (range_fits M r w) (range_fits M q w) f).0) ((and_parts (range_meets p r) (range_meets p q) m).0))
+      (ranges_divide q w ((and_parts (range_fits M r w) (range_fits M q w) f).1) ((and_parts (range_meets p r) (range_meets p q) m).1))
   ranges_divide (Outside r) w f m = ranges_divide r (not w) f m
-  ranges_divide (Plus r c) w f m = All-append NotNegative (range_divisors M S (fill_range p r)) (expr_divisors M S (fill p c)) (ranges_divide r w ((and_parts (range_fits M r w) (expr_fits M c Constant) f).0) ((and_parts (range_meets p r) (expr_meets p c false) m).0)) (divisors_kept c Constant false ((and_parts (range_fits M r w) (expr_fits M c Constant) f).1) ((and_parts (range_meets p r) (expr_meets p c false) m).1))
-  ranges_divide (Minus r c) w f m = All-append NotNegative (range_divisors M S (fill_range p r)) (expr_divisors M S (fill p c)) (ranges_divide r w ((and_parts (range_fits M r w) (expr_fits M c Constant) f).0) ((and_parts (range_meets p r) (expr_meets p c false) m).0)) (divisors_kept c Constant false ((and_parts (range_fits M r w) (expr_fits M c Constant) f).1) ((and_parts (range_meets p r) (expr_meets p c false) m).1))
-  ranges_divide (Times r c) w f m = All-append NotNegative (range_divisors M S (fill_range p r)) (expr_divisors M S (fill p c)) (ranges_divide r w ((and_parts (range_fits M r w) (expr_fits M c Constant) f).0) ((and_parts (range_meets p r) (expr_meets p c false) m).0)) (divisors_kept c Constant false ((and_parts (range_fits M r w) (expr_fits M c Constant) f).1) ((and_parts (range_meets p r) (expr_meets p c false) m).1))
+  ranges_divide (Plus r c) w f m = All-append NotNegative (range_divisors M S (fill_range p r)) (expr_divisors M S (fill p c))
+      (ranges_divide r w ((and_parts (range_fits M r w) (expr_fits M c Constant) f).0) ((and_parts (range_meets p r) (expr_meets p c false) m).0))
+      (divisors_kept c Constant false ((and_parts (range_fits M r w) (expr_fits M c Constant) f).1) ((and_parts (range_meets p r) (expr_meets p c false) m).1))
+  ranges_divide (Minus r c) w f m = All-append NotNegative (range_divisors M S (fill_range p r)) (expr_divisors M S (fill p c))
+      (ranges_divide r w ((and_parts (range_fits M r w) (expr_fits M c Constant) f).0) ((and_parts (range_meets p r) (expr_meets p c false) m).0))
+      (divisors_kept c Constant false ((and_parts (range_fits M r w) (expr_fits M c Constant) f).1) ((and_parts (range_meets p r) (expr_meets p c false) m).1))
+  ranges_divide (Times r c) w f m = All-append NotNegative (range_divisors M S (fill_range p r)) (expr_divisors M S (fill p c))
+      (ranges_divide r w ((and_parts (range_fits M r w) (expr_fits M c Constant) f).0) ((and_parts (range_meets p r) (expr_meets p c false) m).0))
+      (divisors_kept c Constant false ((and_parts (range_fits M r w) (expr_fits M c Constant) f).1) ((and_parts (range_meets p r) (expr_meets p c false) m).1))
   ranges_divide (Over r c) w f m =
       let d : Bool = is_parameter c || (is_literal c && int_le (pos 1) (literal_value M c)) in
-      All-append NotNegative (range_divisors M S (fill_range p r)) (value M S (fill p c) ∷ []) (ranges_divide r w ((and_parts (range_fits M r w) d f).0) ((and_parts (range_meets p r) (over_meets p c) m).0))
+      All-append NotNegative (range_divisors M S (fill_range p r)) (value M S (fill p c) ∷ [])
+      (ranges_divide r w ((and_parts (range_fits M r w) d f).0) ((and_parts (range_meets p r) (over_meets p c) m).0))
       (All-cons NotNegative (value M S (fill p c)) [] (over_divides c ((and_parts (range_fits M r w) d f).1) ((and_parts (range_meets p r) (over_meets p c) m).1)) no_divisor)
 
 pub bounded_values : BoundedValues

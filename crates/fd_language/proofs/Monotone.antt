@@ -1,11 +1,14 @@
 -- An accepted range is monotone.
-use Rattle.std.proofs.Common.{◌≡◌, ℕ, suc, ◌≤◌, Bool, true, false, cond, not, ◌||◌, ◌&&◌, ◌==◌, ℤ, pos, ◌+ℤ◌, ◌-ℤ◌, ◌*ℤ◌, ◌≤ℤ◌, int_le, List, [], ◌∷◌, refl, sym, ◌∙◌, subst, inl, inr, arith, eqb-true, eq-eqb}
+use Rattle.std.proofs.Common.{◌≡◌, ℕ, suc, ◌≤◌, Bool, true, false, cond, not, ◌||◌, ◌&&◌, ◌==◌, ℤ, pos, ◌+ℤ◌, ◌-ℤ◌, ◌*ℤ◌, ◌≤ℤ◌, int_le, List, [], ◌∷◌, refl}
+use Rattle.std.proofs.Common.{sym, ◌∙◌, subst, inl, inr, arith, eqb-true, eq-eqb}
 use Rattle.std.proofs.lemmas.Int.{ints}
 use Rattle.std.proofs.lemmas.Bool.{true≢false, or_left, or_right, or_cases, or_from, and_parts}
 use Rattle.std.specs.List.{list_any}
 use Rattle.std.specs.Ordering.{int_eq}
 use Rattle.fd_language.specs.Family.{Family, has, IsSubset, IsRising, IsFamily, IsInside, universe}
-use Rattle.fd_language.specs.Range.{Expr, Number, Infinity, Param, Add, Sub, Mul, value, least, greatest, Range, Span, One, Dom, Union, Inter, Outside, Plus, Minus, Times, Over, in_range, in_set, some_number, Leaf, Role, a_parameter, a_min, a_max, a_val, a_dom, expr_leaves, leaves, read_by, read_at, val_by, val_at, reads, vals, is_none_left, is_several}
+use Rattle.fd_language.specs.Range.{Expr, Number, Infinity, Param, Add, Sub, Mul, value, least, greatest, Range, Span, One, Dom, Union, Inter, Outside, Plus}
+use Rattle.fd_language.specs.Range.{Minus, Times, Over, in_range, in_set, some_number, Leaf, Role, a_parameter, a_min, a_max, a_val, a_dom, expr_leaves, leaves}
+use Rattle.fd_language.specs.Range.{read_by, read_at, val_by, val_at, reads, vals, is_none_left, is_several}
 use Rattle.fd_language.specs.Needs.{is_literal}
 use Rattle.fd_language.specs.Check.{Rising, Falling, Constant, literal_value, is_parameter, expr_fits, range_fits, fill, fill_range}
 use Rattle.fd_language.proofs.PartNeeds.{expr_meets, range_meets, over_meets, needs_met}
@@ -68,13 +71,18 @@ module _ (M : ℕ) (p : ℕ → ℤ) (S' S : Family) where
   moved_by true f x y a b e g = any_more (λ k. b k && f y k) (λ k. a k && f x k) (λ k. and_more (b k) (f y k) (a k) (f x k) (g k) (λ t. subst (λ z. f z k ≡ true) (sym e) t)) (universe M)
   moved_by false f x y a b e g = any_more (λ k. a k && f x k) (λ k. b k && f y k) (λ k. and_more (a k) (f x k) (b k) (f y k) (g k) (λ t. subst (λ z. f z k ≡ true) e t)) (universe M)
 
-  range_moves : (r : Range) (w : Bool) → AllKeep S' S (leaves r) → range_fits M r w ≡ true → range_meets p r ≡ true → (n : ℕ) → Goes w (in_range M S (fill_range p r) n) (in_range M S' (fill_range p r) n)
+  range_moves : (r : Range) (w : Bool) → AllKeep S' S (leaves r) → range_fits M r w ≡ true → range_meets p r ≡ true → (n : ℕ)
+      → Goes w (in_range M S (fill_range p r) n) (in_range M S' (fill_range p r) n)
   range_moves (Span a b) true k f m n = span_more (value M S (fill p a)) (value M S (fill p b)) (value M S' (fill p a)) (value M S' (fill p b)) (pos n)
-      (expr_moves M p S' S a Rising false (keeps_left S' S (expr_leaves a) (expr_leaves b) k) ((and_parts (expr_fits M a Rising) (expr_fits M b Falling) f).0) ((and_parts (expr_meets p a false) (expr_meets p b false) m).0))
-      (expr_moves M p S' S b Falling false (keeps_right S' S (expr_leaves a) (expr_leaves b) k) ((and_parts (expr_fits M a Rising) (expr_fits M b Falling) f).1) ((and_parts (expr_meets p a false) (expr_meets p b false) m).1))
+      (expr_moves M p S' S a Rising false (keeps_left S' S (expr_leaves a) (expr_leaves b) k) ((and_parts (expr_fits M a Rising) (expr_fits M b Falling) f).0)
+      ((and_parts (expr_meets p a false) (expr_meets p b false) m).0))
+      (expr_moves M p S' S b Falling false (keeps_right S' S (expr_leaves a) (expr_leaves b) k) ((and_parts (expr_fits M a Rising) (expr_fits M b Falling) f).1)
+      ((and_parts (expr_meets p a false) (expr_meets p b false) m).1))
   range_moves (Span a b) false k f m n = span_more (value M S' (fill p a)) (value M S' (fill p b)) (value M S (fill p a)) (value M S (fill p b)) (pos n)
-      (expr_moves M p S' S a Falling false (keeps_left S' S (expr_leaves a) (expr_leaves b) k) ((and_parts (expr_fits M a Falling) (expr_fits M b Rising) f).0) ((and_parts (expr_meets p a false) (expr_meets p b false) m).0))
-      (expr_moves M p S' S b Rising false (keeps_right S' S (expr_leaves a) (expr_leaves b) k) ((and_parts (expr_fits M a Falling) (expr_fits M b Rising) f).1) ((and_parts (expr_meets p a false) (expr_meets p b false) m).1))
+      (expr_moves M p S' S a Falling false (keeps_left S' S (expr_leaves a) (expr_leaves b) k) ((and_parts (expr_fits M a Falling) (expr_fits M b Rising) f).0)
+      ((and_parts (expr_meets p a false) (expr_meets p b false) m).0))
+      (expr_moves M p S' S b Rising false (keeps_right S' S (expr_leaves a) (expr_leaves b) k) ((and_parts (expr_fits M a Falling) (expr_fits M b Rising) f).1)
+      ((and_parts (expr_meets p a false) (expr_meets p b false) m).1))
   range_moves (One t) true k f m n = λ h. subst (λ z. int_eq z (pos n) ≡ true) (sym (constant t k f m)) h
   range_moves (One t) false k f m n = λ h. subst (λ z. int_eq z (pos n) ≡ true) (constant t k f m) h
   range_moves (Dom y) true k f m n = λ h. k.0.each n h
@@ -101,7 +109,9 @@ module _ (M : ℕ) (p : ℕ → ℤ) (S' S : Family) where
   range_moves (Over r c) w k f m n =
       moved_by w (λ z e. int_eq (pos n *ℤ z) (pos e)) (value M S' (fill p c)) (value M S (fill p c)) (in_range M S' (fill_range p r)) (in_range M S (fill_range p r))
       (over_constant c ((and_parts (range_fits M r w) (is_parameter c || (is_literal c && int_le (pos 1) (literal_value M c))) f).1))
-      (range_moves r w (keeps_left S' S (leaves r) (expr_leaves c) k) ((and_parts (range_fits M r w) (is_parameter c || (is_literal c && int_le (pos 1) (literal_value M c))) f).0) ((and_parts (range_meets p r) (over_meets p c) m).0))
+      (range_moves r w (keeps_left S' S (leaves r) (expr_leaves c) k)
+      ((and_parts (range_fits M r w) (is_parameter c || (is_literal c && int_le (pos 1) (literal_value M c))) f).0)
+      ((and_parts (range_meets p r) (over_meets p c) m).0))
 
 -- the least and the greatest number of a rising list
 pub least_low : (low high n : ℕ) (xs : List ℕ) → IsRising low high xs → has xs n ≡ true → least xs ≤ n
@@ -160,7 +170,8 @@ record Bound (S' S : Family) (y : ℕ) : Type 0 where
   low : least (S' y) ≤ least (S y)
   high : greatest (S y) ≤ greatest (S' y)
 
-all_keep : (S' S : Family) → IsInside S S' → (ls : List Leaf) → ((y : ℕ) → has (flat_map read_at ls) y ≡ true → Bound S' S y) → ((y : ℕ) → has (flat_map val_at ls) y ≡ true → least (S' y) ≡ least (S y)) → AllKeep S' S ls
+all_keep : (S' S : Family) → IsInside S S' → (ls : List Leaf) → ((y : ℕ) → has (flat_map read_at ls) y ≡ true → Bound S' S y)
+    → ((y : ℕ) → has (flat_map val_at ls) y ≡ true → least (S' y) ≡ least (S y)) → AllKeep S' S ls
 all_keep S' S inside [] h g = tt
 all_keep S' S inside (l ∷ ls) h g = (
   by_role l.role l.variable (λ y i. h y (in_left (read_at l) (flat_map read_at ls) y i)) (λ y i. g y (in_left (val_at l) (flat_map val_at ls) y i)),

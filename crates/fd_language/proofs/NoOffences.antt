@@ -1,13 +1,18 @@
 -- The verdict says yes exactly where the table accepts.
-use Rattle.std.proofs.Common.{◌≡◌, ℕ, ◌+◌, ◌-◌, Bool, true, false, cond, not, ◌||◌, ◌&&◌, ℤ, pos, negsuc, int_le, List, [], ◌∷◌, ◌++◌, Option, Some, None, refl, sym, ◌∙◌, ap, arith}
+use Rattle.std.proofs.Common.{◌≡◌, ℕ, ◌+◌, ◌-◌, Bool, true, false, cond, not, ◌||◌, ◌&&◌, ℤ, pos, negsuc, int_le, List, [], ◌∷◌, ◌++◌, Option, Some, None, refl}
+use Rattle.std.proofs.Common.{sym, ◌∙◌, ap, arith}
 use Rattle.std.proofs.Math.Bool.{and-true}
 use Rattle.std.proofs.lemmas.Int.{ints}
 use Rattle.std.proofs.lemmas.Bool.{true≢false, and_from, and_parts}
 use Rattle.fd_language.specs.declared.range_node.Offence.{Offence}
-use Rattle.fd_language.specs.Range.{Range, Span, One, Dom, Union, Inter, Outside, Plus, Minus, Times, Over, Expr, Number, Infinity, Param, Min, Max, Val, Add, Sub, Mul, DivDown, DivUp}
+use Rattle.fd_language.specs.Range.{Range, Span, One, Dom, Union, Inter, Outside, Plus, Minus, Times, Over, Expr, Number, Infinity, Param, Min, Max, Val, Add}
+use Rattle.fd_language.specs.Range.{Sub, Mul, DivDown, DivUp}
 use Rattle.fd_language.specs.Needs.{is_literal}
-use Rattle.fd_language.specs.Check.{Wish, Rising, Falling, Constant, turn, is_rising, is_falling, literal_value, by_sign, is_parameter, is_natural, expr_fits, range_fits}
-use Rattle.fd_language.specs.RangeVerdict.{expr_size, range_size, bound, over_limit, factor_over_limit, where_too_wide, wide_in_expr, wide_in_range, where_below_zero, unless_fits, where_natural, unless_divides, scaled, expr_offences, range_offences, is_before, earlier, first, expr_within, range_within}
+use Rattle.fd_language.specs.Check.{Wish, Rising, Falling, Constant, turn, is_rising, is_falling, literal_value, by_sign, is_parameter, is_natural, expr_fits}
+use Rattle.fd_language.specs.Check.{range_fits}
+use Rattle.fd_language.specs.RangeVerdict.{expr_size, range_size, bound, over_limit, factor_over_limit, where_too_wide, wide_in_expr, wide_in_range}
+use Rattle.fd_language.specs.RangeVerdict.{where_below_zero, unless_fits, where_natural, unless_divides, scaled, expr_offences, range_offences, is_before}
+use Rattle.fd_language.specs.RangeVerdict.{earlier, first, expr_within, range_within}
 use Rattle.fd_language.proofs.PartNeeds.{above_zero}
 
 abbrev pub nil : List Offence → Bool
@@ -49,11 +54,21 @@ nil_two xs ys a b e f = nil-append xs ys ∙ two (nil xs) (nil ys) a b e f where
 
 module _ (M : ℕ) (at : ℕ → ℕ) where
   nil-expr : (n : ℕ) (e : Expr) → nil (wide_in_expr M at n e) ≡ expr_within M e
-  nil-expr n (Add a b) = nil_three (wide_in_expr M at (n - 1 - expr_size b) a) (wide_in_expr M at (n - 1) b) (where_too_wide (over_limit (bound M (Add a b))) (at n)) _ _ _ (nil-expr (n - 1 - expr_size b) a) (nil-expr (n - 1) b) (nil-wide (over_limit (bound M (Add a b))) (at n))
-  nil-expr n (Sub a b) = nil_three (wide_in_expr M at (n - 1 - expr_size b) a) (wide_in_expr M at (n - 1) b) (where_too_wide (over_limit (bound M (Sub a b))) (at n)) _ _ _ (nil-expr (n - 1 - expr_size b) a) (nil-expr (n - 1) b) (nil-wide (over_limit (bound M (Sub a b))) (at n))
-  nil-expr n (Mul a b) = nil_three (wide_in_expr M at (n - 1 - expr_size b) a) (wide_in_expr M at (n - 1) b) (where_too_wide (over_limit (bound M (Mul a b))) (at n)) _ _ _ (nil-expr (n - 1 - expr_size b) a) (nil-expr (n - 1) b) (nil-wide (over_limit (bound M (Mul a b))) (at n))
-  nil-expr n (DivDown a b) = nil_three (wide_in_expr M at (n - 1 - expr_size b) a) (wide_in_expr M at (n - 1) b) (where_too_wide (over_limit (bound M (DivDown a b))) (at n)) _ _ _ (nil-expr (n - 1 - expr_size b) a) (nil-expr (n - 1) b) (nil-wide (over_limit (bound M (DivDown a b))) (at n))
-  nil-expr n (DivUp a b) = nil_three (wide_in_expr M at (n - 1 - expr_size b) a) (wide_in_expr M at (n - 1) b) (where_too_wide (over_limit (bound M (DivUp a b))) (at n)) _ _ _ (nil-expr (n - 1 - expr_size b) a) (nil-expr (n - 1) b) (nil-wide (over_limit (bound M (DivUp a b))) (at n))
+  nil-expr n (Add a b) = nil_three (wide_in_expr M at (n - 1 - expr_size b) a) (wide_in_expr M at (n - 1) b)
+      (where_too_wide (over_limit (bound M (Add a b))) (at n)) _ _ _ (nil-expr (n - 1 - expr_size b) a) (nil-expr (n - 1) b)
+      (nil-wide (over_limit (bound M (Add a b))) (at n))
+  nil-expr n (Sub a b) = nil_three (wide_in_expr M at (n - 1 - expr_size b) a) (wide_in_expr M at (n - 1) b)
+      (where_too_wide (over_limit (bound M (Sub a b))) (at n)) _ _ _ (nil-expr (n - 1 - expr_size b) a) (nil-expr (n - 1) b)
+      (nil-wide (over_limit (bound M (Sub a b))) (at n))
+  nil-expr n (Mul a b) = nil_three (wide_in_expr M at (n - 1 - expr_size b) a) (wide_in_expr M at (n - 1) b)
+      (where_too_wide (over_limit (bound M (Mul a b))) (at n)) _ _ _ (nil-expr (n - 1 - expr_size b) a) (nil-expr (n - 1) b)
+      (nil-wide (over_limit (bound M (Mul a b))) (at n))
+  nil-expr n (DivDown a b) = nil_three (wide_in_expr M at (n - 1 - expr_size b) a) (wide_in_expr M at (n - 1) b)
+      (where_too_wide (over_limit (bound M (DivDown a b))) (at n)) _ _ _ (nil-expr (n - 1 - expr_size b) a) (nil-expr (n - 1) b)
+      (nil-wide (over_limit (bound M (DivDown a b))) (at n))
+  nil-expr n (DivUp a b) = nil_three (wide_in_expr M at (n - 1 - expr_size b) a) (wide_in_expr M at (n - 1) b)
+      (where_too_wide (over_limit (bound M (DivUp a b))) (at n)) _ _ _ (nil-expr (n - 1 - expr_size b) a) (nil-expr (n - 1) b)
+      (nil-wide (over_limit (bound M (DivUp a b))) (at n))
   nil-expr n e = nil-wide (over_limit (bound M e)) (at n)
 
   pub nil-range : (n : ℕ) (r : Range) → nil (wide_in_range M at n r) ≡ range_within M r
@@ -63,10 +78,18 @@ module _ (M : ℕ) (at : ℕ → ℕ) where
   nil-range n (Union r q) = nil_two (wide_in_range M at (n - 1 - range_size q) r) (wide_in_range M at (n - 1) q) _ _ (nil-range (n - 1 - range_size q) r) (nil-range (n - 1) q)
   nil-range n (Inter r q) = nil_two (wide_in_range M at (n - 1 - range_size q) r) (wide_in_range M at (n - 1) q) _ _ (nil-range (n - 1 - range_size q) r) (nil-range (n - 1) q)
   nil-range n (Outside r) = nil-range (n - 1) r
-  nil-range n (Plus r c) = nil_three (wide_in_range M at (n - 1 - expr_size c) r) (wide_in_expr M at (n - 1) c) (where_too_wide (over_limit (M + bound M c)) (at n)) _ _ _ (nil-range (n - 1 - expr_size c) r) (nil-expr (n - 1) c) (nil-wide (over_limit (M + bound M c)) (at n))
-  nil-range n (Minus r c) = nil_three (wide_in_range M at (n - 1 - expr_size c) r) (wide_in_expr M at (n - 1) c) (where_too_wide (over_limit (M + bound M c)) (at n)) _ _ _ (nil-range (n - 1 - expr_size c) r) (nil-expr (n - 1) c) (nil-wide (over_limit (M + bound M c)) (at n))
-  nil-range n (Times r c) = nil_three (wide_in_range M at (n - 1 - expr_size c) r) (wide_in_expr M at (n - 1) c) (where_too_wide (factor_over_limit M (bound M c)) (at n)) _ _ _ (nil-range (n - 1 - expr_size c) r) (nil-expr (n - 1) c) (nil-wide (factor_over_limit M (bound M c)) (at n))
-  nil-range n (Over r c) = nil_three (wide_in_range M at (n - 1 - expr_size c) r) (wide_in_expr M at (n - 1) c) (where_too_wide (factor_over_limit M (bound M c)) (at n)) _ _ _ (nil-range (n - 1 - expr_size c) r) (nil-expr (n - 1) c) (nil-wide (factor_over_limit M (bound M c)) (at n))
+  nil-range n (Plus r c) = nil_three (wide_in_range M at (n - 1 - expr_size c) r) (wide_in_expr M at (n - 1) c)
+      (where_too_wide (over_limit (M + bound M c)) (at n)) _ _ _ (nil-range (n - 1 - expr_size c) r) (nil-expr (n - 1) c)
+      (nil-wide (over_limit (M + bound M c)) (at n))
+  nil-range n (Minus r c) = nil_three (wide_in_range M at (n - 1 - expr_size c) r) (wide_in_expr M at (n - 1) c)
+      (where_too_wide (over_limit (M + bound M c)) (at n)) _ _ _ (nil-range (n - 1 - expr_size c) r) (nil-expr (n - 1) c)
+      (nil-wide (over_limit (M + bound M c)) (at n))
+  nil-range n (Times r c) = nil_three (wide_in_range M at (n - 1 - expr_size c) r) (wide_in_expr M at (n - 1) c)
+      (where_too_wide (factor_over_limit M (bound M c)) (at n)) _ _ _ (nil-range (n - 1 - expr_size c) r) (nil-expr (n - 1) c)
+      (nil-wide (factor_over_limit M (bound M c)) (at n))
+  nil-range n (Over r c) = nil_three (wide_in_range M at (n - 1 - expr_size c) r) (wide_in_expr M at (n - 1) c)
+      (where_too_wide (factor_over_limit M (bound M c)) (at n)) _ _ _ (nil-range (n - 1 - expr_size c) r) (nil-expr (n - 1) c)
+      (nil-wide (factor_over_limit M (bound M c)) (at n))
 
   either_sign : (v : ℤ) (x y : Bool) → x ≡ true → y ≡ true → by_sign v x y ≡ true
   either_sign (pos n) x y f g = f
@@ -76,8 +99,10 @@ module _ (M : ℕ) (at : ℕ → ℕ) where
   literal_fits : (e : Expr) (w : Wish) → is_literal e ≡ true → expr_fits M e w ≡ true
   literal_fits (Number z) w h = refl
   literal_fits Infinity w h = refl
-  literal_fits (Add a b) w h = and_from (expr_fits M a w) (expr_fits M b w) (literal_fits a w ((and_parts (is_literal a) (is_literal b) h).0)) (literal_fits b w ((and_parts (is_literal a) (is_literal b) h).1))
-  literal_fits (Sub a b) w h = and_from (expr_fits M a w) (expr_fits M b (turn w)) (literal_fits a w ((and_parts (is_literal a) (is_literal b) h).0)) (literal_fits b (turn w) ((and_parts (is_literal a) (is_literal b) h).1))
+  literal_fits (Add a b) w h = and_from (expr_fits M a w) (expr_fits M b w) (literal_fits a w ((and_parts (is_literal a) (is_literal b) h).0))
+      (literal_fits b w ((and_parts (is_literal a) (is_literal b) h).1))
+  literal_fits (Sub a b) w h = and_from (expr_fits M a w) (expr_fits M b (turn w)) (literal_fits a w ((and_parts (is_literal a) (is_literal b) h).0))
+      (literal_fits b (turn w) ((and_parts (is_literal a) (is_literal b) h).1))
   literal_fits (Mul a b) w h =
       let k = (and_parts (is_literal a) (is_literal b) h).1 in
       rw (and_parts (is_literal a) (is_literal b) h).0 (either_sign (literal_value M a) (expr_fits M b w) (expr_fits M b (turn w)) (literal_fits b w k) (literal_fits b (turn w) k))
@@ -186,29 +211,42 @@ module _ (M : ℕ) (at : ℕ → ℕ) where
       (nil-below k (literal_value M (Add a b)) (at n))
       (nil_two (expr_offences M at (n - 1 - expr_size b) a w k) (expr_offences M at (n - 1) b w k) _ _ (nil-offences (n - 1 - expr_size b) a w k) (nil-offences (n - 1) b w k))
       (λ c. and_from (expr_fits M a w) (expr_fits M b w) (literal_fits a w ((and_parts (is_literal a) (is_literal b) c).0)) (literal_fits b w ((and_parts (is_literal a) (is_literal b) c).1)))
-  nil-offences n (Sub a b) w k = difference_part (is_literal a && is_literal b) k (expr_fits M a w) (expr_fits M b (turn w)) (is_natural M a) (is_natural M b) (int_le (pos 0) (literal_value M (Sub a b))) _ _
+  nil-offences n (Sub a b) w k = difference_part (is_literal a && is_literal b) k (expr_fits M a w) (expr_fits M b (turn w)) (is_natural M a) (is_natural M b)
+      (int_le (pos 0) (literal_value M (Sub a b))) _ _
       (nil-below k (literal_value M (Sub a b)) (at n))
-      (nil_three (expr_offences M at (n - 1 - expr_size b) a w k) (expr_offences M at (n - 1) b (turn w) k) (where_natural k (at n)) _ _ _ (nil-offences (n - 1 - expr_size b) a w k) (nil-offences (n - 1) b (turn w) k) (nil-natural k (at n)))
-      (λ c. and_from (expr_fits M a w) (expr_fits M b (turn w)) (literal_fits a w ((and_parts (is_literal a) (is_literal b) c).0)) (literal_fits b (turn w) ((and_parts (is_literal a) (is_literal b) c).1)))
+      (nil_three (expr_offences M at (n - 1 - expr_size b) a w k) (expr_offences M at (n - 1) b (turn w) k) (where_natural k (at n)) _ _ _
+      (nil-offences (n - 1 - expr_size b) a w k) (nil-offences (n - 1) b (turn w) k) (nil-natural k (at n)))
+      (λ c. and_from (expr_fits M a w) (expr_fits M b (turn w)) (literal_fits a w ((and_parts (is_literal a) (is_literal b) c).0))
+      (literal_fits b (turn w) ((and_parts (is_literal a) (is_literal b) c).1)))
   nil-offences n (Mul a b) w k =
-      product_part (is_literal a) (is_literal b) k (expr_fits M a w) (by_sign (literal_value M b) (expr_fits M a w) (expr_fits M a (turn w))) (expr_fits M b w) (by_sign (literal_value M a) (expr_fits M b w) (expr_fits M b (turn w))) (is_natural M a) (is_natural M b) (int_le (pos 0) (literal_value M (Mul a b))) _ _ _ _
+      product_part (is_literal a) (is_literal b) k (expr_fits M a w) (by_sign (literal_value M b) (expr_fits M a w) (expr_fits M a (turn w))) (expr_fits M b w)
+      (by_sign (literal_value M a) (expr_fits M b w) (expr_fits M b (turn w))) (is_natural M a) (is_natural M b)
+      (int_le (pos 0) (literal_value M (Mul a b))) _ _ _ _
       (nil-below k (literal_value M (Mul a b)) (at n))
-      (nil_two (expr_offences M at (n - 1 - expr_size b) a w k) (expr_offences M at (n - 1) b (scaled (literal_value M a) w) k) _ _ (nil-offences (n - 1 - expr_size b) a w k) (nil-offences (n - 1) b (scaled (literal_value M a) w) k ∙ ap (λ f. f && (not k || is_natural M b)) (sym (sign_scaled (literal_value M a) (λ v. expr_fits M b v) w))))
-      (nil_two (expr_offences M at (n - 1 - expr_size b) a (scaled (literal_value M b) w) k) (expr_offences M at (n - 1) b w k) _ _ (nil-offences (n - 1 - expr_size b) a (scaled (literal_value M b) w) k ∙ ap (λ f. f && (not k || is_natural M a)) (sym (sign_scaled (literal_value M b) (λ v. expr_fits M a v) w))) (nil-offences (n - 1) b w k))
+      (nil_two (expr_offences M at (n - 1 - expr_size b) a w k) (expr_offences M at (n - 1) b (scaled (literal_value M a) w) k) _ _
+      (nil-offences (n - 1 - expr_size b) a w k) (nil-offences (n - 1) b (scaled (literal_value M a) w) k
+      ∙ ap (λ f. f && (not k || is_natural M b)) (sym (sign_scaled (literal_value M a) (λ v. expr_fits M b v) w))))
+      (nil_two (expr_offences M at (n - 1 - expr_size b) a (scaled (literal_value M b) w) k) (expr_offences M at (n - 1) b w k) _ _
+      (nil-offences (n - 1 - expr_size b) a (scaled (literal_value M b) w) k
+      ∙ ap (λ f. f && (not k || is_natural M a)) (sym (sign_scaled (literal_value M b) (λ v. expr_fits M a v) w))) (nil-offences (n - 1) b w k))
       (nil_two (expr_offences M at (n - 1 - expr_size b) a w true) (expr_offences M at (n - 1) b w true) _ _ (nil-offences (n - 1 - expr_size b) a w true) (nil-offences (n - 1) b w true))
       (literal_fits a w) (literal_fits b w)
       (λ l. sign_scaled (literal_value M a) (λ v. expr_fits M b v) w ∙ literal_fits b (scaled (literal_value M a) w) l)
   nil-offences n (DivDown a b) w k =
       quotient_part (is_literal b) (is_parameter b) k (expr_fits M a w) (expr_fits M b (turn w)) (is_natural M a) (is_natural M b) (int_le (pos 1) (literal_value M b)) _ _ _
-      (nil_two (expr_offences M at (n - 1 - expr_size b) a w k) (unless_divides (int_le (pos 1) (literal_value M b)) (at (n - 1))) _ _ (nil-offences (n - 1 - expr_size b) a w k) (nil-divides (int_le (pos 1) (literal_value M b)) (at (n - 1))))
+      (nil_two (expr_offences M at (n - 1 - expr_size b) a w k) (unless_divides (int_le (pos 1) (literal_value M b)) (at (n - 1))) _ _
+      (nil-offences (n - 1 - expr_size b) a w k) (nil-divides (int_le (pos 1) (literal_value M b)) (at (n - 1))))
       (nil-offences (n - 1 - expr_size b) a w k)
-      (nil_two (expr_offences M at (n - 1 - expr_size b) a w true) (expr_offences M at (n - 1) b (turn w) true) _ _ (nil-offences (n - 1 - expr_size b) a w true) (nil-offences (n - 1) b (turn w) true))
+      (nil_two (expr_offences M at (n - 1 - expr_size b) a w true) (expr_offences M at (n - 1) b (turn w) true) _ _
+      (nil-offences (n - 1 - expr_size b) a w true) (nil-offences (n - 1) b (turn w) true))
       (divisor_natural b) (parameter_natural b)
   nil-offences n (DivUp a b) w k =
       quotient_part (is_literal b) (is_parameter b) k (expr_fits M a w) (expr_fits M b (turn w)) (is_natural M a) (is_natural M b) (int_le (pos 1) (literal_value M b)) _ _ _
-      (nil_two (expr_offences M at (n - 1 - expr_size b) a w k) (unless_divides (int_le (pos 1) (literal_value M b)) (at (n - 1))) _ _ (nil-offences (n - 1 - expr_size b) a w k) (nil-divides (int_le (pos 1) (literal_value M b)) (at (n - 1))))
+      (nil_two (expr_offences M at (n - 1 - expr_size b) a w k) (unless_divides (int_le (pos 1) (literal_value M b)) (at (n - 1))) _ _
+      (nil-offences (n - 1 - expr_size b) a w k) (nil-divides (int_le (pos 1) (literal_value M b)) (at (n - 1))))
       (nil-offences (n - 1 - expr_size b) a w k)
-      (nil_two (expr_offences M at (n - 1 - expr_size b) a w true) (expr_offences M at (n - 1) b (turn w) true) _ _ (nil-offences (n - 1 - expr_size b) a w true) (nil-offences (n - 1) b (turn w) true))
+      (nil_two (expr_offences M at (n - 1 - expr_size b) a w true) (expr_offences M at (n - 1) b (turn w) true) _ _
+      (nil-offences (n - 1 - expr_size b) a w true) (nil-offences (n - 1) b (turn w) true))
       (divisor_natural b) (parameter_natural b)
   nil-offences n e w k = anyhow true k
 
@@ -216,16 +254,21 @@ module _ (M : ℕ) (at : ℕ → ℕ) where
   plainly n e w = nil-offences n e w false ∙ and-true (expr_fits M e w)
 
   pub nil-fitting : (n : ℕ) (r : Range) (w : Bool) → nil (range_offences M at n r w) ≡ range_fits M r w
-  nil-fitting n (Span a b) true = nil_two (expr_offences M at (n - 1 - expr_size b) a Rising false) (expr_offences M at (n - 1) b Falling false) _ _ (plainly (n - 1 - expr_size b) a Rising) (plainly (n - 1) b Falling)
-  nil-fitting n (Span a b) false = nil_two (expr_offences M at (n - 1 - expr_size b) a Falling false) (expr_offences M at (n - 1) b Rising false) _ _ (plainly (n - 1 - expr_size b) a Falling) (plainly (n - 1) b Rising)
+  nil-fitting n (Span a b) true = nil_two (expr_offences M at (n - 1 - expr_size b) a Rising false) (expr_offences M at (n - 1) b Falling false) _ _
+      (plainly (n - 1 - expr_size b) a Rising) (plainly (n - 1) b Falling)
+  nil-fitting n (Span a b) false = nil_two (expr_offences M at (n - 1 - expr_size b) a Falling false) (expr_offences M at (n - 1) b Rising false) _ _
+      (plainly (n - 1 - expr_size b) a Falling) (plainly (n - 1) b Rising)
   nil-fitting n (One t) w = plainly (n - 1) t Constant
   nil-fitting n (Dom y) w = nil-fits w (at n)
   nil-fitting n (Union r q) w = nil_two (range_offences M at (n - 1 - range_size q) r w) (range_offences M at (n - 1) q w) _ _ (nil-fitting (n - 1 - range_size q) r w) (nil-fitting (n - 1) q w)
   nil-fitting n (Inter r q) w = nil_two (range_offences M at (n - 1 - range_size q) r w) (range_offences M at (n - 1) q w) _ _ (nil-fitting (n - 1 - range_size q) r w) (nil-fitting (n - 1) q w)
   nil-fitting n (Outside r) w = nil-fitting (n - 1) r (not w)
-  nil-fitting n (Plus r c) w = nil_two (range_offences M at (n - 1 - expr_size c) r w) (expr_offences M at (n - 1) c Constant false) _ _ (nil-fitting (n - 1 - expr_size c) r w) (plainly (n - 1) c Constant)
-  nil-fitting n (Minus r c) w = nil_two (range_offences M at (n - 1 - expr_size c) r w) (expr_offences M at (n - 1) c Constant false) _ _ (nil-fitting (n - 1 - expr_size c) r w) (plainly (n - 1) c Constant)
-  nil-fitting n (Times r c) w = nil_two (range_offences M at (n - 1 - expr_size c) r w) (expr_offences M at (n - 1) c Constant false) _ _ (nil-fitting (n - 1 - expr_size c) r w) (plainly (n - 1) c Constant)
+  nil-fitting n (Plus r c) w = nil_two (range_offences M at (n - 1 - expr_size c) r w) (expr_offences M at (n - 1) c Constant false) _ _
+      (nil-fitting (n - 1 - expr_size c) r w) (plainly (n - 1) c Constant)
+  nil-fitting n (Minus r c) w = nil_two (range_offences M at (n - 1 - expr_size c) r w) (expr_offences M at (n - 1) c Constant false) _ _
+      (nil-fitting (n - 1 - expr_size c) r w) (plainly (n - 1) c Constant)
+  nil-fitting n (Times r c) w = nil_two (range_offences M at (n - 1 - expr_size c) r w) (expr_offences M at (n - 1) c Constant false) _ _
+      (nil-fitting (n - 1 - expr_size c) r w) (plainly (n - 1) c Constant)
   nil-fitting n (Over r c) w =
       let d : Bool = is_parameter c || (is_literal c && int_le (pos 1) (literal_value M c)) in
       nil_two (range_offences M at (n - 1 - expr_size c) r w) (unless_divides d (at (n - 1))) _ _ (nil-fitting (n - 1 - expr_size c) r w) (nil-divides d (at (n - 1)))

@@ -1,6 +1,7 @@
 -- The operator table by vectors.
 use Rattle.std.specs.Prelude.{◌≡◌, refl, false, Some, codes, [], ◌∷◌}
-use Rattle.fd_language.specs.Operators.{infix_of, prefix_of, is_operator, operator_row, right_limit, not_associative, right_associative, left_associative, prefix_associative}
+use Rattle.fd_language.specs.Operators.{infix_of, prefix_of, is_operator, operator_row, right_limit, not_associative, right_associative, left_associative}
+use Rattle.fd_language.specs.Operators.{prefix_associative}
 
 infix_minus : infix_of (codes "-") ≡ Some (operator_row 500 left_associative (45 ∷ []))
 unfolding infix_of

@@ -1,5 +1,6 @@
 -- What the needs of parameters give at each part of a range.
-use Rattle.std.proofs.Common.{◌≡◌, ℕ, ◌^◌, Bool, true, false, cond, ◌||◌, ◌&&◌, not, ◌==◌, ℤ, pos, int_le, nat_lt, nat_abs, List, [], ◌∷◌, ◌++◌, map, filter, refl, sym, ◌∙◌, subst, inl, inr, arith, eqb-true, eq-eqb}
+use Rattle.std.proofs.Common.{◌≡◌, ℕ, ◌^◌, Bool, true, false, cond, ◌||◌, ◌&&◌, not, ◌==◌, ℤ, pos, int_le, nat_lt, nat_abs, List, [], ◌∷◌, ◌++◌, map, filter}
+use Rattle.std.proofs.Common.{refl, sym, ◌∙◌, subst, inl, inr, arith, eqb-true, eq-eqb}
 use Rattle.std.specs.Prelude.{if◌then◌else◌}
 use Rattle.std.proofs.lemmas.Int.{ints}
 use Rattle.std.proofs.lemmas.Bool.{cases_Bool, true≢false, and_parts, and_from}
@@ -7,8 +8,10 @@ use Rattle.std.proofs.lemmas.List.Folds.{list_all-append, list_all-map}
 use Rattle.std.specs.List.{list_all}
 use Rattle.fd_language.specs.declared.range_node.Need.{Need}
 use Rattle.fd_language.specs.declared.range_node.Need.TheVariants.{Whole, Natural, Divisor}
-use Rattle.fd_language.specs.Range.{Range, Span, One, Dom, Union, Inter, Outside, Plus, Minus, Times, Over, Expr, Number, Infinity, Param, Add, Sub, Mul, DivDown, DivUp}
-use Rattle.fd_language.specs.Needs.{meets, is_literal, by_place, quotient_asks, expr_asks, over_asks, asks, stronger, strongest, once, parameters, need_of, meets_needs}
+use Rattle.fd_language.specs.Range.{Range, Span, One, Dom, Union, Inter, Outside, Plus, Minus, Times, Over, Expr, Number, Infinity, Param, Add, Sub, Mul}
+use Rattle.fd_language.specs.Range.{DivDown, DivUp}
+use Rattle.fd_language.specs.Needs.{meets, is_literal, by_place, quotient_asks, expr_asks, over_asks, asks, stronger, strongest, once, parameters, need_of}
+use Rattle.fd_language.specs.Needs.{meets_needs}
 
 -- at least 1 is natural
 pub above_zero : (z : ℤ) → int_le (pos 1) z ≡ true → int_le (pos 0) z ≡ true
@@ -88,12 +91,17 @@ either_right false a b z h = h
 from_strongest : (p : ℕ → ℤ) (all ds : List (ℕ × Need)) → ((x : ℕ) (z : ℤ) → meets (strongest all x) z ≡ true → meets (strongest ds x) z ≡ true) →
     list_all (λ d. meets (strongest all d.0) (p d.0)) ds ≡ true → asks_met p ds ≡ true
 from_strongest p all [] f h = refl
-from_strongest p all (d ∷ ds) f h = and_from (meets d.1 (p d.0)) (asks_met p ds) (either_left (d.0 == d.0) d.1 (strongest ds d.0) (p d.0) (eq-eqb d.0 d.0 refl) (f d.0 (p d.0) ((and_parts (meets (strongest all d.0) (p d.0)) (list_all (λ c. meets (strongest all c.0) (p c.0)) ds) h).0))) (from_strongest p all ds (λ x z k. either_right (d.0 == x) d.1 (strongest ds x) z (f x z k)) ((and_parts (meets (strongest all d.0) (p d.0)) (list_all (λ c. meets (strongest all c.0) (p c.0)) ds) h).1))
+from_strongest p all (d ∷ ds) f h = and_from (meets d.1 (p d.0)) (asks_met p ds)
+    (either_left (d.0 == d.0) d.1 (strongest ds d.0) (p d.0) (eq-eqb d.0 d.0 refl)
+    (f d.0 (p d.0) ((and_parts (meets (strongest all d.0) (p d.0)) (list_all (λ c. meets (strongest all c.0) (p c.0)) ds) h).0)))
+    (from_strongest p all ds (λ x z k. either_right (d.0 == x) d.1 (strongest ds x) z (f x z k))
+    ((and_parts (meets (strongest all d.0) (p d.0)) (list_all (λ c. meets (strongest all c.0) (p c.0)) ds) h).1))
 
 unfilter : (f : ℕ → Bool) (x : ℕ) (ys : List ℕ) → f x ≡ true → list_all f (filter (λ y. not (y == x)) ys) ≡ true → list_all f ys ≡ true
 unfilter f x [] e h = refl
 unfilter f x (y ∷ ys) e h = elim (cases_Bool (y == x)) [
-  | inl i ↦ and_from (f y) (list_all f ys) (subst (λ n. f n ≡ true) (sym (eqb-true y x i)) e) (unfilter f x ys e (subst (λ b. list_all f (cond (not b) (y ∷ filter (λ n. not (n == x)) ys) (filter (λ n. not (n == x)) ys)) ≡ true) i h))
+  | inl i ↦ and_from (f y) (list_all f ys) (subst (λ n. f n ≡ true) (sym (eqb-true y x i)) e)
+      (unfilter f x ys e (subst (λ b. list_all f (cond (not b) (y ∷ filter (λ n. not (n == x)) ys) (filter (λ n. not (n == x)) ys)) ≡ true) i h))
   | inr i ↦
       let g : (f y && list_all f (filter (λ n. not (n == x)) ys)) ≡ true = subst (λ b. list_all f (cond (not b) (y ∷ filter (λ n. not (n == x)) ys) (filter (λ n. not (n == x)) ys)) ≡ true) i h in
       and_from (f y) (list_all f ys) ((and_parts (f y) (list_all f (filter (λ n. not (n == x)) ys)) g).0) (unfilter f x ys e ((and_parts (f y) (list_all f (filter (λ n. not (n == x)) ys)) g).1))
@@ -115,7 +123,8 @@ asks_from_needs p r h =
 
 module _ (p : ℕ → ℤ) where
   pub split_asks : (xs ys : List (ℕ × Need)) → asks_met p (xs ++ ys) ≡ true → (asks_met p xs ≡ true) × (asks_met p ys ≡ true)
-  split_asks xs ys h = let g : (asks_met p xs && asks_met p ys) ≡ true = sym (list_all-append (λ d. meets d.1 (p d.0)) xs ys) ∙ h in ((and_parts (asks_met p xs) (asks_met p ys) g).0, (and_parts (asks_met p xs) (asks_met p ys) g).1)
+  split_asks xs ys h = let g : (asks_met p xs && asks_met p ys) ≡ true = sym (list_all-append (λ d. meets d.1 (p d.0)) xs ys) ∙ h in
+      ((and_parts (asks_met p xs) (asks_met p ys) g).0, (and_parts (asks_met p xs) (asks_met p ys) g).1)
 
   both_asked : (xs ys : List (ℕ × Need)) (x y : Bool) → (asks_met p xs ≡ true → x ≡ true) → (asks_met p ys ≡ true → y ≡ true) → asks_met p (xs ++ ys) ≡ true → (x && y) ≡ true
   both_asked xs ys x y f g h = let s = split_asks xs ys h in and_from x y (f s.0) (g s.1)
@@ -146,11 +155,14 @@ module _ (p : ℕ → ℤ) where
   expr_asked (Add a b) n h = both_asked (expr_asks a n) (expr_asks b n) (expr_meets p a n) (expr_meets p b n) (expr_asked a n) (expr_asked b n) h
   expr_asked (Sub a b) n h = both_asked (expr_asks a n) (expr_asks b n) (expr_meets p a n) (expr_meets p b n) (expr_asked a n) (expr_asked b n) h
   expr_asked (Mul a b) n h =
-      if_asked (is_literal a || is_literal b) (expr_asks a n ++ expr_asks b n) (expr_asks a true ++ expr_asks b true) (expr_meets p a n && expr_meets p b n) (expr_meets p a true && expr_meets p b true)
+      if_asked (is_literal a || is_literal b) (expr_asks a n ++ expr_asks b n) (expr_asks a true ++ expr_asks b true) (expr_meets p a n && expr_meets p b n)
+      (expr_meets p a true && expr_meets p b true)
       (both_asked (expr_asks a n) (expr_asks b n) (expr_meets p a n) (expr_meets p b n) (expr_asked a n) (expr_asked b n))
       (both_asked (expr_asks a true) (expr_asks b true) (expr_meets p a true) (expr_meets p b true) (expr_asked a true) (expr_asked b true)) h
-  expr_asked (DivDown a b) n h = quotient_asked b (expr_asks a n) (expr_asks a true) (expr_asks b true) (expr_meets p a n) (expr_meets p a true) (expr_meets p b true) (expr_asked a n) (expr_asked a true) (expr_asked b true) h
-  expr_asked (DivUp a b) n h = quotient_asked b (expr_asks a n) (expr_asks a true) (expr_asks b true) (expr_meets p a n) (expr_meets p a true) (expr_meets p b true) (expr_asked a n) (expr_asked a true) (expr_asked b true) h
+  expr_asked (DivDown a b) n h = quotient_asked b (expr_asks a n) (expr_asks a true) (expr_asks b true) (expr_meets p a n) (expr_meets p a true)
+      (expr_meets p b true) (expr_asked a n) (expr_asked a true) (expr_asked b true) h
+  expr_asked (DivUp a b) n h = quotient_asked b (expr_asks a n) (expr_asks a true) (expr_asks b true) (expr_meets p a n) (expr_meets p a true)
+      (expr_meets p b true) (expr_asked a n) (expr_asked a true) (expr_asked b true) h
   expr_asked e n h = refl
 
   over_asked : (c : Expr) → asks_met p (over_asks c) ≡ true → over_meets p c ≡ true

@@ -1,5 +1,6 @@
 -- Quoted atoms, character by character, against their pieces.
-use Rattle.std.proofs.Common.{◌≡◌, ◌∙◌, ℕ, ◌+◌, ◌*◌, ◌<◌, ◌≤◌, ◌⊎◌, inl, inr, List, [], ◌∷◌, ◌++◌, Bool, true, false, cond, not, refl, sym, ap, arith, length, length-append, take, append_assoc, eqb-true}
+use Rattle.std.proofs.Common.{◌≡◌, ◌∙◌, ℕ, ◌+◌, ◌*◌, ◌<◌, ◌≤◌, ◌⊎◌, inl, inr, List, [], ◌∷◌, ◌++◌, Bool, true, false, cond, not, refl, sym, ap, arith, length}
+use Rattle.std.proofs.Common.{length-append, take, append_assoc, eqb-true}
 use Rattle.std.specs.Prelude.{nat_lt, nat_le, ◌==◌, ◌&&◌, ◌||◌, ℤ, pos, encode_utf8}
 use Rattle.std.specs.Char.{len_utf8, digit_value}
 use Rattle.std.specs.Str.{chars, IsUtf8, encode_utf8_all, all_scalars}
@@ -7,11 +8,17 @@ use Rattle.std.proofs.lemmas.List.{take_at}
 use Rattle.std.proofs.lemmas.Str.{chars-encodes, encodes-append, encodes-chars, scalars-chars, length-encode}
 use Rattle.std.proofs.lemmas.Bool.{and_parts, lt-ltb, ltb-true, ne_eqb, and_from}
 use lib.Utf8.{scalar}
-use Rattle.fd_language.specs.Characters.{is_layout, is_symbol, is_solo, is_punct, begins_variable, not_newline, is_digit_of, starts_with, tail, run_size, past_run, digits_value}
+use Rattle.fd_language.specs.Characters.{is_layout, is_symbol, is_solo, is_punct, begins_variable, not_newline, is_digit_of, starts_with, tail, run_size}
+use Rattle.fd_language.specs.Characters.{past_run, digits_value}
 use Rattle.unicode_ident.specs.Ident.{is_xid_start, is_xid_continue}
 use Rattle.unicode_ident.proofs.IdentLemmas.{is_xid_start-ascii}
-use Rattle.fd_language.specs.Tokens.{Front, Gap, Token, Quoted, Variable, Word, Punct, Stop, Integer, BadCharacter, FloatOut, StringOut, OpenComment, IntegerTooWide, greatest_integer, number_front, decimal_front, based_front, integer_front, comment_front, has_base, base_at, has_fraction, ends_stop, front_at, front_by, front_of, unquoted, Offends, Cause, OpenQuote, BadEscape, Inside, Between, AfterQuote, AfterBackslash, AfterDigits, Past, Broken, is_escape, escaped, names_character, inside, spells, quoted_front, quoted_spells}
-use Rattle.fd_language.specs.QuotedAtoms.{BeginsQuoted, QuotedAtoms, is_itself, are_hexadecimal, hexadecimal, SpelledBy, nothing, itself, doubled, escape, numbered}
+use Rattle.fd_language.specs.Tokens.{Front, Gap, Token, Quoted, Variable, Word, Punct, Stop, Integer, BadCharacter, FloatOut, StringOut, OpenComment}
+use Rattle.fd_language.specs.Tokens.{IntegerTooWide, greatest_integer, number_front, decimal_front, based_front, integer_front, comment_front, has_base}
+use Rattle.fd_language.specs.Tokens.{base_at, has_fraction, ends_stop, front_at, front_by, front_of, unquoted, Offends, Cause, OpenQuote, BadEscape, Inside}
+use Rattle.fd_language.specs.Tokens.{Between, AfterQuote, AfterBackslash, AfterDigits, Past, Broken, is_escape, escaped, names_character, inside, spells}
+use Rattle.fd_language.specs.Tokens.{quoted_front, quoted_spells}
+use Rattle.fd_language.specs.QuotedAtoms.{BeginsQuoted, QuotedAtoms, is_itself, are_hexadecimal, hexadecimal, SpelledBy, nothing, itself, doubled, escape}
+use Rattle.fd_language.specs.QuotedAtoms.{numbered}
 
 -- the bytes of characters
 abbrev pub size : List ℕ → ℕ
@@ -73,7 +80,8 @@ no_backslash d h = ne_eqb d 92 (λ e. cc (ap (λ (x : ℕ). is_digit_of 16 x) (s
 
 digit_next : (from k v n d : ℕ) → is_digit_of 16 d ≡ true → k < 6 → inside (AfterDigits from k v) n d ≡ AfterDigits from (k + 1) (v * 16 + digit_value d)
 digit_next from k v n d h l =
-    ap (λ (b : Bool). cond b (AfterDigits from (k + 1) (v * 16 + digit_value d)) (cond (names_character k v d) Between (Broken BadEscape from))) (and_from (is_digit_of 16 d) (nat_lt k 6) h (lt-ltb k 6 l))
+    ap (λ (b : Bool). cond b (AfterDigits from (k + 1) (v * 16 + digit_value d)) (cond (names_character k v d) Between (Broken BadEscape from)))
+    (and_from (is_digit_of 16 d) (nat_lt k 6) h (lt-ltb k 6 l))
 
 digit_silent : (from k v d : ℕ) → is_digit_of 16 d ≡ true → spells (AfterDigits from k v) d ≡ []
 digit_silent from k v d h = ap (λ (b : Bool). cond (b && (nat_lt 0 k && scalar v)) (v ∷ []) []) (no_backslash d h)

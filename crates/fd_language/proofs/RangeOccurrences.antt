@@ -50,7 +50,8 @@ none_parameter r e = subst (Each (λ p. p.parameter ≡ false)) (sym (range_leav
 -- And then the variables that occur are those that are read.
 pub free_occurrences_read : (r : Range) → Each (λ p. p.parameter ≡ false) (range_occurrences r) → map (λ p. p.variable) (range_occurrences r) ≡ reads r
 free_occurrences_read r h =
-    ap (map (λ (p : Occurrence). p.variable)) (range_leaves occurrence_at r) ∙ (go (leaves r) (subst (Each (λ p. p.parameter ≡ false)) (range_leaves occurrence_at r) h) ∙ sym (range_leaves read_at r)) where
+    ap (map (λ (p : Occurrence). p.variable)) (range_leaves occurrence_at r)
+    ∙ (go (leaves r) (subst (Each (λ p. p.parameter ≡ false)) (range_leaves occurrence_at r) h) ∙ sym (range_leaves read_at r)) where
       here : (b : Bool) (x : ℕ) (xs : List ℕ) → b ≡ false → x ∷ xs ≡ cond b [] (x ∷ []) ++ xs
       here true x xs i = absurd (true≢false i)
       here false x xs i = refl
@@ -60,8 +61,11 @@ free_occurrences_read r h =
       go (l ∷ ls) k = ap (λ xs. l.variable ∷ xs) (go ls k.1) ∙ here (is_parameter_role l.role) l.variable (flat_map read_at ls) k.0
 
 -- What holds of the variables that occur holds of their new ones in the renamed range.
-pub renamed_occurrences : (H G : ℕ → Type 0) (f : ℕ → ℕ) → ((x : ℕ) → H x → G (f x)) → (r : Range) → Each (λ p. H p.variable) (range_occurrences r) → Each (λ p. G p.variable) (range_occurrences (rename_range f r))
-renamed_occurrences H G f g r h = subst (Each (λ p. G p.variable)) (sym (renamed_leaves occurrence_at f r ∙ range_leaves (λ l. occurrence_at (leaf l.role (f l.variable))) r)) (go (leaves r) (subst (Each (λ p. H p.variable)) (range_leaves occurrence_at r) h)) where
-  go : (ls : List Leaf) → Each (λ p. H p.variable) (flat_map occurrence_at ls) → Each (λ p. G p.variable) (flat_map (λ l. occurrence_at (leaf l.role (f l.variable))) ls)
-  go [] k = tt
-  go (l ∷ ls) k = (g l.variable k.0, go ls k.1)
+pub renamed_occurrences : (H G : ℕ → Type 0) (f : ℕ → ℕ) → ((x : ℕ) → H x → G (f x)) → (r : Range) → Each (λ p. H p.variable) (range_occurrences r)
+    → Each (λ p. G p.variable) (range_occurrences (rename_range f r))
+renamed_occurrences H G f g r h = subst (Each (λ p. G p.variable))
+    (sym (renamed_leaves occurrence_at f r ∙ range_leaves (λ l. occurrence_at (leaf l.role (f l.variable))) r))
+    (go (leaves r) (subst (Each (λ p. H p.variable)) (range_leaves occurrence_at r) h)) where
+      go : (ls : List Leaf) → Each (λ p. H p.variable) (flat_map occurrence_at ls) → Each (λ p. G p.variable) (flat_map (λ l. occurrence_at (leaf l.role (f l.variable))) ls)
+      go [] k = tt
+      go (l ∷ ls) k = (g l.variable k.0, go ls k.1)

@@ -6,10 +6,11 @@ use Rattle.std.proofs.lemmas.Bool.{cases_order}
 use Rattle.fd_language.specs.Term.{Name}
 use Rattle.fd_language.specs.PlacedTerm.{PlacedTerm}
 use Rattle.fd_language.specs.GrammarFaults.{IsRead, IsSyntaxFault, IsTooDeep}
-use Rattle.fd_language.specs.Reading.{terminals, lexeme_place, Sentence, IsSentences, IsSyntaxPlace, IsDeepPlace, sentences, token_fault, syntax_fault, too_deep}
+use Rattle.fd_language.specs.Reading.{terminals, lexeme_place, Sentence, IsSentences, IsSyntaxPlace, IsDeepPlace, sentences, token_fault, syntax_fault}
+use Rattle.fd_language.specs.Reading.{too_deep}
 use Rattle.fd_language.specs.GrammarLaws.{OneVerdictOfReading}
 use Rattle.fd_language.proofs.TokenLaws.{one_list, one_fault, not_both}
-use Rattle.fd_language.proofs.ReadingWhole.{one_reading}
+use Rattle.fd_language.proofs.ReadingCompleteness.{one_reading}
 use Rattle.fd_language.proofs.GrammarVerdict as grammar
 
 abbrev terms_in : List Sentence → List PlacedTerm

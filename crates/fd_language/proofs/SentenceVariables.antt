@@ -1,5 +1,6 @@
 -- The variables of a sentence are those that its term has.
-use Rattle.std.proofs.Common.{◌≡◌, ℕ, suc, ◌+◌, ◌<◌, inl, inr, List, [], ◌∷◌, ◌++◌, length, map, Bool, true, false, Some, cond, refl, sym, ap, subst, ◌∙◌, arith, length-append, append_assoc, eq-eqb}
+use Rattle.std.proofs.Common.{◌≡◌, ℕ, suc, ◌+◌, ◌<◌, inl, inr, List, [], ◌∷◌, ◌++◌, length, map, Bool, true, false, Some, cond, refl, sym, ap, subst, ◌∙◌}
+use Rattle.std.proofs.Common.{arith, length-append, append_assoc, eq-eqb}
 use Rattle.std.specs.Prelude.{reverse, ◌==◌, ◌||◌, not}
 use Rattle.std.specs.List.{position_or_len, list_any, AllByRecursion}
 use Rattle.std.specs.Str.{bytes_eq}
@@ -11,9 +12,13 @@ use Rattle.fd_language.specs.Variables.{variables_of, variables_of_all}
 use Rattle.fd_language.specs.PlacedTerm.{PlacedTerm, PlacedTerms, atom, no_parts, part, plain, all_plain}
 use Rattle.fd_language.specs.Operators.{Operator, is_operator}
 use Rattle.fd_language.specs.Tokens.{Kind, Word, Quoted, Variable, Integer, Punct, Stop, Lexeme}
-use Rattle.fd_language.specs.Terminals.{Terminal, name, operator_word, variable, integer, opens, closes, open_list, close_list, open_curly, close_curly, comma, bar, stop, infix_operator}
-use Rattle.fd_language.specs.Grammar.{nil_name, list_of, Reads, an_integer, a_negative, a_variable, an_atom, empty_list, empty_curly, named_call, operator_call, in_parens, operator_in_parens, a_list, a_list_tail, in_curly, a_prefix, an_infix, Arg, a_term, an_operator, Args, last, more, Sentences, none, next, IsText}
-use Rattle.fd_language.specs.Reading.{is_anonymous, variable_number, with_variable, punct_terminal, terminal_by, terminals, names_by, ended_by, sentence_names, Sentence, IsSentences}
+use Rattle.fd_language.specs.Terminals.{Terminal, name, operator_word, variable, integer, opens, closes, open_list, close_list, open_curly, close_curly, comma}
+use Rattle.fd_language.specs.Terminals.{bar, stop, infix_operator}
+use Rattle.fd_language.specs.Grammar.{nil_name, list_of, Reads, an_integer, a_negative, a_variable, an_atom, empty_list, empty_curly, named_call, operator_call}
+use Rattle.fd_language.specs.Grammar.{in_parens, operator_in_parens, a_list, a_list_tail, in_curly, a_prefix, an_infix, Arg, a_term, an_operator, Args, last}
+use Rattle.fd_language.specs.Grammar.{more, Sentences, none, next, IsText}
+use Rattle.fd_language.specs.Reading.{is_anonymous, variable_number, with_variable, punct_terminal, terminal_by, terminals, names_by, ended_by, sentence_names}
+use Rattle.fd_language.specs.Reading.{Sentence, IsSentences}
 use Rattle.fd_language.specs.Lists.{Each}
 use Rattle.fd_language.proofs.Sets.{has_either, only_member}
 use Rattle.fd_language.proofs.Monotone.{in_left, in_right}
@@ -163,7 +168,8 @@ Fit [] (n ∷ ns) = ⊥
 Fit (v ∷ vs) [] = ⊥
 Fit (v ∷ vs) (n ∷ ns) = AreBelow (length n) v × Fit vs ns
 
-either_shows_none : (b : Bool) (x y : Terminal) (vs : List ℕ) (ts : List Terminal) → in_sentences vs (x ∷ ts) ≡ in_sentences vs ts → in_sentences vs (y ∷ ts) ≡ in_sentences vs ts → in_sentences vs (cond b x y ∷ ts) ≡ in_sentences vs ts
+either_shows_none : (b : Bool) (x y : Terminal) (vs : List ℕ) (ts : List Terminal) → in_sentences vs (x ∷ ts) ≡ in_sentences vs ts
+    → in_sentences vs (y ∷ ts) ≡ in_sentences vs ts → in_sentences vs (cond b x y ∷ ts) ≡ in_sentences vs ts
 either_shows_none true x y vs ts e f = e
 either_shows_none false x y vs ts e f = f
 
@@ -171,7 +177,9 @@ punct_shows_none : (p : ℕ) (tight : Bool) (text : List ℕ) (vs : List ℕ) (t
 punct_shows_none p tight [] vs ts = refl
 punct_shows_none p tight (c ∷ cs) vs ts =
     either_shows_none (c == 40) (opens p tight) _ vs ts refl (either_shows_none (c == 41) closes _ vs ts refl (either_shows_none (c == 91) (open_list p) _ vs ts refl
-    (either_shows_none (c == 93) close_list _ vs ts refl (either_shows_none (c == 123) (open_curly p) _ vs ts refl (either_shows_none (c == 125) close_curly _ vs ts refl (either_shows_none (c == 44) (comma p) bar vs ts refl refl))))))
+    (either_shows_none (c == 93) close_list _ vs ts refl
+    (either_shows_none (c == 123) (open_curly p) _ vs ts refl
+    (either_shows_none (c == 125) close_curly _ vs ts refl (either_shows_none (c == 44) (comma p) bar vs ts refl refl))))))
 
 abbrev Fits : List Lexeme → Type 0
 Fits ls = (names : List Name) (vs : List ℕ) → AreBelow (length names) vs → Fit (in_sentences vs (terminals names ls)) (sentence_names names ls)
@@ -179,7 +187,8 @@ Fits ls = (names : List Name) (vs : List ℕ) → AreBelow (length names) vs →
 token_fits : (k : Kind) (l : Lexeme) (ls : List Lexeme) → Fits ls → (names : List Name) (vs : List ℕ) → AreBelow (length names) vs
     → Fit (in_sentences vs (terminal_by k names l ∷ terminals (names_by k names l.text) ls)) (ended_by k names (sentence_names (names_by k names l.text) ls))
 token_fits Word l ls later names vs h =
-    subst (λ (us : List (List ℕ)). Fit us (sentence_names names ls)) (sym (either_shows_none (is_operator l.text) (operator_word l.place l.text) (name l.place l.text) vs (terminals names ls) refl refl)) (later names vs h)
+    subst (λ (us : List (List ℕ)). Fit us (sentence_names names ls))
+    (sym (either_shows_none (is_operator l.text) (operator_word l.place l.text) (name l.place l.text) vs (terminals names ls) refl refl)) (later names vs h)
 token_fits Quoted l ls later names vs h = later names vs h
 token_fits Variable l ls later names vs h = later (with_variable names l.text) (vs ++ variable_number names l.text ∷ []) (variable_below names l.text vs h)
 token_fits (Integer z) l ls later names vs h = later names vs h

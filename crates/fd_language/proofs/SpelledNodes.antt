@@ -1,16 +1,20 @@
 -- A list of nodes spells a range where its counts come out even.
-use Rattle.std.proofs.Common.{◌≡◌, ◌↔◌, IsTrue, nat_eq, get_or, drop, ℕ, ◌+◌, ◌-◌, ◌<◌, ◌≤◌, Bool, true, false, not, List, [], ◌∷◌, length, Option, Some, None, refl, sym, ◌∙◌, ap, subst, arith}
+use Rattle.std.proofs.Common.{◌≡◌, ◌↔◌, IsTrue, nat_eq, get_or, drop, ℕ, ◌+◌, ◌-◌, ◌<◌, ◌≤◌, Bool, true, false, not, List, [], ◌∷◌, length, Option, Some, None}
+use Rattle.std.proofs.Common.{refl, sym, ◌∙◌, ap, subst, arith}
 use Rattle.std.proofs.lemmas.Bool.{true≢false, not-true, not-false}
 use Rattle.fd_language.specs.declared.range_node.RangeNode.{RangeNode}
 use Rattle.fd_language.specs.declared.range_node.RangeNode.TheVariants as node
 use Rattle.fd_language.specs.Range.{Range, Expr}
-use Rattle.fd_language.specs.Flat.{Shape, term_alone, term_of_terms, range_alone, range_of_term, range_of_terms, range_of_range, range_of_ranges, range_of_both, shape_of, put, built_behind, expr_nodes, range_nodes, nodes_of, built, builds_range, IsSpelled, spelled_range, spelled_range-nodes}
+use Rattle.fd_language.specs.PostfixRanges.{Shape, term_alone, term_of_terms, range_alone, range_of_term, range_of_terms, range_of_range, range_of_ranges}
+use Rattle.fd_language.specs.PostfixRanges.{range_of_both, shape_of, put, built_behind, expr_nodes, range_nodes, nodes_of, built, builds_range, IsSpelled}
+use Rattle.fd_language.specs.PostfixRanges.{spelled_range, spelled_range-nodes}
 use Rattle.std.proofs.lemmas.List.{at_drop_more, drop_all}
 use Rattle.fd_language.specs.Counts.{taken, takes, IsReached}
-use Rattle.fd_language.specs.declared.counting.Operands.{Operands}
+use Rattle.fd_language.specs.declared.operand_counts.Operands.{Operands}
 
 -- a term is built where there are enough terms
-term_put : (s : Shape) (ns : List RangeNode) (rs : List Range) (ts : List Expr) → (taken s).gives_range ≡ false → (taken s).terms ≤ length ts → IsReached (built_behind ns (put s rs ts)) ns (length rs) (length ts - (taken s).terms + 1)
+term_put : (s : Shape) (ns : List RangeNode) (rs : List Range) (ts : List Expr) → (taken s).gives_range ≡ false → (taken s).terms ≤ length ts
+    → IsReached (built_behind ns (put s rs ts)) ns (length rs) (length ts - (taken s).terms + 1)
 term_put (term_alone e) ns rs ts g h = (rs, e ∷ ts, refl, omega arith, refl)
 term_put (term_of_terms make) ns rs [] g h = absurd (omega arith)
 term_put (term_of_terms make) ns rs (b ∷ []) g h = absurd (omega arith)
@@ -76,7 +80,8 @@ stands_behind n = λ rest. refl
 abbrev nodes_then : List Range → List Expr → List RangeNode → List RangeNode
 nodes_then rs ts ns = ranges_then rs (terms_then ts ns)
 
-put_spells : (n : RangeNode) (s : Shape) → StandsBehind n s → (ns : List RangeNode) → ((us : List Range) (vs : List Expr) → Spells (built ns us vs) (nodes_then us vs ns)) → (rs : List Range) (ts : List Expr)
+put_spells : (n : RangeNode) (s : Shape) → StandsBehind n s → (ns : List RangeNode)
+    → ((us : List Range) (vs : List Expr) → Spells (built ns us vs) (nodes_then us vs ns)) → (rs : List Range) (ts : List Expr)
     → Spells (built_behind ns (put s rs ts)) (nodes_then rs ts (n ∷ ns))
 put_spells n (term_alone e) f ns h rs ts = subst (λ l. Spells (built ns rs (e ∷ ts)) (nodes_then rs ts l)) (f ns) (h rs (e ∷ ts))
 put_spells n (term_of_terms make) f ns h rs (b ∷ a ∷ ts) = subst (λ l. Spells (built ns rs (make a b ∷ ts)) (nodes_then rs ts l)) (f a b ns) (h rs (make a b ∷ ts))
@@ -142,14 +147,16 @@ ends_none ns i d ranges terms l (rs, ts, h, g, o) f =
     let e : built ns [] [] ≡ None = o ∙ (at_drop_more (λ ms. built ms rs ts) ns i d l ∙ f (drop (i + 1) ns) rs ts h g) in
     ((λ k. absurd (true≢false (sym k))), (λ s. absurd (not_spelled ns e s)))
 
-at_end : (ns : List RangeNode) (rs : List Range) (ts : List Expr) (b : Bool) → built ns [] [] ≡ built [] rs ts → (b ≡ true → (length rs ≡ 1) × (length ts ≡ 0)) → (length rs ≡ 1 → length ts ≡ 0 → b ≡ true) → IsTrue b ↔ IsSpelled ns
+at_end : (ns : List RangeNode) (rs : List Range) (ts : List Expr) (b : Bool) → built ns [] [] ≡ built [] rs ts → (b ≡ true → (length rs ≡ 1) × (length ts ≡ 0))
+    → (length rs ≡ 1 → length ts ≡ 0 → b ≡ true) → IsTrue b ↔ IsSpelled ns
 at_end ns rs ts true o f g = let k = f refl in let e = ends_even rs ts k.0 k.1 in ((λ h. is_spelled ns e.0 (o ∙ e.1)), (λ s. refl))
 at_end ns rs ts false o f g = ((λ h. absurd (true≢false (sym h))), (λ s. absurd (not_spelled ns (o ∙ ends_odd rs ts (λ h k. true≢false (sym (g h k)))) s)))
 
 two_tests : (r t ranges terms : ℕ) (b : Bool) → r ≡ ranges → t ≡ terms → (b ≡ true → (ranges ≡ 1) × (terms ≡ 0)) → b ≡ true → (r ≡ 1) × (t ≡ 0)
 two_tests r t ranges terms b h g f k = (h ∙ (f k).0, g ∙ (f k).1)
 
-pub ends_all : (ns : List RangeNode) (i : ℕ) (ranges terms : ℕ) (b : Bool) → length ns ≤ i → IsReached (built ns [] []) (drop i ns) ranges terms → (b ≡ true → (ranges ≡ 1) × (terms ≡ 0)) → (ranges ≡ 1 → terms ≡ 0 → b ≡ true) → IsTrue b ↔ IsSpelled ns
+pub ends_all : (ns : List RangeNode) (i : ℕ) (ranges terms : ℕ) (b : Bool) → length ns ≤ i → IsReached (built ns [] []) (drop i ns) ranges terms
+    → (b ≡ true → (ranges ≡ 1) × (terms ≡ 0)) → (ranges ≡ 1 → terms ≡ 0 → b ≡ true) → IsTrue b ↔ IsSpelled ns
 ends_all ns i ranges terms b l (rs, ts, h, g, o) f k =
     at_end ns rs ts b (o ∙ ap (λ ms. built ms rs ts) (drop_all i ns l)) (two_tests (length rs) (length ts) ranges terms b h g f) (λ x y. k (sym h ∙ x) (sym g ∙ y))
 

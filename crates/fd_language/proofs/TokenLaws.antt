@@ -1,12 +1,18 @@
 -- Each text has one list of tokens or one first fault.
-use Rattle.std.proofs.Common.{◌≡◌, ◌∙◌, ℕ, zero, suc, ◌+◌, ◌<◌, ◌≤◌, ◌⊎◌, inl, inr, List, [], ◌∷◌, Bool, true, false, cond, refl, sym, ap, subst, arith, length, drop, take, length-drop}
+use Rattle.std.proofs.Common.{◌≡◌, ◌∙◌, ℕ, zero, suc, ◌+◌, ◌<◌, ◌≤◌, ◌⊎◌, inl, inr, List, [], ◌∷◌, Bool, true, false, cond, refl, sym, ap, subst, arith, length}
+use Rattle.std.proofs.Common.{drop, take, length-drop}
 use Rattle.std.specs.Prelude.{nat_le, nat_lt, ◌==◌, ◌&&◌, ◌*◌}
 use Rattle.std.specs.Str.{chars}
 use Rattle.std.specs.Char.{len_utf8, digit_value}
 use Rattle.std.proofs.lemmas.Str.{chars-nil, len_utf8_bounds}
 use Rattle.unicode_ident.specs.Ident.{is_xid_start, is_xid_continue}
-use Rattle.fd_language.specs.Characters.{is_layout, is_symbol, is_solo, is_punct, begins_variable, not_newline, is_digit_of, starts_with, tail, run_size, past_run, digits_value}
-use Rattle.fd_language.specs.Tokens.{Kind, Word, Variable, Punct, Stop, Cause, BadCharacter, FloatOut, StringOut, base_at, has_base, has_fraction, ends_stop, Lexeme, Front, Ends, Gap, Token, Offends, greatest_integer, number_front, based_front, decimal_front, integer_front, comment_front, Inside, Between, AfterQuote, AfterBackslash, AfterDigits, Past, Broken, OpenQuote, BadEscape, is_escape, names_character, inside, quoted_end, quoted_front, front_at, front_by, front_of, HasTokens, ended, after_gap, after_token, HasFault, here, past_gap, past_token, OneVerdict}
+use Rattle.fd_language.specs.Characters.{is_layout, is_symbol, is_solo, is_punct, begins_variable, not_newline, is_digit_of, starts_with, tail, run_size}
+use Rattle.fd_language.specs.Characters.{past_run, digits_value}
+use Rattle.fd_language.specs.Tokens.{Kind, Word, Variable, Punct, Stop, Cause, BadCharacter, FloatOut, StringOut, base_at, has_base, has_fraction, ends_stop}
+use Rattle.fd_language.specs.Tokens.{Lexeme, Front, Ends, Gap, Token, Offends, greatest_integer, number_front, based_front, decimal_front, integer_front}
+use Rattle.fd_language.specs.Tokens.{comment_front, Inside, Between, AfterQuote, AfterBackslash, AfterDigits, Past, Broken, OpenQuote, BadEscape, is_escape}
+use Rattle.fd_language.specs.Tokens.{names_character, inside, quoted_end, quoted_front, front_at, front_by, front_of, HasTokens, ended, after_gap, after_token}
+use Rattle.fd_language.specs.Tokens.{HasFault, here, past_gap, past_token, OneVerdict}
 
 -- ---- what is at the front has at least one byte
 
@@ -62,9 +68,11 @@ broken : (cause : Cause) (n : ℕ) → IsPast (Broken cause n)
 broken cause n = record { by = tt }
 
 inside_grows : (place : Inside) (n c : ℕ) → 0 < n → IsPast place → IsPast (inside place n c)
-inside_grows Between n c h w = either_past (c == 39) AfterQuote _ (record { by = tt }) (either_past (c == 92) (AfterBackslash n) _ (record { by = tt }) (either_past (c == 10) (Broken OpenQuote 0) Between (broken OpenQuote 0) between))
+inside_grows Between n c h w = either_past (c == 39) AfterQuote _ (record { by = tt })
+    (either_past (c == 92) (AfterBackslash n) _ (record { by = tt }) (either_past (c == 10) (Broken OpenQuote 0) Between (broken OpenQuote 0) between))
 inside_grows AfterQuote n c h w = either_past (c == 39) Between (Past n) between (record { by = h })
-inside_grows (AfterBackslash from) n c h w = either_past (is_escape c) Between _ between (either_past (c == 120) (AfterDigits from 0 0) (Broken BadEscape from) (record { by = tt }) (broken BadEscape from))
+inside_grows (AfterBackslash from) n c h w = either_past (is_escape c) Between _ between
+    (either_past (c == 120) (AfterDigits from 0 0) (Broken BadEscape from) (record { by = tt }) (broken BadEscape from))
 inside_grows (AfterDigits from k v) n c h w =
     either_past (is_digit_of 16 c && nat_lt k 6) (AfterDigits from (k + 1) (v * 16 + digit_value c)) _ (record { by = tt })
     (either_past (names_character k v c) Between (Broken BadEscape from) between (broken BadEscape from))
@@ -191,11 +199,13 @@ not_both (ended e) (here c n e2) = cc
 not_both (ended e) (past_gap n e2 h2) = cc
 not_both (ended e) (past_token k n e2 h2) = cc
 not_both (after_gap n e h) (here c m e2) = cc
-not_both {at = at} {place = place} {bytes = bytes} {cause = cause} (after_gap n e h) (past_gap m e2 h2) = let same : m ≡ n = cc in not_both h (subst (λ (i : ℕ). HasFault (at + i) (drop i bytes) cause place) same h2)
+not_both {at = at} {place = place} {bytes = bytes} {cause = cause} (after_gap n e h) (past_gap m e2 h2) = let same : m ≡ n = cc in
+    not_both h (subst (λ (i : ℕ). HasFault (at + i) (drop i bytes) cause place) same h2)
 not_both (after_gap n e h) (past_token k m e2 h2) = cc
 not_both (after_token k n e h) (here c m e2) = cc
 not_both (after_token k n e h) (past_gap m e2 h2) = cc
-not_both {at = at} {place = place} {bytes = bytes} {cause = cause} (after_token k n e h) (past_token k2 m e2 h2) = let same : m ≡ n = cc in not_both h (subst (λ (i : ℕ). HasFault (at + i) (drop i bytes) cause place) same h2)
+not_both {at = at} {place = place} {bytes = bytes} {cause = cause} (after_token k n e h) (past_token k2 m e2 h2) = let same : m ≡ n = cc in
+    not_both h (subst (λ (i : ℕ). HasFault (at + i) (drop i bytes) cause place) same h2)
 
 -- nor two first faults
 pub one_fault : {at p q : ℕ} {bytes : List ℕ} {c d : Cause} → HasFault at bytes c p → HasFault at bytes d q → (c ≡ d) × (p ≡ q)
@@ -207,7 +217,8 @@ one_fault {at = at} {q = q} {bytes = bytes} {d = d} (past_gap n e h) (past_gap m
 one_fault (past_gap n e h) (past_token k m e2 h2) = absurd (cc)
 one_fault (past_token k n e h) (here d m e2) = absurd (cc)
 one_fault (past_token k n e h) (past_gap m e2 h2) = absurd (cc)
-one_fault {at = at} {q = q} {bytes = bytes} {d = d} (past_token k n e h) (past_token k2 m e2 h2) = let same : m ≡ n = cc in one_fault h (subst (λ (i : ℕ). HasFault (at + i) (drop i bytes) d q) same h2)
+one_fault {at = at} {q = q} {bytes = bytes} {d = d} (past_token k n e h) (past_token k2 m e2 h2) = let same : m ≡ n = cc in
+    one_fault h (subst (λ (i : ℕ). HasFault (at + i) (drop i bytes) d q) same h2)
 
 pub one_verdict : OneVerdict
 one_verdict = record {

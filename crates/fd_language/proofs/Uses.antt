@@ -6,7 +6,7 @@ use Rattle.fd_language.specs.declared.range_node.RangeNode.{RangeNode}
 use Rattle.fd_language.specs.declared.range_node.Offence.{Offence}
 use Rattle.fd_language.specs.Family.{has}
 use Rattle.fd_language.specs.Range.{Range, Leaf, leaf_of, from_leaf, from_node, is_parameter_role, reads, read_at, params, param_at}
-use Rattle.fd_language.specs.Flat.{nodes_of}
+use Rattle.fd_language.specs.PostfixRanges.{nodes_of}
 use Rattle.fd_language.specs.RangeVerdict.{where_first_clash, leaf_clashes, clashes, has_one_use}
 use Rattle.std.specs.Prelude.{flat_map, Option, Some, None}
 use Rattle.std.proofs.lemmas.List.{append-nil}
@@ -65,7 +65,9 @@ module _ (at : ℕ → ℕ) where
   unfolding Apart
   forward [] n ps ys a h = a
   forward (m ∷ ns) n ps ys a h = by_leaf (forward ns (suc n)) (leaf_of m) h where
-    by_kind : ((qs zs : List ℕ) → Apart qs zs → nil (behind n ns qs zs) ≡ true → Apart (node_params ns ++ qs) (node_reads ns ++ zs)) → (b : Bool) (x : ℕ) → nil (cond b (where_first_clash (has ys x) (has ps x) (at n) ++ behind n ns (x ∷ ps) ys) (where_first_clash (has ps x) (has ys x) (at n) ++ behind n ns ps (x ∷ ys))) ≡ true
+    by_kind : ((qs zs : List ℕ) → Apart qs zs → nil (behind n ns qs zs) ≡ true → Apart (node_params ns ++ qs) (node_reads ns ++ zs)) → (b : Bool) (x : ℕ)
+        → nil (cond b (where_first_clash (has ys x) (has ps x) (at n) ++ behind n ns (x ∷ ps) ys)
+        (where_first_clash (has ps x) (has ys x) (at n) ++ behind n ns ps (x ∷ ys))) ≡ true
         → Apart ((cond b (x ∷ []) [] ++ node_params ns) ++ ps) ((cond b [] (x ∷ []) ++ node_reads ns) ++ ys)
     by_kind more true x h =
         let c = no_clash (has ys x) (has ps x) (at n) (behind n ns (x ∷ ps) ys) h in
@@ -74,7 +76,9 @@ module _ (at : ℕ → ℕ) where
         let c = no_clash (has ps x) (has ys x) (at n) (behind n ns ps (x ∷ ys)) h in
         λ z i j. more ps (x ∷ ys) (turned (x ∷ ys) ps (added x ys ps (turned ps ys a) c.0)) c.1 z i (later x z (node_reads ns) ys j)
 
-    by_leaf : ((qs zs : List ℕ) → Apart qs zs → nil (behind n ns qs zs) ≡ true → Apart (node_params ns ++ qs) (node_reads ns ++ zs)) → (o : Option Leaf) → nil (leaf_clashes (at n) ps ys o (behind n ns)) ≡ true → Apart ((from_leaf param_at o ++ node_params ns) ++ ps) ((from_leaf read_at o ++ node_reads ns) ++ ys)
+    by_leaf : ((qs zs : List ℕ) → Apart qs zs → nil (behind n ns qs zs) ≡ true → Apart (node_params ns ++ qs) (node_reads ns ++ zs)) → (o : Option Leaf)
+        → nil (leaf_clashes (at n) ps ys o (behind n ns)) ≡ true
+        → Apart ((from_leaf param_at o ++ node_params ns) ++ ps) ((from_leaf read_at o ++ node_reads ns) ++ ys)
     by_leaf more None h = more ps ys a h
     by_leaf more (Some l) h = by_kind more (is_parameter_role l.role) l.variable h
 
@@ -82,7 +86,8 @@ module _ (at : ℕ → ℕ) where
   unfolding Apart
   backward [] n ps ys a = refl
   backward (m ∷ ns) n ps ys a = by_leaf (backward ns (suc n)) (leaf_of m) a where
-    by_kind : ((qs zs : List ℕ) → Apart (node_params ns ++ qs) (node_reads ns ++ zs) → nil (behind n ns qs zs) ≡ true) → (b : Bool) (x : ℕ) → Apart ((cond b (x ∷ []) [] ++ node_params ns) ++ ps) ((cond b [] (x ∷ []) ++ node_reads ns) ++ ys)
+    by_kind : ((qs zs : List ℕ) → Apart (node_params ns ++ qs) (node_reads ns ++ zs) → nil (behind n ns qs zs) ≡ true) → (b : Bool) (x : ℕ)
+        → Apart ((cond b (x ∷ []) [] ++ node_params ns) ++ ps) ((cond b [] (x ∷ []) ++ node_reads ns) ++ ys)
         → nil (cond b (where_first_clash (has ys x) (has ps x) (at n) ++ behind n ns (x ∷ ps) ys) (where_first_clash (has ps x) (has ys x) (at n) ++ behind n ns ps (x ∷ ys))) ≡ true
     by_kind more true x a = clash_free (has ys x) (has ps x) (at n) (behind n ns (x ∷ ps) ys)
         (λ e. a x (or_left (x == x) (has (node_params ns ++ ps) x) (eq-eqb x x refl)) (in_right (node_reads ns) ys x e))
@@ -91,7 +96,9 @@ module _ (at : ℕ → ℕ) where
         (λ e. a x (in_right (node_params ns) ps x e) (or_left (x == x) (has (node_reads ns ++ ys) x) (eq-eqb x x refl)))
         (more ps (x ∷ ys) (λ z i j. a z i (sooner x z (node_reads ns) ys j)))
 
-    by_leaf : ((qs zs : List ℕ) → Apart (node_params ns ++ qs) (node_reads ns ++ zs) → nil (behind n ns qs zs) ≡ true) → (o : Option Leaf) → Apart ((from_leaf param_at o ++ node_params ns) ++ ps) ((from_leaf read_at o ++ node_reads ns) ++ ys) → nil (leaf_clashes (at n) ps ys o (behind n ns)) ≡ true
+    by_leaf : ((qs zs : List ℕ) → Apart (node_params ns ++ qs) (node_reads ns ++ zs) → nil (behind n ns qs zs) ≡ true) → (o : Option Leaf)
+        → Apart ((from_leaf param_at o ++ node_params ns) ++ ps) ((from_leaf read_at o ++ node_reads ns) ++ ys)
+        → nil (leaf_clashes (at n) ps ys o (behind n ns)) ≡ true
     by_leaf more None a = more ps ys a
     by_leaf more (Some l) a = by_kind more (is_parameter_role l.role) l.variable a
 
@@ -113,10 +120,11 @@ all_apart (x ∷ xs) ys h = λ z i j. elim (or_cases (x == z) (has xs z) i) [
 apart_all : (xs ys : List ℕ) → Apart xs ys → list_all (λ x. not (has ys x)) xs ≡ true
 unfolding Apart
 apart_all [] ys a = refl
-apart_all (x ∷ xs) ys a = both (has ys x) (list_all (λ k. not (has ys k)) xs) (λ e. a x (or_left (x == x) (has xs x) (eq-eqb x x refl)) e) (apart_all xs ys (λ z i j. a z (or_right (x == z) (has xs z) i) j)) where
-  both : (b c : Bool) → (b ≡ true → ⊥) → c ≡ true → (not b && c) ≡ true
-  both true c f h = absurd (f refl)
-  both false c f h = h
+apart_all (x ∷ xs) ys a = both (has ys x) (list_all (λ k. not (has ys k)) xs) (λ e. a x (or_left (x == x) (has xs x) (eq-eqb x x refl)) e)
+    (apart_all xs ys (λ z i j. a z (or_right (x == z) (has xs z) i) j)) where
+      both : (b c : Bool) → (b ≡ true → ⊥) → c ≡ true → (not b && c) ≡ true
+      both true c f h = absurd (f refl)
+      both false c f h = h
 
 none : Apart [] []
 unfolding Apart
@@ -137,5 +145,6 @@ one_use at r h =
 pub one_use_back : (at : ℕ → ℕ) (r : Range) → has_one_use r ≡ true → nil (clashes at 0 [] [] (nodes_of r)) ≡ true
 one_use_back at r h =
     let b : Apart (params r) (reads r) = all_apart (params r) (reads r) h in
-    let a : Apart (node_params (nodes_of r) ++ []) (node_reads (nodes_of r) ++ []) = subst (λ l. Apart l (node_reads (nodes_of r) ++ [])) (sym (all_params r)) (subst (λ l. Apart (params r) l) (sym (all_reads r)) b) in
+    let a : Apart (node_params (nodes_of r) ++ []) (node_reads (nodes_of r) ++ []) = subst (λ l. Apart l (node_reads (nodes_of r) ++ [])) (sym (all_params r))
+    (subst (λ l. Apart (params r) l) (sym (all_reads r)) b) in
     backward at (nodes_of r) 0 [] [] a

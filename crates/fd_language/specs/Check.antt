@@ -1,6 +1,7 @@
 -- The direction table, on trees and without places.
 use Rattle.std.specs.Prelude.{ℕ, Bool, true, false, ◌||◌, ◌&&◌, not, if◌then◌else◌, ℤ, pos, negsuc, int_le, []}
-use Rattle.fd_language.specs.Range.{Expr, Number, Param, Min, Max, Val, Add, Sub, Mul, DivDown, DivUp, Range, Span, One, Dom, Union, Inter, Outside, Plus, Minus, Times, Over, value}
+use Rattle.fd_language.specs.Range.{Expr, Number, Param, Min, Max, Val, Add, Sub, Mul, DivDown, DivUp, Range, Span, One, Dom, Union, Inter, Outside, Plus}
+use Rattle.fd_language.specs.Range.{Minus, Times, Over, value}
 use Rattle.fd_language.specs.Needs.{is_literal}
 use Rattle.fd_language.specs.NewLeaves.{NewLeaves, new_expr, new_range}
 

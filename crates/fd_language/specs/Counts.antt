@@ -1,9 +1,10 @@
 -- How many ranges and terms wait for their operators in a list of nodes.
 use Rattle.std.specs.Prelude.{◌≡◌, ℕ, true, false, List, length, Option}
 use Rattle.fd_language.specs.declared.range_node.RangeNode.{RangeNode}
-use Rattle.fd_language.specs.declared.counting.Operands.{Operands}
+use Rattle.fd_language.specs.declared.operand_counts.Operands.{Operands}
 use Rattle.fd_language.specs.Range.{Range, Expr}
-use Rattle.fd_language.specs.Flat.{Shape, term_alone, term_of_terms, range_alone, range_of_term, range_of_terms, range_of_range, range_of_ranges, range_of_both, shape_of, built}
+use Rattle.fd_language.specs.PostfixRanges.{Shape, term_alone, term_of_terms, range_alone, range_of_term, range_of_terms, range_of_range, range_of_ranges}
+use Rattle.fd_language.specs.PostfixRanges.{range_of_both, shape_of, built}
 
 -- how many ranges and terms a node of the shape takes, and whether it gives a range
 abbrev pub taken : Shape → Operands

@@ -3,7 +3,8 @@ use Rattle.std.specs.Prelude.{◌≡◌, ℕ, ℤ, ◌≤◌, neg_ℤ, List, [],
 use Rattle.fd_language.specs.Term.{Name}
 use Rattle.fd_language.specs.PlacedTerm.{PlacedTerm, PlacedTerms, var, int, atom, comp, no_parts, part, one, two}
 use Rattle.fd_language.specs.Operators.{Operator, left_limit, right_limit, prefix_of}
-use Rattle.fd_language.specs.Terminals.{Terminal, name, operator_word, variable, integer, opens, closes, open_list, close_list, open_curly, close_curly, comma, bar, stop, infix_operator, token_place, is_minus, may_follow}
+use Rattle.fd_language.specs.Terminals.{Terminal, name, operator_word, variable, integer, opens, closes, open_list, close_list, open_curly, close_curly, comma}
+use Rattle.fd_language.specs.Terminals.{bar, stop, infix_operator, token_place, is_minus, may_follow}
 
 abbrev pub nil_name : Name
 nil_name = codes "[]"
@@ -35,8 +36,10 @@ mutual
     a_list : {p : ℕ} {ts rest : List Terminal} {xs : PlacedTerms} → Args ts (close_list ∷ rest) xs → Reads (open_list p ∷ ts) rest 0 (list_of p xs (atom nil_name p))
     a_list_tail : {p : ℕ} {ts us rest : List Terminal} {xs : PlacedTerms} {t : PlacedTerm} → Args ts (bar ∷ us) xs → Arg us (close_list ∷ rest) t → Reads (open_list p ∷ ts) rest 0 (list_of p xs t)
     in_curly : {p q : ℕ} {ts rest : List Terminal} {t : PlacedTerm} → Reads ts (close_curly ∷ rest) q t → q ≤ 1200 → Reads (open_curly p ∷ ts) rest 0 (comp curly_name p (one t))
-    a_prefix : {p q : ℕ} {o : Name} {ts rest : List Terminal} {t : PlacedTerm} → (f : Operator) → prefix_of o ≡ Some f → may_follow o ts ≡ true → Reads ts rest q t → q ≤ right_limit f → Reads (operator_word p o ∷ ts) rest f.priority (comp o p (one t))
-    an_infix : {x : Terminal} {ts us rest : List Terminal} {q r : ℕ} {a b : PlacedTerm} → (f : Operator) → infix_operator x ≡ Some f → Reads ts (x ∷ us) q a → q ≤ left_limit f → Reads us rest r b → r ≤ right_limit f → Reads ts rest f.priority (comp f.name (token_place x) (two a b))
+    a_prefix : {p q : ℕ} {o : Name} {ts rest : List Terminal} {t : PlacedTerm} → (f : Operator) → prefix_of o ≡ Some f → may_follow o ts ≡ true
+        → Reads ts rest q t → q ≤ right_limit f → Reads (operator_word p o ∷ ts) rest f.priority (comp o p (one t))
+    an_infix : {x : Terminal} {ts us rest : List Terminal} {q r : ℕ} {a b : PlacedTerm} → (f : Operator) → infix_operator x ≡ Some f → Reads ts (x ∷ us) q a
+        → q ≤ left_limit f → Reads us rest r b → r ≤ right_limit f → Reads ts rest f.priority (comp f.name (token_place x) (two a b))
 
   -- an argument of a call, an element of a list, or its tail
   pub data Arg : List Terminal → List Terminal → PlacedTerm → Type 0 where

@@ -10,10 +10,10 @@ pub mod Family
 pub mod SingleValues
 pub mod Range
 pub mod Needs
-pub mod Writing
+pub mod TermTexts
 pub mod Check
 pub mod RangeVerdict
-pub mod Flat
+pub mod PostfixRanges
 pub mod Counts
 pub mod EvaluatedValues
 pub mod CheckLaws

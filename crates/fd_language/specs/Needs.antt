@@ -1,9 +1,11 @@
 -- The needs of a range's parameters, and the integers that meet them.
-use Rattle.std.specs.Prelude.{ℕ, ◌^◌, Bool, true, false, ◌||◌, ◌&&◌, not, ◌==◌, if◌then◌else◌, ℤ, pos, int_le, nat_lt, nat_abs, List, [], ◌∷◌, ◌++◌, map, filter}
+use Rattle.std.specs.Prelude.{ℕ, ◌^◌, Bool, true, false, ◌||◌, ◌&&◌, not, ◌==◌, if◌then◌else◌, ℤ, pos, int_le, nat_lt, nat_abs, List, [], ◌∷◌, ◌++◌, map}
+use Rattle.std.specs.Prelude.{filter}
 use Rattle.std.specs.List.{list_all}
 use Rattle.fd_language.specs.declared.range_node.Need.{Need}
 use Rattle.fd_language.specs.declared.range_node.Need.TheVariants.{Whole, Natural, Divisor}
-use Rattle.fd_language.specs.Range.{Range, Span, One, Dom, Union, Inter, Outside, Plus, Minus, Times, Over, Expr, Number, Infinity, Param, Add, Sub, Mul, DivDown, DivUp}
+use Rattle.fd_language.specs.Range.{Range, Span, One, Dom, Union, Inter, Outside, Plus, Minus, Times, Over, Expr, Number, Infinity, Param, Add, Sub, Mul}
+use Rattle.fd_language.specs.Range.{DivDown, DivUp}
 
 -- Whether an integer meets a need. Each need asks for a magnitude of at most 2^63 - 1.
 abbrev pub meets : Need → ℤ → Bool

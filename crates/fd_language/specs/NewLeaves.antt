@@ -1,6 +1,7 @@
 -- Ranges with something else in place of the leaves that name variables.
 use Rattle.std.specs.Prelude.{ℕ}
-use Rattle.fd_language.specs.Range.{Range, Span, One, Dom, Union, Inter, Outside, Plus, Minus, Times, Over, Expr, Number, Infinity, Param, Min, Max, Val, Add, Sub, Mul, DivDown, DivUp}
+use Rattle.fd_language.specs.Range.{Range, Span, One, Dom, Union, Inter, Outside, Plus, Minus, Times, Over, Expr, Number, Infinity, Param, Min, Max, Val, Add}
+use Rattle.fd_language.specs.Range.{Sub, Mul, DivDown, DivUp}
 
 -- what becomes of a parameter, of min, max and val, and of the variable of dom
 pub record NewLeaves : Type 0 where

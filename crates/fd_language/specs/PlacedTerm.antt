@@ -26,7 +26,8 @@ two a b = part a (part b no_parts)
 abbrev pub with_last : PlacedTerms → PlacedTerm → PlacedTerms
 with_last xs t = append xs (one t)
 
--- the place of the principal token: the operator of an operator term, the name of a functional term, the bracket of a list or curly term, the - of a negative number, the token itself otherwise
+-- the place of the principal token: the operator of an operator term, the name of a functional term, the bracket of a list or curly term, the - of a negative
+-- number, the token itself otherwise
 abbrev pub place : PlacedTerm → ℕ
 place (var n p) = p
 place (int z p) = p

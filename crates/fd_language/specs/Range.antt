@@ -1,5 +1,6 @@
 -- Value and Set. Ranges, the values of their terms and their sets.
-use Rattle.std.specs.Prelude.{ℕ, zero, suc, ◌/◌, Bool, true, false, ◌||◌, ◌&&◌, not, if◌then◌else◌, ℤ, pos, negsuc, ◌+ℤ◌, ◌-ℤ◌, ◌*ℤ◌, neg_ℤ, int_le, List, [], ◌∷◌, ◌++◌, filter, max, Option, Some, None}
+use Rattle.std.specs.Prelude.{ℕ, zero, suc, ◌/◌, Bool, true, false, ◌||◌, ◌&&◌, not, if◌then◌else◌, ℤ, pos, negsuc, ◌+ℤ◌, ◌-ℤ◌, ◌*ℤ◌, neg_ℤ, int_le, List, []}
+use Rattle.std.specs.Prelude.{◌∷◌, ◌++◌, filter, max, Option, Some, None}
 use Rattle.std.specs.List.{list_any}
 use Rattle.std.specs.Ordering.{int_eq}
 use Rattle.fd_language.specs.Family.{Family, has, universe}
@@ -107,7 +108,8 @@ pub record Leaf : Type 0 where
 abbrev pub leaf : Role → ℕ → Leaf
 leaf role y = record { variable = y; role = role }
 
--- A walk over a term or a range from its leaves up: what is made of a leaf, and what of the operands' at a node of one and of two. A node is as it stands in postfix order.
+-- A walk over a term or a range from its leaves up: what is made of a leaf, and what of the operands' at a node of one and of two. A node is as it stands in
+-- postfix order.
 pub record Walk (X : Type 0) : Type 0 where
   pub at_leaf : RangeNode → X
   pub at_one : RangeNode → X → X

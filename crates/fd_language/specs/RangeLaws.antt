@@ -3,7 +3,7 @@ use Rattle.std.specs.Prelude.{◌≡◌, length, flat_map, filter_map}
 use Rattle.fd_language.specs.Range.{Range, leaves, leaf_of, reads, read_at, vals, val_at, params, param_at}
 use Rattle.fd_language.specs.Occurrences.{range_occurrences, occurrence_at}
 use Rattle.fd_language.specs.Features.{range_features, feature_at, node_features}
-use Rattle.fd_language.specs.Flat.{nodes_of}
+use Rattle.fd_language.specs.PostfixRanges.{nodes_of}
 use Rattle.fd_language.specs.RangeVerdict.{range_size}
 
 -- What a range reads, its vals, its parameters, the occurrences of its variables and its features are filters of the list of its leaves, in text order.

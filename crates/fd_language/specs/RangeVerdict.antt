@@ -1,16 +1,19 @@
 -- The verdict on a range: which node is refused first, and why.
-use Rattle.std.specs.Prelude.{ℕ, suc, ◌+◌, ◌-◌, ◌*◌, ◌^◌, max, Bool, true, false, ◌||◌, ◌&&◌, not, ◌==◌, if◌then◌else◌, ℤ, pos, negsuc, int_le, nat_lt, nat_abs, List, [], ◌∷◌, ◌++◌, Option, Some, None, slice_index}
+use Rattle.std.specs.Prelude.{ℕ, suc, ◌+◌, ◌-◌, ◌*◌, ◌^◌, max, Bool, true, false, ◌||◌, ◌&&◌, not, ◌==◌, if◌then◌else◌, ℤ, pos, negsuc, int_le, nat_lt, nat_abs}
+use Rattle.std.specs.Prelude.{List, [], ◌∷◌, ◌++◌, Option, Some, None, slice_index}
 use Rattle.std.specs.List.{list_all}
 use Rattle.fd_language.specs.declared.range_node.RangeNode.{RangeNode}
 use Rattle.fd_language.specs.declared.range_node.Offence.{Offence}
 use Rattle.fd_language.specs.declared.range_node.Offence.TheVariants.{NotMonotone, NotNatural, BadDivisor, TooWide}
 use Rattle.fd_language.specs.Family.{has}
-use Rattle.fd_language.specs.Range.{Range, Span, One, Dom, Union, Inter, Outside, Plus, Minus, Times, Over, Expr, Number, Infinity, Param, Min, Max, Val, Add, Sub, Mul, DivDown, DivUp, Leaf, Walk, walk_expr, walk_range, is_parameter_role, leaf_of, reads, params}
+use Rattle.fd_language.specs.Range.{Range, Span, One, Dom, Union, Inter, Outside, Plus, Minus, Times, Over, Expr, Number, Infinity, Param, Min, Max, Val, Add}
+use Rattle.fd_language.specs.Range.{Sub, Mul, DivDown, DivUp, Leaf, Walk, walk_expr, walk_range, is_parameter_role, leaf_of, reads, params}
 use Rattle.fd_language.specs.Needs.{is_literal}
 use Rattle.fd_language.specs.Check.{Wish, Rising, Falling, Constant, turn, is_rising, is_falling, literal_value, is_parameter, range_fits}
-use Rattle.fd_language.specs.Flat.{nodes_of}
+use Rattle.fd_language.specs.PostfixRanges.{nodes_of}
 
--- How many nodes there are. The node of an operator stands behind those of its operands, so where it has the number n, its last operand has n - 1, and an operand before that of k nodes has n - 1 - k.
+-- How many nodes there are. The node of an operator stands behind those of its operands, so where it has the number n, its last operand has n - 1, and an
+-- operand before that of k nodes has n - 1 - k.
 abbrev pub counting : Walk ℕ
 counting = record { at_leaf = λ n. 1; at_one = λ n a. suc a; at_two = λ n a b. suc (a + b) }
 

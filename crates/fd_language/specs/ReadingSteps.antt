@@ -1,10 +1,12 @@
--- A text read from left to right: a stack of what is begun, what may come next, and the step that each token makes. Grammar says what a text is; these steps decide it.
+-- A text read from left to right: a stack of what is begun, what may come next, and the step that each token makes. Grammar says what a text is; these steps
+-- decide it.
 use Rattle.std.specs.Prelude.{ℕ, ℤ, pos, neg_ℤ, List, [], ◌∷◌, Bool, true, false, Option, Some, None, ◌||◌, nat_le, nat_lt, if◌then◌else◌, option_and_then}
 use Rattle.fd_language.specs.Grammar.{nil_name, curly_name, list_of}
 use Rattle.fd_language.specs.Term.{Name}
 use Rattle.fd_language.specs.PlacedTerm.{PlacedTerm, PlacedTerms, var, int, atom, comp, no_parts, one, two, with_last}
 use Rattle.fd_language.specs.Operators.{Operator, left_limit, right_limit, prefix_of}
-use Rattle.fd_language.specs.Terminals.{Terminal, name, operator_word, variable, integer, opens, closes, open_list, close_list, open_curly, close_curly, comma, bar, stop, infix_operator, token_place, is_tight_open, is_negated}
+use Rattle.fd_language.specs.Terminals.{Terminal, name, operator_word, variable, integer, opens, closes, open_list, close_list, open_curly, close_curly, comma}
+use Rattle.fd_language.specs.Terminals.{bar, stop, infix_operator, token_place, is_tight_open, is_negated}
 
 pub data Stack : Type 0 where
   top : List PlacedTerm → Stack

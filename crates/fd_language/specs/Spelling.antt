@@ -1,9 +1,11 @@
--- The range that a term spells, with a place for each node, or what fits nowhere in it. The word `infinity` of a text is a number N, the greatest that a variable may have.
+-- The range that a term spells, with a place for each node, or what fits nowhere in it. The word `infinity` of a text is a number N, the greatest that a
+-- variable may have.
 use Rattle.std.specs.Prelude.{ℕ, pos, min, Bool, true, false, if◌then◌else◌, List, [], ◌∷◌, ◌++◌, Option, Some, None, codes}
 use Rattle.std.specs.Str.{bytes_eq}
 use Rattle.fd_language.specs.Term.{Name}
 use Rattle.fd_language.specs.PlacedTerm.{PlacedTerm, var, int, atom, comp, no_parts, part}
-use Rattle.fd_language.specs.Range.{Range, Span, One, Dom, Union, Inter, Outside, Plus, Minus, Times, Over, Expr, Number, Infinity, Param, Min, Max, Val, Add, Sub, Mul, DivDown, DivUp}
+use Rattle.fd_language.specs.Range.{Range, Span, One, Dom, Union, Inter, Outside, Plus, Minus, Times, Over, Expr, Number, Infinity, Param, Min, Max, Val, Add}
+use Rattle.fd_language.specs.Range.{Sub, Mul, DivDown, DivUp}
 
 -- What is read: the value with the places of its nodes in postfix order, which hold where no subterm offends, and the places of the subterms that fit nowhere.
 pub record Parsed (A : Type 0) : Type 0 where

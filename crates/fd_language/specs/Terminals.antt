@@ -4,7 +4,9 @@ use Rattle.std.specs.Str.{bytes_eq}
 use Rattle.fd_language.specs.Term.{Name}
 use Rattle.fd_language.specs.Operators.{Operator, operator_row, right_associative, infix_of}
 
--- A token with its place in the text, where a reading shows it: a Word that is no operator, or a Quoted, with the bytes of its characters; a Word that is an operator; a Variable with its number; an Integer, and an opening parenthesis, each with whether it is tight; the other brackets, the comma, the bar, and Stop.
+-- A token with its place in the text, where a reading shows it: a Word that is no operator, or a Quoted, with the bytes of its characters; a Word that is an
+-- operator; a Variable with its number; an Integer, and an opening parenthesis, each with whether it is tight; the other brackets, the comma, the bar, and
+-- Stop.
 pub data Terminal : Type 0 where
   name : ℕ → Name → Terminal
   operator_word : ℕ → Name → Terminal

@@ -1,10 +1,12 @@
 -- Tokens. The tokens of a text, or its first fault. A text is a list of bytes in UTF-8; sizes and places are in bytes.
-use Rattle.std.specs.Prelude.{◌≡◌, ℕ, ◌+◌, ◌*◌, ℤ, pos, List, [], ◌∷◌, ◌++◌, Bool, true, false, ◌==◌, ◌||◌, ◌&&◌, ◌⊎◌, nat_le, nat_lt, if◌then◌else◌, take, drop}
+use Rattle.std.specs.Prelude.{◌≡◌, ℕ, ◌+◌, ◌*◌, ℤ, pos, List, [], ◌∷◌, ◌++◌, Bool, true, false, ◌==◌, ◌||◌, ◌&&◌, ◌⊎◌, nat_le, nat_lt, if◌then◌else◌, take}
+use Rattle.std.specs.Prelude.{drop}
 use Rattle.std.specs.Char.{len_utf8, digit_value}
 use Rattle.std.specs.Str.{chars, encode_utf8_all}
 use lib.Utf8.{scalar}
 use Rattle.unicode_ident.specs.Ident.{is_xid_start, is_xid_continue}
-use Rattle.fd_language.specs.Characters.{is_layout, is_among, is_symbol, is_solo, is_punct, begins_variable, not_newline, is_digit_of, starts_with, starts_with_digit_of, tail, run_size, past_run, digits_value}
+use Rattle.fd_language.specs.Characters.{is_layout, is_among, is_symbol, is_solo, is_punct, begins_variable, not_newline, is_digit_of, starts_with}
+use Rattle.fd_language.specs.Characters.{starts_with_digit_of, tail, run_size, past_run, digits_value}
 
 pub data Kind : Type 0 where
   Word : Kind

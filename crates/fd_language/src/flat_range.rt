@@ -1,9 +1,9 @@
 //! A range as a list of nodes.
 
 ghost use Rattle.std.specs.Prelude.{◌≡◌, MatchOption};
-ghost use Rattle.fd_language.specs.Flat.{nodes_of, IsSpelled};
+ghost use Rattle.fd_language.specs.PostfixRanges.{nodes_of, IsSpelled};
 
-use crate::counting::spells_range;
+use crate::operand_counts::spells_range;
 use crate::range_node::RangeNode;
 use std::marker::Model;
 
@@ -18,7 +18,7 @@ impl Model for FlatRange {
     ghost use Rattle.fd_language.specs.Range.{Range};
     ghost use Rattle.std.specs.Coded.{code_by, coded_list};
     ghost use Rattle.fd_language.specs.contracts.range_node.RangeNode as node;
-    ghost use Rattle.fd_language.specs.Flat.{nodes_of, spelled_range, spelled_range-nodes};
+    ghost use Rattle.fd_language.specs.PostfixRanges.{nodes_of, spelled_range, spelled_range-nodes};
 
     ghost Value = { Range };
 

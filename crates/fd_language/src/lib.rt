@@ -2,9 +2,9 @@
 #![tactic(auto)]
 
 pub mod check_laws;
-mod counting;
 mod flat_range;
 pub mod grammar_laws;
+mod operand_counts;
 pub mod range_laws;
 mod range_node;
 

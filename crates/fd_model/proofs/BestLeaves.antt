@@ -1,5 +1,6 @@
 -- What a search for the best leaf of a labelling answers.
-use Rattle.std.proofs.Common.{◌≡◌, ℕ, ◌≤◌, Bool, true, false, cond, ◌==◌, ℤ, pos, length, List, [], ◌∷◌, ◌++◌, map, Some, None, Ok, refl, ap, sym, ◌∙◌, subst, inl, inr, ◌⊎◌, eqb-true, eq-eqb}
+use Rattle.std.proofs.Common.{◌≡◌, ℕ, ◌≤◌, Bool, true, false, cond, ◌==◌, ℤ, pos, length, List, [], ◌∷◌, ◌++◌, map, Some, None, Ok, refl, ap, sym, ◌∙◌, subst}
+use Rattle.std.proofs.Common.{inl, inr, ◌⊎◌, eqb-true, eq-eqb}
 use Rattle.std.proofs.lemmas.List.{append-nil}
 use Rattle.std.proofs.lemmas.Bool.{or_cases, or_left, or_right, true≢false, cases_Bool}
 use Rattle.fd_language.specs.Term.{Term, Var, Int, Atom, Comp, Substitution, apply}
@@ -8,7 +9,7 @@ use Rattle.fd_language.specs.Lists.{Each}
 use Rattle.fd_model.specs.declared.kinds.Order.{Order}
 use Rattle.fd_model.specs.declared.kinds.QueryFault.TheVariants.{Parameter}
 use Rattle.fd_model.specs.Goal.{Label, Best, Program, Branch}
-use Rattle.fd_model.specs.Seen.{IsConsistent, IsView}
+use Rattle.fd_model.specs.BranchViews.{IsConsistent, IsView}
 use Rattle.fd_model.specs.Members.{Member, Open, Known, as_member}
 use Rattle.fd_model.specs.Labelling.{read_list, pick, values_by, open_ones}
 use Rattle.fd_model.specs.Branches.{with_goals, by_value, Kept, look_in, sets_in}
@@ -19,18 +20,18 @@ use Rattle.fd_model.specs.BestAnswers.{number_in, cost_in, IsBestAnswer, AreBest
 use Rattle.fd_model.specs.LabellingLaws.{IsLabelled}
 use Rattle.fd_model.proofs.Lists.{each_both, each_before, each_after}
 use Rattle.fd_model.proofs.OneView.{from_view}
-use Rattle.fd_model.proofs.Cutting.{last_whole, last_none}
-use Rattle.fd_model.proofs.Keeping.{kept_each}
+use Rattle.fd_model.proofs.CutBranches.{last_whole, last_none}
+use Rattle.fd_model.proofs.ValueBranches.{kept_each}
 use Rattle.fd_model.proofs.Leaves.{Passes, leaves_each}
-use Rattle.fd_model.proofs.Heeding.{look_heeds}
+use Rattle.fd_model.proofs.ModelSubstitutions.{look_heeds}
 use Rattle.fd_language.proofs.Lemmas.{through_term}
-use Rattle.fd_model.proofs.Picking.{Element, element_of, picked_among, pick_some}
-use Rattle.fd_model.proofs.Listing.{read_members, with_member_back}
-use Rattle.fd_model.proofs.Grounded.{IsGrounded, is_read, list_read, seen_plain, child_grounded}
-use Rattle.fd_model.proofs.Searching.{searched, Search, stops, finds, takes, found_by}
+use Rattle.fd_model.proofs.PickedMembers.{Element, element_of, picked_among, pick_some}
+use Rattle.fd_model.proofs.SubstitutedLists.{read_members, with_member_back}
+use Rattle.fd_model.proofs.OpenMembers.{IsGrounded, is_read, list_read, seen_plain, child_grounded}
+use Rattle.fd_model.proofs.SearchAnswers.{searched, Search, stops, finds, takes, found_by}
 use Rattle.fd_model.proofs.Labels.{IsReady, Allows, leaf, part, whole}
-use Rattle.fd_model.proofs.Completing.{answers_from, ready}
-use Rattle.fd_model.proofs.Flattening.{Turned, turned, nothing}
+use Rattle.fd_model.proofs.LabelledAnswers.{answers_from, ready}
+use Rattle.fd_model.proofs.FlatSearch.{Turned, turned, nothing}
 
 -- a branch without goals
 abbrev bare : Branch → Branch
@@ -50,11 +51,13 @@ module _ (M N : ℕ) (prog : Program) (o : Order) (t : Term) where
       takes (Label o t) [] s D (bare b ∷ []) h.0.0 (record { view = v; kept = given b s D ms v e p h.0.1 })
       (subst (λ l. Search M N prog (bare b ∷ l) (map bare (b ∷ ls)) []) (sym (same_others bs)) (finds s D refl v (leaves_found more h.1)))
     where
-      given : (b : Branch) (s : Substitution) (D : Family) (ms : List Member) → IsView M N b.equations b.posted s D → read_list (apply (look_in b s D) t) ≡ Ok ms → pick o (λ y. values_by N (sets_in b s D y)) ms ≡ None
+      given : (b : Branch) (s : Substitution) (D : Family) (ms : List Member) → IsView M N b.equations b.posted s D
+          → read_list (apply (look_in b s D) t) ≡ Ok ms → pick o (λ y. values_by N (sets_in b s D y)) ms ≡ None
           → IsConsistent M N b.equations b.posted → KeptOffer M N (offer M N (length bs) prog (look_in b s D) (sets_in b s D) b (Label o t) []) (Gives (bare b ∷ []))
       given b s D ms v e p ok =
           let values : ℕ → List ℕ = λ y. values_by N (sets_in b s D y) in
-          let i : offer M N (length bs) prog (look_in b s D) (sets_in b s D) b (Label o t) [] ≡ Gives (bare b ∷ []) = ap (by_listing values b o (Label o t) []) e ∙ ap (by_pick values b (Label o t) []) p in
+          let i : offer M N (length bs) prog (look_in b s D) (sets_in b s D) b (Label o t) [] ≡ Gives (bare b ∷ []) = ap (by_listing values b o (Label o t) [])
+          e ∙ ap (by_pick values b (Label o t) []) p in
           subst (λ f. KeptOffer M N f (Gives (bare b ∷ []))) (sym i) (inl (ok, ([], refl, refl)))
   leaves_found (grows {b = b} {bs = bs} {ls = ls} s D ms x cs v e p k more) h =
       let kids : Kept M N (map (by_value b (Label o t ∷ []) x) (values_by N (sets_in b s D x))) cs = subst (λ gs. Kept M N (map (by_value b gs x) (values_by N (sets_in b s D x))) cs) h.0.0 k in
@@ -62,11 +65,13 @@ module _ (M N : ℕ) (prog : Program) (o : Order) (t : Term) where
       takes (Label o t) [] s D cs h.0.0 (record { view = v; kept = given b s D ms x cs e p kids })
       (subst (λ l. Search M N prog (cs ++ l) (map bare ls) []) (sym (same_others bs)) (leaves_found more (each_both IsLabelling cs bs each h.1)))
     where
-      given : (b : Branch) (s : Substitution) (D : Family) (ms : List Member) (x : ℕ) (cs : List Branch) → read_list (apply (look_in b s D) t) ≡ Ok ms → pick o (λ y. values_by N (sets_in b s D y)) ms ≡ Some x
+      given : (b : Branch) (s : Substitution) (D : Family) (ms : List Member) (x : ℕ) (cs : List Branch) → read_list (apply (look_in b s D) t) ≡ Ok ms
+          → pick o (λ y. values_by N (sets_in b s D y)) ms ≡ Some x
           → Kept M N (map (by_value b (Label o t ∷ []) x) (values_by N (sets_in b s D x))) cs → KeptOffer M N (offer M N (length bs) prog (look_in b s D) (sets_in b s D) b (Label o t) []) (Gives cs)
       given b s D ms x cs e p k =
           let values : ℕ → List ℕ = λ y. values_by N (sets_in b s D y) in
-          let i : offer M N (length bs) prog (look_in b s D) (sets_in b s D) b (Label o t) [] ≡ Gives (map (by_value b (Label o t ∷ []) x) (values x)) = ap (by_listing values b o (Label o t) []) e ∙ ap (by_pick values b (Label o t) []) p in
+          let i : offer M N (length bs) prog (look_in b s D) (sets_in b s D) b (Label o t) [] ≡ Gives (map (by_value b (Label o t ∷ []) x) (values x)) = ap
+          (by_listing values b o (Label o t) []) e ∙ ap (by_pick values b (Label o t) []) p in
           subst (λ f. KeptOffer M N f (Gives cs)) (sym i) k
 
 -- what a branch shows doesn't depend on its goals
@@ -94,7 +99,8 @@ shown_number f (v ∷ vs) (n ∷ ns) x e h = elim (cases_Bool (v == x)) [
 ]
 
 -- a member that stays open is one of the list as it is read then
-open_by : (u : Substitution) (v x y : ℕ) (ms rest new : List Member) → Element (u v) rest new → u x ≡ Var y → has (v ∷ open_ones ms) x ≡ true → (has (open_ones ms) x ≡ true → has (open_ones rest) y ≡ true) → has (open_ones new) y ≡ true
+open_by : (u : Substitution) (v x y : ℕ) (ms rest new : List Member) → Element (u v) rest new → u x ≡ Var y → has (v ∷ open_ones ms) x ≡ true
+    → (has (open_ones ms) x ≡ true → has (open_ones rest) y ≡ true) → has (open_ones new) y ≡ true
 open_by u v x y ms rest new (inl e) f h later = subst (λ l. has (open_ones l) y ≡ true) (sym e.2) (elim (or_cases (v == x) (has (open_ones ms) x) h) [
   | inl k ↦ or_left (e.0 == y) (has (open_ones rest) y) (eq-eqb e.0 y (let i : Var e.0 ≡ Var y = sym e.1 ∙ ap u (eqb-true v x k) ∙ f in cc))
   | inr k ↦ or_right (e.0 == y) (has (open_ones rest) y) (later k)
@@ -126,7 +132,8 @@ module _ (M N : ℕ) (low : N ≤ M) (prog : Program) (o : Order) (least : Bool)
       child_grounded M N t ms base listed b s D g v x (picked_among o (look_in b s D) vs x (pick_some o _ (look_in b s D) ms new x members p)) n ok
 
   -- the cost that is seen is that of the numbers that are shown
-  cost_by : (r : Term) (d : Member) (ns : List ℕ) (f : Substitution) (z : ℤ) → as_member r ≡ Ok d → cost_fault ms r ≡ None → map f vs ≡ map (λ n. Int (pos n)) ns → apply f r ≡ Int z → z ≡ cost_in vs d ns
+  cost_by : (r : Term) (d : Member) (ns : List ℕ) (f : Substitution) (z : ℤ) → as_member r ≡ Ok d → cost_fault ms r ≡ None
+      → map f vs ≡ map (λ n. Int (pos n)) ns → apply f r ≡ Int z → z ≡ cost_in vs d ns
   cost_by (Var x) d ns f z e g h i = by_member (has vs x) refl g
     where
       by_member : (b : Bool) → has vs x ≡ b → cond b None (Some Parameter) ≡ None → z ≡ cost_in vs d ns
@@ -168,7 +175,8 @@ module _ (M N : ℕ) (low : N ≤ M) (prog : Program) (o : Order) (least : Bool)
         let Good = IsReady M N low prog o t ms base ws listed in
         let Solved = Allows M N low prog o t ms base ws listed in
         let search = leaves_found M N prog o t l ((refl, ready.consistent), tt) in
-        let f = found_by M N prog vs (Comes o) Good Solved (leaf M N low prog o t ms base ws listed) (part M N low prog o t ms base ws listed) (whole M N low prog o t ms base ws listed) search (ready, tt) (tt, tt) in
+        let f = found_by M N prog vs (Comes o) Good Solved (leaf M N low prog o t ms base ws listed) (part M N low prog o t ms base ws listed)
+        (whole M N low prog o t ms base ws listed) search (ready, tt) (tt, tt) in
         let a = answers_from M N prog o vs Good Solved start (map bare ls) [] f in
         record { values = a.values; shown = a.shown; allowed = a.allowed; order = a.order; missing = a.missing; complete = λ u. a.complete refl }
 
@@ -215,7 +223,8 @@ module _ (M N : ℕ) (low : N ≤ M) (prog : Program) (o : Order) (least : Bool)
         no_values (ms ∷ nss) h k = h
 
     -- what comes of the search's only child
-    by_answer : (ls : List Branch) → Leaves M N o t (start ∷ []) ls → (d : Branch) → IsBest M N least w ls d → (found left : List Branch) → Turned M N prog (with_goals d []) [] found left → Result found (left ≡ [])
+    by_answer : (ls : List Branch) → Leaves M N o t (start ∷ []) ls → (d : Branch) → IsBest M N least w ls d → (found left : List Branch)
+        → Turned M N prog (with_goals d []) [] found left → Result found (left ≡ [])
     by_answer ls l d best found left (inl h) = inr (h.0, λ i ns j. absurd (let g = sym i ∙ h.1 in cc))
     by_answer ls l d best found left (inr (inl h)) =
         let n = nothing M N prog h.1.2 refl in
@@ -223,7 +232,8 @@ module _ (M N : ℕ) (low : N ≤ M) (prog : Program) (o : Order) (least : Bool)
         inl (subst (IsBestAnswer M N o least t vs cost Allowed (λ d. d ≡ start)) (sym one) (best_answer ls l d best))
     by_answer ls l d best found left (inr (inr h)) = absurd (let g = h.goals in cc)
 
-    after_best : (ls : List Branch) → Leaves M N o t (start ∷ []) ls → (cs : List Branch) → BestLeaf M N least w [] ls cs → (found left : List Branch) → Search M N prog cs found left → Result found (left ≡ [])
+    after_best : (ls : List Branch) → Leaves M N o t (start ∷ []) ls → (cs : List Branch) → BestLeaf M N least w [] ls cs → (found left : List Branch)
+        → Search M N prog cs found left → Result found (left ≡ [])
     after_best [] l cs e found left search = let n = nothing M N prog search e in inr (n.0, λ i ns h. nothing_allowed ns l h)
     after_best (k ∷ ls) l cs e found left search = by_answer (k ∷ ls) l e.0 e.1 found left (turned M N prog search (with_goals e.0 []) [] e.2)
 
@@ -275,9 +285,11 @@ module _ (M N : ℕ) (low : N ≤ M) (prog : Program) (o : Order) (least : Bool)
             let look = look_in b h.unifier h.family in
             let sets = sets_in b h.unifier h.family in
             let kept : KeptOffer M N (offer M N 0 prog look sets b (Best o least t w) []) (Gives h.children) =
-            subst (λ r. KeptOffer M N (offer M N 0 prog look sets b (Best o least t w) r) (Gives h.children)) others (subst (λ g. KeptOffer M N (offer M N 0 prog look sets b g h.rest) (Gives h.children)) one h.given.kept) in
+            subst (λ r. KeptOffer M N (offer M N 0 prog look sets b (Best o least t w) r) (Gives h.children)) others
+            (subst (λ g. KeptOffer M N (offer M N 0 prog look sets b g h.rest) (Gives h.children)) one h.given.kept) in
             let sought : SoughtLeaf M N b [] o least t w h.children = subst (λ f. KeptOffer M N f (Gives h.children)) (offered h.unifier h.family h.given.view 0) kept in
-            let more : Search M N prog h.children found left = subst (λ l. Search M N prog l found left) (append-nil h.children) (subst (λ l. Search M N prog (h.children ++ l) found left) (last_none (kept_by 0 h.goal)) h.more) in
+            let more : Search M N prog h.children found left = subst (λ l. Search M N prog l found left) (append-nil h.children)
+            (subst (λ l. Search M N prog (h.children ++ l) found left) (last_none (kept_by 0 h.goal)) h.more) in
             after_best sought.0 sought.1 h.children sought.2 found left more
 
 -- what such a branch answers

@@ -1,5 +1,6 @@
 -- The first best leaf of a list that grows, and what a node's sets tell of the leaves below it.
-use Rattle.std.proofs.Common.{◌≡◌, ℕ, Bool, true, false, ◌==◌, ℤ, List, [], ◌∷◌, ◌++◌, map, Option, Some, None, pos, refl, ap, sym, ◌∙◌, subst, inl, inr, arith, eqb-true, append_assoc}
+use Rattle.std.proofs.Common.{◌≡◌, ℕ, Bool, true, false, ◌==◌, ℤ, List, [], ◌∷◌, ◌++◌, map, Option, Some, None, pos, refl, ap, sym, ◌∙◌, subst, inl, inr, arith}
+use Rattle.std.proofs.Common.{eqb-true, append_assoc}
 use Rattle.std.proofs.lemmas.Bool.{or_cases, or_right, true≢false}
 use Rattle.std.proofs.lemmas.Int.{ints}
 use Rattle.fd_model.specs.declared.kinds.Order.{Order}
@@ -13,7 +14,7 @@ use Rattle.fd_model.specs.PostedLeaves.{AreLeft, open_unless, seen_in, picked_in
 use Rattle.fd_model.specs.Leaves.{IsBetter, IsAsGood}
 use Rattle.fd_model.specs.BestPosted.{Costs, HaveValues, EachCosts, IsBestPosted, IsCostOf}
 use Rattle.fd_model.specs.Members.{Member, Open, Known}
-use Rattle.fd_model.specs.Seen.{IsConsistent}
+use Rattle.fd_model.specs.BranchViews.{IsConsistent}
 use Rattle.fd_model.proofs.PostedSets.{left_narrower, left_once}
 use Rattle.fd_model.proofs.PostedLeaves.{some_only, none_picked, each_leaf, each_kept}
 
@@ -58,13 +59,19 @@ module _ (M : ℕ) (least : Bool) (cost : Member) where
   }
 
   -- a better one takes its place
-  pub first_new : (ls : List (List Indexical)) (l k : List Indexical) (z w : ℤ) → IsBestPosted M least cost ls l z → Costs M cost k w → IsBetter least w z → IsBestPosted M least cost (ls ++ k ∷ []) k w
+  pub first_new : (ls : List (List Indexical)) (l k : List Indexical) (z w : ℤ) → IsBestPosted M least cost ls l z → Costs M cost k w → IsBetter least w z
+      → IsBestPosted M least cost (ls ++ k ∷ []) k w
   first_new ls l k z w b c h = record {
     before = ls;
     behind = [];
     among = refl;
     costs = c;
-    earlier = subst (EachCosts M cost (IsBetter least w)) (sym b.among) (costs_both (IsBetter least w) b.before (l ∷ b.behind) (costs_more (IsBetter least z) (IsBetter least w) (λ v g. better_twice least w z v h g) b.before b.earlier) ((z, b.costs, h), costs_more (IsAsGood least z) (IsBetter least w) (λ v g. better_good least w z v h g) b.behind b.later));
+    earlier = subst (EachCosts M cost (IsBetter least w)) (sym b.among)
+        (costs_both (IsBetter least w) b.before (l ∷ b.behind)
+        (costs_more (IsBetter least z) (IsBetter least w) (λ v g. better_twice least w z v h g) b.before b.earlier) (
+          (z, b.costs, h),
+          costs_more (IsAsGood least z) (IsBetter least w) (λ v g. better_good least w z v h g) b.behind b.later,
+        ));
     later = tt;
   }
 
@@ -79,7 +86,8 @@ end_only D [] e x h = absurd (true≢false (sym h))
 end_only D (Known z ∷ ms) e x h = end_only D ms e x h
 end_only D (Open y ∷ ms) e x h = by_set (only (D y)) refl e (λ f. end_only D ms f x)
   where
-    by_set : (s : Option ℕ) → only (D y) ≡ s → open_ones (open_unless y s ∷ map (seen_in D) ms) ≡ [] → (open_ones (map (seen_in D) ms) ≡ [] → has (open_ones ms) x ≡ true → (n : ℕ) × (only (D x) ≡ Some n)) → (n : ℕ) × (only (D x) ≡ Some n)
+    by_set : (s : Option ℕ) → only (D y) ≡ s → open_ones (open_unless y s ∷ map (seen_in D) ms) ≡ []
+        → (open_ones (map (seen_in D) ms) ≡ [] → has (open_ones ms) x ≡ true → (n : ℕ) × (only (D x) ≡ Some n)) → (n : ℕ) × (only (D x) ≡ Some n)
     by_set None f g later = absurd (let b : ⊥ = cc in b)
     by_set (Some n) f g later = elim (or_cases (y == x) (has (open_ones ms) x) h) [
       | inl k ↦ (n, ap (λ v. only (D v)) (sym (eqb-true y x k)) ∙ f)
@@ -125,12 +133,15 @@ module _ (M : ℕ) (o : Order) (ms : List Member) where
     within_end ps E w e p = let c = end_costs cost ps E is_cost e p in (c.0, c.1, among_further cost E c.0 (w E e) c.2)
 
     pub leaves_within : (ps : List Indexical) (ls : List (List Indexical)) → AreLeft M ps D → PostedLeaves M o ms (ps ∷ []) ls → EachCosts M cost (IsAmong D cost) ls
-    leaves_within ps ls d l = each_leaf M o ms Within (λ k. (z : ℤ) × Costs M cost k z × IsAmong D cost z) within_down within_end l ((λ E e. record { at = λ y. record { each = λ k h. subst (λ (S : Family). has (S y) k ≡ true) (left_once M ps E D e d) h } }), tt)
+    leaves_within ps ls d l = each_leaf M o ms Within (λ k. (z : ℤ) × Costs M cost k z × IsAmong D cost z) within_down within_end l
+        ((λ E e. record { at = λ y. record { each = λ k h. subst (λ (S : Family). has (S y) k ≡ true) (left_once M ps E D e d) h } }), tt)
 
     values_within : (ps : List Indexical) (x : ℕ) → AreLeft M ps D → (ns : List ℕ) → Each (λ c. IsConsistent M M [] c → Within c) (map (with_value ps x) ns)
     values_within ps x d [] = tt
     values_within ps x d (n ∷ ns) = (λ c E e. left_narrower M ps (exactly x n ∷ []) D E d e, values_within ps x d ns)
 
     -- the same below those of its children that a list of values gives
-    pub children_within : (ps : List Indexical) (x : ℕ) (ns : List ℕ) (cs ls : List (List Indexical)) → AreLeft M ps D → KeptLists M (map (with_value ps x) ns) cs → PostedLeaves M o ms cs ls → EachCosts M cost (IsAmong D cost) ls
-    children_within ps x ns cs ls d k l = each_leaf M o ms Within (λ k. (z : ℤ) × Costs M cost k z × IsAmong D cost z) within_down within_end l (each_kept M o ms Within (map (with_value ps x) ns) cs k (values_within ps x d ns))
+    pub children_within : (ps : List Indexical) (x : ℕ) (ns : List ℕ) (cs ls : List (List Indexical)) → AreLeft M ps D
+        → KeptLists M (map (with_value ps x) ns) cs → PostedLeaves M o ms cs ls → EachCosts M cost (IsAmong D cost) ls
+    children_within ps x ns cs ls d k l = each_leaf M o ms Within (λ k. (z : ℤ) × Costs M cost k z × IsAmong D cost z) within_down within_end l
+        (each_kept M o ms Within (map (with_value ps x) ns) cs k (values_within ps x d ns))

@@ -4,7 +4,7 @@ use Rattle.std.specs.Ordering.{int_eq}
 use Rattle.std.proofs.lemmas.Int.{ints}
 use Rattle.fd_language.specs.Range.{Range, set_of, in_range, div_down, div_up}
 use Rattle.fd_language.specs.Family.{has}
-use Rattle.fd_model.specs.Satisfies.{Assignment, singles}
+use Rattle.fd_model.specs.Satisfaction.{Assignment, singles}
 use Rattle.fd_model.specs.ProductRows.{product, quotient, product_ranges}
 use Rattle.fd_model.specs.BooleanRows.{bit, and_ranges, or_ranges, not_ranges, conjunct, disjunction, disjunct, negation}
 use Rattle.fd_model.proofs.Rows.{span_test, up_test}

@@ -6,10 +6,10 @@ use Rattle.fd_language.specs.Term.{Var}
 use Rattle.fd_language.specs.Family.{Family, has, universe, IsFamily, IsRising, IsSubset}
 use Rattle.fd_language.specs.Range.{Indexical, reads, set_of, in_set}
 use Rattle.fd_model.specs.Answers.{Somewhere}
-use Rattle.fd_model.specs.Closed.{AllPosted, constrained}
+use Rattle.fd_model.specs.ClosedFamilies.{AllPosted, constrained}
 use Rattle.fd_model.specs.Bounds.{bound, HasBounds, no_bounds, posted, bounded, BoundedModels}
 use Rattle.fd_language.proofs.Lemmas.{has_high, has-filter, has-filter_back, in_universe, universe_rising, in_left, in_right, has_either, set_agree, identity}
-use Rattle.fd_model.proofs.Keeping.{rising_within}
+use Rattle.fd_model.proofs.ValueBranches.{rising_within}
 use Rattle.fd_model.proofs.Orders.{closed_without, whole}
 
 abbrev Holds : ℕ → Family → List Indexical → Type 0

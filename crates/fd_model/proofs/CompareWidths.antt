@@ -1,21 +1,23 @@
 -- The rows of a comparison keep the limit of width.
-use Rattle.std.proofs.Common.{◌≡◌, ℕ, suc, ◌+◌, ◌*◌, ◌^◌, ◌≤◌, ◌<◌, Bool, true, false, cond, not, ◌&&◌, ℤ, pos, negsuc, neg_ℤ, nat_abs, nat_lt, List, [], ◌∷◌, length, refl, ap, sym, subst, arith, Ok, mul-le-mul, mul-le-mul_left}
+use Rattle.std.proofs.Common.{◌≡◌, ℕ, suc, ◌+◌, ◌*◌, ◌^◌, ◌≤◌, ◌<◌, Bool, true, false, cond, not, ◌&&◌, ℤ, pos, negsuc, neg_ℤ, nat_abs, nat_lt, List, [], ◌∷◌}
+use Rattle.std.proofs.Common.{length, refl, ap, sym, subst, arith, Ok, mul-le-mul, mul-le-mul_left}
 use Rattle.std.specs.List.{list_all}
 use Rattle.std.specs.Ordering.{int_eq}
 use Rattle.std.specs.Cmp.{second_so, first_so}
 use Rattle.fd_model.specs.declared.kinds.Relation.{Relation}
 use Rattle.fd_model.specs.declared.kinds.Relation.TheVariants.{Greater, AtLeast}
 use Rattle.fd_language.specs.Term.{Term}
-use Rattle.fd_model.specs.Closed.{AllPosted}
+use Rattle.fd_model.specs.ClosedFamilies.{AllPosted}
 use Rattle.fd_language.specs.Range.{Indexical}
 use Rattle.fd_language.specs.RangeVerdict.{range_within}
-use Rattle.fd_model.specs.Linear.{scaled, nonzero, plus, times, is_within, in_integers, are_few, Linear, linear_of, Comparison, comparison, of_both, difference_of, collect_term, collect, normal}
+use Rattle.fd_model.specs.Linear.{scaled, nonzero, plus, times, is_within, in_integers, are_few, Linear, linear_of, Comparison, comparison, of_both}
+use Rattle.fd_model.specs.Linear.{difference_of, collect_term, collect, normal}
 use Rattle.fd_model.specs.LinearRows.{Expansion, linear_rows, compares, no_number}
-use Rattle.fd_model.specs.Constraining.{compare}
-use Rattle.fd_model.proofs.Collecting.{one_ok, both_ok, checked_ok}
+use Rattle.fd_model.specs.ConstraintExpansion.{compare}
+use Rattle.fd_model.proofs.CollectedSums.{one_ok, both_ok, checked_ok}
 use Rattle.fd_model.proofs.NormalForms.{normal_ok}
 use Rattle.fd_model.proofs.LinearForms.{NoneZero}
-use Rattle.fd_model.proofs.Comparing.{collect_nonzero, normal_nonzero, form_of}
+use Rattle.fd_model.proofs.ComparisonRows.{collect_nonzero, normal_nonzero, form_of}
 use Rattle.fd_model.proofs.RowWidths.{weight, AreNarrow, rows_within, turned_size}
 
 -- integers of the language
@@ -104,7 +106,8 @@ module _ (M : ℕ) (small : M < 2 ^ 28) where
   abbrev pub Within : List Indexical → Type 0
   Within ps = AllPosted (λ p. range_within M p.range ≡ true) ps
 
-  none_within : (c : Bool) (n : ℕ) → let x : Expansion = cond c (record { equated = []; ranges = []; fresh = n }) (record { equated = []; ranges = record { target = n; range = no_number } ∷ []; fresh = suc n }) in Within x.ranges
+  none_within : (c : Bool) (n : ℕ) → let x : Expansion = cond c (record { equated = []; ranges = []; fresh = n })
+      (record { equated = []; ranges = record { target = n; range = no_number } ∷ []; fresh = suc n }) in Within x.ranges
   none_within true n = tt
   none_within false n = (refl, tt)
 
@@ -121,7 +124,8 @@ module _ (M : ℕ) (small : M < 2 ^ 28) where
       let c : nat_abs m.constant < 2 ^ 63 = integer_size m.constant (subst (λ w. in_integers w.constant ≡ true) (sym e.0) e.1) in
       let w = weight_most M m.products a.integers in
       let v = most M (length m.products) small a.few in
-      subst (λ y. Within y.ranges) f.rows (form_within (comparison r) m.products m.constant n (normal_nonzero r f.linear (collect_nonzero s t f.linear f.collected)) (integers_narrow m.products a.integers)
+      subst (λ y. Within y.ranges) f.rows (form_within (comparison r) m.products m.constant n
+      (normal_nonzero r f.linear (collect_nonzero s t f.linear f.collected)) (integers_narrow m.products a.integers)
       (together (nat_abs m.constant) (weight M m.products) (length m.products * (2 ^ 63 * M)) c w v)) where
         together : (a b c : ℕ) → a < 2 ^ 63 → b ≤ c → c ≤ 2 ^ 122 → a + b < 2 ^ 126
         together a b c h g k = omega arith

@@ -9,18 +9,18 @@ use Rattle.fd_language.specs.Variables.{variables_of, variables_of_all}
 use Rattle.fd_language.specs.Variables.{TermBelow, TermsBelow}
 use Rattle.fd_model.specs.Goal.{Goal, Constrain, Program, Branch}
 use Rattle.fd_model.specs.Children.{Gives as GivesBranches, offer, by_constraint}
-use Rattle.fd_model.specs.Constraining.{arguments, expand}
-use Rattle.fd_model.specs.Satisfies.{Assignment, worth, worths, TellsTerm, Satisfies}
+use Rattle.fd_model.specs.ConstraintExpansion.{arguments, expand}
+use Rattle.fd_model.specs.Satisfaction.{Assignment, worth, worths, TellsTerm, Satisfies}
 use Rattle.fd_model.specs.FlatConstraints.{is_flat_constraint, SeesNumbers}
 use Rattle.fd_model.specs.FlatQueries.{IsFlatGoal}
 use Rattle.fd_language.proofs.Lemmas.{in_left, in_right}
-use Rattle.fd_model.proofs.FlatExpanding.{flat_expands, seen_satisfies}
+use Rattle.fd_model.proofs.FlatExpansions.{flat_expands, seen_satisfies}
 use Rattle.fd_model.proofs.GoalRows.{Rewritten, with_ranges, rewritten, numbers, IsPlain}
-use Rattle.fd_model.proofs.Heeding.{first_member}
-use Rattle.fd_model.proofs.Seeing.{all_below_has, all_wider, all_plain_below, all_plain_has}
+use Rattle.fd_model.proofs.ModelSubstitutions.{first_member}
+use Rattle.fd_model.proofs.SeenTerms.{all_below_has, all_wider, all_plain_below, all_plain_has}
 use Rattle.fd_model.proofs.ExactRows.{given_or_added, each_equated, following, row_into, row_out}
-use Rattle.fd_model.proofs.Staging.{IsGoalRow}
-use Rattle.fd_model.proofs.Comparing.{worth_same}
+use Rattle.fd_model.proofs.FlatBranches.{IsGoalRow}
+use Rattle.fd_model.proofs.ComparisonRows.{worth_same}
 
 -- a substitution on the variables xs alone
 module _ (xs : List ℕ) (look : Substitution) where
@@ -44,7 +44,8 @@ module _ (xs : List ℕ) (look : Substitution) where
 
     all_only : (ts : Terms) → ((x : ℕ) → has (variables_of_all ts) x ≡ true → has xs x ≡ true) → apply_all only ts ≡ apply_all look ts
     all_only no_terms h = refl
-    all_only (term t ts) h = let a = only_applied t (λ x i. h x (in_left (variables_of t) (variables_of_all ts) x i)) in let b = all_only ts (λ x i. h x (in_right (variables_of t) (variables_of_all ts) x i)) in cc
+    all_only (term t ts) h = let a = only_applied t (λ x i. h x (in_left (variables_of t) (variables_of_all ts) x i)) in
+        let b = all_only ts (λ x i. h x (in_right (variables_of t) (variables_of_all ts) x i)) in cc
 
   module _ (M : ℕ) (plain : IsPlain M xs look) where
     only_sees : SeesNumbers M only
@@ -94,10 +95,12 @@ none_flat M N Or h = true≢false (sym h)
 none_flat M N Not h = true≢false (sym h)
 none_flat M N Reified h = true≢false (sym h)
 
-module _ (M N m : ℕ) (positive : 0 < N) (within : N ≤ M) (prog : Program) (vs : List ℕ) (nv : ℕ) (every : (x : ℕ) → x < nv → has vs x ≡ true) (b : Branch) (kind : ConstraintKind) (rest : List Goal) (look : Substitution) (sets : ℕ → Option (List ℕ))
+module _ (M N m : ℕ) (positive : 0 < N) (within : N ≤ M) (prog : Program) (vs : List ℕ) (nv : ℕ) (every : (x : ℕ) → x < nv → has vs x ≡ true) (b : Branch)
+    (kind : ConstraintKind) (rest : List Goal) (look : Substitution) (sets : ℕ → Option (List ℕ))
     (low : nv ≤ b.fresh) (plain : IsPlain N vs look) where
   abbrev IsRowOf : Term → Type 0
-  IsRowOf t = (w : Rewritten) × (offer M N m prog look sets b (Constrain kind t) rest ≡ GivesBranches (with_ranges b rest w ∷ [])) × IsGoalRow M N b.fresh vs look (λ a. Satisfies N kind (arguments t) a) w
+  IsRowOf t = (w : Rewritten) × (offer M N m prog look sets b (Constrain kind t) rest ≡ GivesBranches (with_ranges b rest w ∷ []))
+      × IsGoalRow M N b.fresh vs look (λ a. Satisfies N kind (arguments t) a) w
 
   -- numbers up to N are numbers of the universe
   wider : SeesNumbers M (only vs look)
@@ -112,8 +115,10 @@ module _ (M N m : ℕ) (positive : 0 < N) (within : N ≤ M) (prog : Program) (v
       let r = flat_expands M N (only vs look) kind ts b.fresh (omega arith) within wider flat.0 flat.1 in
       let e : expand M kind (apply_all look ts) b.fresh ≡ Ok r.0 = subst (λ us. expand M kind us b.fresh ≡ Ok r.0) here r.1 in
       let follows = following M kind (apply_all look ts) b.fresh r.0 higher e in
-      let same : (a : Assignment) → ((y : ℕ) → has vs y ≡ true → apply (numbers a) (look y) ≡ Int (pos (a y))) → (Satisfies N kind (apply_all look ts) a → Satisfies N kind ts a) × (Satisfies N kind ts a → Satisfies N kind (apply_all look ts) a) =
-      λ a g. subst (λ us. (Satisfies N kind us a → Satisfies N kind ts a) × (Satisfies N kind ts a → Satisfies N kind us a)) here (seen_satisfies M N (only vs look) kind ts a (only_sees vs look N plain) (only_worth vs look N plain a g) flat.0) in (
+      let same : (a : Assignment) → ((y : ℕ) → has vs y ≡ true → apply (numbers a) (look y) ≡ Int (pos (a y)))
+      → (Satisfies N kind (apply_all look ts) a → Satisfies N kind ts a) × (Satisfies N kind ts a → Satisfies N kind (apply_all look ts) a) =
+      λ a g. subst (λ us. (Satisfies N kind us a → Satisfies N kind ts a) × (Satisfies N kind ts a → Satisfies N kind us a)) here
+      (seen_satisfies M N (only vs look) kind ts a (only_sees vs look N plain) (only_worth vs look N plain a g) flat.0) in (
         rewritten b.fresh r.0,
         ap (by_constraint b rest) e,
         record {

@@ -1,5 +1,6 @@
 -- fd_atmost and its rows.
-use Rattle.std.proofs.Common.{◌≡◌, ℕ, suc, ◌+◌, ◌*◌, ◌≤◌, ◌<◌, Bool, true, false, cond, not, ◌&&◌, ◌||◌, ◌==◌, ℤ, pos, ◌+ℤ◌, ◌-ℤ◌, ◌*ℤ◌, ◌≤ℤ◌, int_le, List, [], ◌∷◌, length, refl, ap, sym, ◌∙◌, subst, inl, inr, ◌⊎◌, arith, eqb-true, eq-eqb, Ok}
+use Rattle.std.proofs.Common.{◌≡◌, ℕ, suc, ◌+◌, ◌*◌, ◌≤◌, ◌<◌, Bool, true, false, cond, not, ◌&&◌, ◌||◌, ◌==◌, ℤ, pos, ◌+ℤ◌, ◌-ℤ◌, ◌*ℤ◌, ◌≤ℤ◌, int_le, List, []}
+use Rattle.std.proofs.Common.{◌∷◌, length, refl, ap, sym, ◌∙◌, subst, inl, inr, ◌⊎◌, arith, eqb-true, eq-eqb, Ok}
 use Rattle.std.specs.Ordering.{int_eq}
 use Rattle.std.proofs.Math.IntN.{zero-*ℤ}
 use Rattle.std.proofs.lemmas.Int.{ints}
@@ -14,16 +15,17 @@ use Rattle.fd_model.specs.Linear.{of_both, IsAtMost}
 use Rattle.fd_model.specs.LinearRows.{Expansion, linear_rows}
 use Rattle.fd_model.specs.Members.{Member, Open, Known, as_member, as_integer, walk, placed, fresh_after, equated_from}
 use Rattle.fd_model.specs.ListRows.{where_is, where_other, counter, counted, counts, units, atmost_rows}
-use Rattle.fd_model.specs.Constraining.{pair, atmost}
-use Rattle.fd_model.specs.Satisfies.{Assignment, singles, worth, worths, AreNumbers, occurrences}
+use Rattle.fd_model.specs.ConstraintExpansion.{pair, atmost}
+use Rattle.fd_model.specs.Satisfaction.{Assignment, singles, worth, worths, AreNumbers, occurrences}
 use Rattle.fd_model.specs.ConstraintLaws.{total, AllEquated, IsRewritten}
-use Rattle.fd_model.proofs.Collecting.{both_ok}
+use Rattle.fd_model.proofs.CollectedSums.{both_ok}
 use Rattle.fd_model.proofs.Singles.{up_to, set_singles, Inside, inside_append, inside_left, inside_right}
 use Rattle.fd_model.proofs.LinearForms.{NoneZero}
-use Rattle.fd_model.proofs.Comparing.{form_fits, form_holds}
-use Rattle.fd_model.proofs.Placing.{integer_read, values_at, members_read, MembersBelow, known_numbers, placed_worths, changed, changed_here, changed_other, changed_small, filled, filled_below, filled_small, filled_equated, equated_agree, fresh_grows}
-use Rattle.fd_model.proofs.Differing.{are_numbers}
-use Rattle.fd_model.proofs.Choosing.{where_is_test, other_is}
+use Rattle.fd_model.proofs.ComparisonRows.{form_fits, form_holds}
+use Rattle.fd_model.proofs.FreshVariables.{integer_read, values_at, members_read, MembersBelow, known_numbers, placed_worths, changed, changed_here}
+use Rattle.fd_model.proofs.FreshVariables.{changed_other, changed_small, filled, filled_below, filled_small, filled_equated, equated_agree, fresh_grows}
+use Rattle.fd_model.proofs.AllDifferentRows.{are_numbers}
+use Rattle.fd_model.proofs.ElementRows.{where_is_test, other_is}
 
 -- 1 where z is v, and else 0
 abbrev pub unit : ℤ → ℤ → ℕ
@@ -115,7 +117,8 @@ AllCounts b v [] m = Unit {0}
 AllCounts b v (x ∷ xs) m = (b m ≡ unit v (pos (b x))) × AllCounts b v xs (suc m)
 
 module _ (M : ℕ) (b : Assignment) (small : (v : ℕ) → b v ≤ M) where
-  counter_is : (v : ℤ) (x c : ℕ) → has (set_of M (singles b) (counter v x c).range) (b c) ≡ ((int_eq v (pos (b x)) && int_eq (pos 1) (pos (b c))) || (not (int_eq v (pos (b x))) && int_eq (pos 0) (pos (b c))))
+  counter_is : (v : ℤ) (x c : ℕ) → has (set_of M (singles b) (counter v x c).range)
+      (b c) ≡ ((int_eq v (pos (b x)) && int_eq (pos 1) (pos (b c))) || (not (int_eq v (pos (b x))) && int_eq (pos 0) (pos (b c))))
   counter_is v x c =
       let e = where_is_test M b small v x (pos 1) (b c) in
       let f = other_is M b small v x (b c) in
@@ -239,7 +242,8 @@ equated_same (Known z ∷ ms) k b c s e = (let f = s k (let g = fresh_grows ms (
 to_le : (a b : ℤ) → a ≤ℤ b → int_le a b ≡ true
 to_le a b h = grind (arith, ints)
 
-pub at_most : (M N : ℕ) → N ≤ M → (m l v : Term) (n : ℕ) (x : Expansion) (a : Assignment) → 0 < N → TermBelow n l → ((w : ℕ) → a w ≤ N) → atmost m l v n ≡ Ok x → IsRewritten M N Atmost (term m (term l (term v no_terms))) n x a
+pub at_most : (M N : ℕ) → N ≤ M → (m l v : Term) (n : ℕ) (x : Expansion) (a : Assignment) → 0 < N → TermBelow n l → ((w : ℕ) → a w ≤ N) → atmost m l v n ≡ Ok x
+    → IsRewritten M N Atmost (term m (term l (term v no_terms))) n x a
 at_most M N up m l v n x a p bl small h =
     let g = atmost_ok m l v n x h in
     let ms = g.members in
@@ -261,7 +265,8 @@ at_most M N up m l v n x a p bl small h =
           let equated = filled_equated N ms a n known in
           let all = counting_counts xs c g.value k less in
           let w : values_at b xs ≡ worths a l = values_same k b c same xs less ∙ (placed_worths n a c (filled_below ms a n) ms n (r.below bl) equated ∙ sym r.worths) in
-          let t : total b (units xs k) ≡ pos (occurrences (worths a l) (worth a v)) = total_units b g.value xs k all ∙ (ap (λ zs. pos (occurrences zs g.value)) w ∙ ap (λ z. pos (occurrences (worths a l) z)) (sym wv)) in
+          let t : total b (units xs k) ≡ pos (occurrences (worths a l) (worth a v)) = total_units b g.value xs k all
+          ∙ (ap (λ zs. pos (occurrences zs g.value)) w ∙ ap (λ z. pos (occurrences (worths a l) z)) (sym wv)) in
           let f = form_fits M (k + length xs) IsAtMost (units xs k) g.limit b b_within (units_nonzero xs k) (to_le (total b (units xs k)) g.limit (rw (t, ← wm) sat.1)) in
           record {
             extension = b;
@@ -282,7 +287,8 @@ at_most M N up m l v n x a p bl small h =
           let w : values_at b xs ≡ worths a l = placed_worths n a b e.same ms n (r.below bl) f.equated ∙ sym r.worths in
           let within = up_to M N up b e.within in
           let all = inside_counts M b within g.value xs k left in
-          let t : total b (units xs k) ≡ pos (occurrences (worths a l) (worth a v)) = total_units b g.value xs k all ∙ (ap (λ zs. pos (occurrences zs g.value)) w ∙ ap (λ z. pos (occurrences (worths a l) z)) (sym wv)) in
+          let t : total b (units xs k) ≡ pos (occurrences (worths a l) (worth a v)) = total_units b g.value xs k all
+          ∙ (ap (λ zs. pos (occurrences zs g.value)) w ∙ ap (λ z. pos (occurrences (worths a l) z)) (sym wv)) in
           let s = int_le_true (total b (units xs k)) g.limit (form_holds M (k + length xs) IsAtMost (units xs k) g.limit b within (units_nonzero xs k) right) in
           (subst (AreNumbers N) w (are_numbers N b e.within xs), subst (λ z. z ≤ℤ worth a m) t (subst (λ z. total b (units xs k) ≤ℤ z) (sym wm) s));
     })

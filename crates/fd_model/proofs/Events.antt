@@ -4,21 +4,21 @@ use Rattle.std.proofs.lemmas.Bool.{or_cases, or_right, true≢false}
 use Rattle.fd_model.specs.declared.kinds.QueryFault.{QueryFault}
 use Rattle.fd_language.specs.Term.{Name, Int, Substitution}
 use Rattle.fd_language.specs.Family.{Family, has}
-use Rattle.fd_language.specs.Writing.{Quoted, term_text}
-use Rattle.fd_model.specs.Closed.{constrained}
+use Rattle.fd_language.specs.TermTexts.{Quoted, term_text}
+use Rattle.fd_model.specs.ClosedFamilies.{constrained}
 use Rattle.fd_model.specs.Goal.{Goal, Program, Query, Branch, Event, Answer, End, Budget, Limit}
-use Rattle.fd_model.specs.Seen.{IsView}
+use Rattle.fd_model.specs.BranchViews.{IsView}
 use Rattle.fd_model.specs.Children.{kept_by, last_of, Faults, Gives, look_in, Children}
 use Rattle.fd_model.specs.Lines.{answer_line, line_of, equals_text, open_text, as_terms, joined, says}
 use Rattle.fd_model.proofs.OneView.{one_view}
 use Rattle.fd_model.specs.Run.{Run, over, last, fewer, any, spent, faulty, taken}
 use Rattle.fd_language.specs.Lists.{Each}
 use Rattle.fd_model.specs.Answers.{answers, Shows, EachShows}
-use Rattle.fd_model.specs.Satisfies.{Assignment}
+use Rattle.fd_model.specs.Satisfaction.{Assignment}
 use Rattle.fd_model.specs.FlatLines.{assigned_line, IsLast}
-use Rattle.fd_model.proofs.Cutting.{each_last}
+use Rattle.fd_model.proofs.CutBranches.{each_last}
 use Rattle.fd_model.proofs.Lists.{each_both}
-use Rattle.fd_model.proofs.Heeding.{first_member}
+use Rattle.fd_model.proofs.ModelSubstitutions.{first_member}
 
 -- each branch has its line
 abbrev pub EachLine : ℕ → ℕ → Query → List Branch → List (List ℕ) → Type 0
@@ -36,11 +36,19 @@ pub record AreLines (M N : ℕ) (q : Query) (bs : List Branch) (es : List Event)
   pub events : es ≡ map Answer lines ++ last ∷ []
 
 module _ (M N : ℕ) (prog : Program) (q : Query) (Good : Branch → Type 0)
-    (children : (m : ℕ) (b : Branch) (g : Goal) (rest : List Goal) (s : Substitution) (D : Family) (cs : List Branch) → Good b → b.goals ≡ g ∷ rest → Children M N prog m b g rest s D (Gives cs) → Each Good cs)
+    (children : (m : ℕ) (b : Branch) (g : Goal) (rest : List Goal) (s : Substitution) (D : Family) (cs : List Branch) → Good b → b.goals ≡ g ∷ rest
+    → Children M N prog m b g rest s D (Gives cs) → Each Good cs)
     (silent : (b : Branch) (g : Goal) (rest : List Goal) (s : Substitution) (D : Family) → Good b → b.goals ≡ g ∷ rest → says s D b g ≡ [])
     (sound : (m : ℕ) (b : Branch) (g : Goal) (rest : List Goal) (s : Substitution) (D : Family) (f : QueryFault) → Good b → b.goals ≡ g ∷ rest → Children M N prog m b g rest s D (Faults f) → ⊥) where
-  one_more : (b : Branch) (bs : List Branch) (es : List Event) (s : Substitution) (D : Family) → IsView M N b.equations b.posted s D → AreLines M N q bs es → AreLines M N q (b ∷ bs) (Answer (answer_line q s D b) ∷ es)
-  one_more b bs es s D v l = record { lines = answer_line q s D b ∷ l.lines; each = ((s, D, v, refl), l.each); last = l.last; ends = l.ends; events = ap (λ ds. Answer (answer_line q s D b) ∷ ds) l.events }
+  one_more : (b : Branch) (bs : List Branch) (es : List Event) (s : Substitution) (D : Family) → IsView M N b.equations b.posted s D → AreLines M N q bs es
+      → AreLines M N q (b ∷ bs) (Answer (answer_line q s D b) ∷ es)
+  one_more b bs es s D v l = record {
+    lines = answer_line q s D b ∷ l.lines;
+    each = ((s, D, v, refl), l.each);
+    last = l.last;
+    ends = l.ends;
+    events = ap (λ ds. Answer (answer_line q s D b) ∷ ds) l.events;
+  }
 
   alone : (e : Event) → IsLast e → AreLines M N q [] (e ∷ [])
   alone e h = record { lines = []; each = tt; last = e; ends = h; events = refl }
@@ -53,10 +61,13 @@ module _ (M N : ℕ) (prog : Program) (q : Query) (Good : Branch → Type 0)
   lines_of (spent g rest e) good = alone Budget (inr (inl refl))
   lines_of (faulty {b = b} {bs = bs} {f = f} g rest s D e c) good = absurd (sound (length bs) b g rest s D f good.0 e c)
   lines_of (taken {b = b} {bs = bs} {es = es} g rest s D cs e c more) good =
-      subst (λ ds. AreLines M N q (answers more) (ds ++ es)) (sym (silent b g rest s D good.0 e)) (lines_of more (each_both Good cs (last_of (kept_by (length bs) g) bs) (children (length bs) b g rest s D cs good.0 e c) (each_last Good (kept_by (length bs) g) bs good.1)))
+      subst (λ ds. AreLines M N q (answers more) (ds ++ es)) (sym (silent b g rest s D good.0 e))
+      (lines_of more (each_both Good cs (last_of (kept_by (length bs) g) bs) (children (length bs) b g rest s D cs good.0 e c)
+      (each_last Good (kept_by (length bs) g) bs good.1)))
 
 -- a line of integers
-integers_text : (here there : ℕ → List ℕ) (a : Assignment) (names : List Name) (vs : List ℕ) → equals_text here names (map (λ v. Int (pos (a v))) vs) ≡ equals_text there names (map (λ v. Int (pos (a v))) vs)
+integers_text : (here there : ℕ → List ℕ) (a : Assignment) (names : List Name) (vs : List ℕ)
+    → equals_text here names (map (λ v. Int (pos (a v))) vs) ≡ equals_text there names (map (λ v. Int (pos (a v))) vs)
 integers_text here there a [] vs = refl
 integers_text here there a (n ∷ names) [] = refl
 integers_text here there a (n ∷ names) (v ∷ vs) = ap (λ l. (n ++ (codes " = " ++ term_text Quoted here 699 (Int (pos (a v))))) ∷ l) (integers_text here there a names vs)
@@ -85,9 +96,12 @@ pub shown_line : (M N : ℕ) (q : Query) (vs : List ℕ) (a : Assignment) (b : B
     → (s : Substitution) (D : Family) → IsView M N b.equations b.posted s D → answer_line q s D b ≡ assigned_line q a
 shown_line M N q vs a b inside h s D v =
     let one = one_view M N b.equations b.posted h.unifier s h.family D h.view v in
-    let values : map (look_in b s D) vs ≡ map (λ y. Int (pos (a y))) vs = subst (λ r. map (look_in b r D) vs ≡ map (λ y. Int (pos (a y))) vs) one.0 (subst (λ E. map (look_in b h.unifier E) vs ≡ map (λ y. Int (pos (a y))) vs) one.1 (h.values ∙ map_twice a vs)) in
-    let shown : map (look_in b s D) q.shown ≡ map (λ y. Int (pos (a y))) q.shown = map_where (look_in b s D) (λ y. Int (pos (a y))) q.shown (λ y k. at_both (look_in b s D) (λ y. Int (pos (a y))) vs y values (inside y k)) in
-    ap (λ ts. line_of (open_text s D (constrained b.posted) (as_terms ts)) q.names ts) shown ∙ integers_line (open_text s D (constrained b.posted) (as_terms (map (λ y. Int (pos (a y))) q.shown))) (λ y. []) a q.names q.shown
+    let values : map (look_in b s D) vs ≡ map (λ y. Int (pos (a y))) vs = subst (λ r. map (look_in b r D) vs ≡ map (λ y. Int (pos (a y))) vs) one.0
+    (subst (λ E. map (look_in b h.unifier E) vs ≡ map (λ y. Int (pos (a y))) vs) one.1 (h.values ∙ map_twice a vs)) in
+    let shown : map (look_in b s D) q.shown ≡ map (λ y. Int (pos (a y))) q.shown = map_where (look_in b s D) (λ y. Int (pos (a y))) q.shown
+    (λ y k. at_both (look_in b s D) (λ y. Int (pos (a y))) vs y values (inside y k)) in
+    ap (λ ts. line_of (open_text s D (constrained b.posted) (as_terms ts)) q.names ts) shown
+    ∙ integers_line (open_text s D (constrained b.posted) (as_terms (map (λ y. Int (pos (a y))) q.shown))) (λ y. []) a q.names q.shown
 
 -- lines and numbers of the same branches
 pub lines_shown : (M N : ℕ) (q : Query) (vs : List ℕ) → ((v : ℕ) → has q.shown v ≡ true → has vs v ≡ true) → (bs : List Branch) (ls : List (List ℕ)) (found : List Assignment)

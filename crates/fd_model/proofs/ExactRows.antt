@@ -1,16 +1,17 @@
 -- What the rows of constraints owe to ways and to flat queries.
-use Rattle.std.proofs.Common.{◌≡◌, ℕ, ◌<◌, ◌≤◌, Bool, true, false, not, ◌||◌, ◌==◌, nat_lt, ℤ, pos, List, [], ◌∷◌, refl, ap, sym, inl, inr, ◌⊎◌, arith, eqb-true, Ok}
+use Rattle.std.proofs.Common.{◌≡◌, ℕ, ◌<◌, ◌≤◌, Bool, true, false, not, ◌||◌, ◌==◌, nat_lt, ℤ, pos, List, [], ◌∷◌, refl, ap, sym, inl, inr, ◌⊎◌, arith}
+use Rattle.std.proofs.Common.{eqb-true, Ok}
 use Rattle.std.proofs.lemmas.Bool.{or_cases, cases_Bool, true≢false}
 use Rattle.fd_model.specs.declared.kinds.ConstraintKind.{ConstraintKind}
 use Rattle.fd_language.specs.Term.{Terms, Var, Int}
 use Rattle.fd_language.specs.Unifier.{Unifies}
 use Rattle.fd_language.specs.Family.{has}
-use Rattle.fd_model.specs.Closed.{constrained}
+use Rattle.fd_model.specs.ClosedFamilies.{constrained}
 use Rattle.fd_language.specs.Variables.{variables_of_all}
 use Rattle.fd_language.specs.Variables.{TermsBelow}
 use Rattle.fd_model.specs.LinearRows.{Expansion}
-use Rattle.fd_model.specs.Constraining.{expand, equations}
-use Rattle.fd_model.specs.Satisfies.{Assignment, Satisfies}
+use Rattle.fd_model.specs.ConstraintExpansion.{expand, equations}
+use Rattle.fd_model.specs.Satisfaction.{Assignment, Satisfies}
 use Rattle.fd_model.specs.ConstraintLaws.{AllEquated, AllFresh, IsScoped}
 use Rattle.fd_language.specs.Lists.{Each}
 use Rattle.fd_model.specs.Answers.{Somewhere}
@@ -20,7 +21,7 @@ use Rattle.fd_model.proofs.OneValues.{IsOld}
 use Rattle.fd_model.proofs.SplitValues.{expand_one}
 use Rattle.fd_model.proofs.SplitScopes.{scoped_rows}
 use Rattle.fd_model.proofs.RewritingLaw.{rewriting}
-use Rattle.fd_model.proofs.Seeing.{all_below_has}
+use Rattle.fd_model.proofs.SeenTerms.{all_below_has}
 use Rattle.fd_model.proofs.GoalRows.{Gives, EquationsBelow, FitsRow, IsFollowing, numbers, rewritten}
 
 from_new : (w n : ℕ) (c : Bool) → not (nat_lt w n || c) ≡ true → n ≤ w
@@ -54,7 +55,11 @@ module _ (M : ℕ) (kind : ConstraintKind) (ts : Terms) (n : ℕ) (x : Expansion
   pub given_or_added : (v : ℕ) → has (constrained x.ranges) v ≡ true → (has (variables_of_all ts) v ≡ true) ⊎ ((has (added n x) v ≡ true) ⊎ Somewhere (Gives v) (equations x.equated))
   given_or_added v e = elim (scoped.named v e) [
     | inl i ↦ inl i
-    | inr l ↦ inr (elim (cases_Bool (is_equated x.equated v)) [ inl c ↦ inr (given x.equated v c) | inr c ↦ inl (has-filter (λ w. not (nat_lt w n || is_equated x.equated w)) (constrained x.ranges) v e (is_new v n (is_equated x.equated v) l.0 c)) ])
+    | inr l ↦ inr (elim (cases_Bool (is_equated x.equated v)) [
+      | inl c ↦ inr (given x.equated v c)
+      | inr c ↦ inl (has-filter (λ w. not (nat_lt w n || is_equated x.equated w)) (constrained x.ranges) v e
+          (is_new v n (is_equated x.equated v) l.0 c))
+    ])
   ] where
     given : (es : List (ℕ × ℤ)) (v : ℕ) → is_equated es v ≡ true → Somewhere (Gives v) (equations es)
     given [] v c = absurd (true≢false (sym c))
@@ -98,4 +103,5 @@ module _ (M : ℕ) (kind : ConstraintKind) (ts : Terms) (n : ℕ) (x : Expansion
     -- and what fits satisfies it
     pub row_out : (b : Assignment) → FitsRow M N (rewritten n x) b → Satisfies N kind ts b
     row_out b f =
-        (rewriting M N kind ts n x b positive within below f.bounded h).satisfied b (record { within = f.bounded; same = λ v l. refl }) (record { equated = from_unified b x.equated f.equations; inside = f.posted })
+        (rewriting M N kind ts n x b positive within below f.bounded h).satisfied b (record { within = f.bounded; same = λ v l. refl })
+        (record { equated = from_unified b x.equated f.equations; inside = f.posted })

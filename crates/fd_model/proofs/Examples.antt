@@ -13,7 +13,7 @@ use Rattle.fd_model.specs.LinearRows.{Expansion, no_number}
 use Rattle.fd_model.specs.ListRows.{element_ranges, counter, counted}
 use Rattle.fd_model.specs.ProductRows.{product_ranges}
 use Rattle.fd_model.specs.BooleanRows.{bit, and_ranges}
-use Rattle.fd_model.specs.Constraining.{expand}
+use Rattle.fd_model.specs.ConstraintExpansion.{expand}
 use Rattle.fd_model.specs.declared.kinds.Order.TheVariants.{Leftmost}
 use Rattle.fd_model.specs.Goal.{Goal, Goals, no_goals, goal, Post, Constrain, Label, Call, Cut, If, IfElse, Not, Best, marked, Program, Query, Event, start_of}
 use Rattle.fd_language.specs.PlacedTerm.{PlacedTerm, var, int, atom, comp, no_parts, part}
@@ -57,8 +57,16 @@ less_ranges = refl
 differ_ranges : expand 9 (Compare Differ) (two (Var 0) (Var 1)) 2 ≡ Ok record {
   equated = [];
   ranges =
-      record { target = 0; range = Outside (Span (DivUp (Sub (Number (pos 0)) (Mul (Number (negsuc 0)) (Val 1))) (Number (pos 1))) (DivDown (Sub (Number (pos 0)) (Mul (Number (negsuc 0)) (Val 1))) (Number (pos 1)))) }
-      ∷ record { target = 1; range = Outside (Span (DivUp (Sub (Number (pos 0)) (Mul (Number (negsuc 0)) (Val 0))) (Number (pos 1))) (DivDown (Sub (Number (pos 0)) (Mul (Number (negsuc 0)) (Val 0))) (Number (pos 1)))) } ∷ [];
+      record {
+        target = 0;
+        range = Outside (Span (DivUp (Sub (Number (pos 0)) (Mul (Number (negsuc 0)) (Val 1))) (Number (pos 1)))
+            (DivDown (Sub (Number (pos 0)) (Mul (Number (negsuc 0)) (Val 1))) (Number (pos 1))));
+      }
+      ∷ record {
+        target = 1;
+        range = Outside (Span (DivUp (Sub (Number (pos 0)) (Mul (Number (negsuc 0)) (Val 0))) (Number (pos 1)))
+            (DivDown (Sub (Number (pos 0)) (Mul (Number (negsuc 0)) (Val 0))) (Number (pos 1))));
+      } ∷ [];
   fresh = 2;
 }
 differ_ranges = refl
@@ -129,7 +137,8 @@ far = refl
 not_a_sum : expand 9 (Compare Equal) (two (Atom (codes "a")) (operation (codes "*") (Var 0) (Var 0))) 1 ≡ Err BadType
 not_a_sum = refl
 
-overflow : expand 9 (Compare Equal) (two (operation (codes "-") (operation (codes "*") (Int (pos 9223372036854775807)) (Var 0)) (operation (codes "*") (Int (negsuc 0)) (Var 0))) (Int (pos 0))) 1 ≡ Err Evaluation
+overflow : expand 9 (Compare Equal) (two (operation (codes "-") (operation (codes "*") (Int (pos 9223372036854775807)) (Var 0))
+    (operation (codes "*") (Int (negsuc 0)) (Var 0))) (Int (pos 0))) 1 ≡ Err Evaluation
 overflow = refl
 
 -- fd_all_different([X|_]), fd_all_different([a|_]) and fd_all_different([-1])
@@ -139,7 +148,11 @@ open_list = refl
 wrong_element : expand 9 AllDifferent (term (cell (Atom (codes "a")) (Var 1)) no_terms) 2 ≡ Err BadType
 wrong_element = refl
 
-one_integer : expand 9 AllDifferent (term (cell (Int (negsuc 0)) end) no_terms) 0 ≡ Ok record { equated = (0, negsuc 0) ∷ []; ranges = record { target = 0; range = Span (Number (pos 0)) Infinity } ∷ []; fresh = 1 }
+one_integer : expand 9 AllDifferent (term (cell (Int (negsuc 0)) end) no_terms) 0 ≡ Ok record {
+  equated = (0, negsuc 0) ∷ [];
+  ranges = record { target = 0; range = Span (Number (pos 0)) Infinity } ∷ [];
+  fresh = 1;
+}
 one_integer = refl
 
 -- fd_element(I, [5,7,5], 5)
@@ -220,9 +233,13 @@ a_flat_query : IsFlat 3 3 flat_query flat_goals Leftmost (Open 0 ∷ Open 1 ∷ 
 a_flat_query = record { list = flat_list; goals = refl; read = refl; flat = ((refl, refl), ((refl, omega arith), tt)); every = each_listed }
 
 -- its events
-flat_query_events : (prog : Program) (n : ℕ) (es : List Event) (r : ℕ) → Run 3 3 prog flat_query n None (start_of flat_query ∷ []) es r → AreFlatEvents 3 3 flat_query flat_goals Leftmost (0 ∷ 1 ∷ []) es
+flat_query_events : (prog : Program) (n : ℕ) (es : List Event) (r : ℕ) → Run 3 3 prog flat_query n None (start_of flat_query ∷ []) es r
+    → AreFlatEvents 3 3 flat_query flat_goals Leftmost (0 ∷ 1 ∷ []) es
 flat_query_events prog n es r run =
-    flat_events 3 3 prog flat_query n None es r flat_goals Leftmost (Open 0 ∷ Open 1 ∷ []) (omega arith) (omega arith) ((omega arith, tt), ((omega arith, (omega arith, tt)), ((omega arith, ((omega arith, (tt, tt)), tt)), tt))) (omega arith, (omega arith, tt)) a_flat_query run
+    flat_events 3 3 prog flat_query n None es r flat_goals Leftmost (Open 0 ∷ Open 1 ∷ []) (omega arith) (omega arith) (
+      (omega arith, tt),
+      ((omega arith, (omega arith, tt)), ((omega arith, ((omega arith, (tt, tt)), tt)), tt)),
+    ) (omega arith, (omega arith, tt)) a_flat_query run
 
 -- (1, 0) satisfies its goals, and (1, 1) doesn't
 differs : IsSatisfied 3 3 (λ x. if x == 0 then 1 else 0) (Constrain (Compare Differ) (operation (codes "#\\=") (Var 0) (Var 1)))
@@ -275,7 +292,8 @@ abbrev called : List ℕ → Goals
 called a = goal (Call (Atom a)) no_goals
 
 -- (a -> b ; c) is one if, and its other part is c; in (a -> b) it has none; \+ a holds one body
-an_if : body_goals 9 (both (codes ";") (both (codes "->") (named (codes "a")) (named (codes "b"))) (named (codes "c"))) ≡ goal (IfElse (called (codes "a")) (called (codes "b")) (called (codes "c"))) no_goals
+an_if : body_goals 9 (both (codes ";") (both (codes "->") (named (codes "a")) (named (codes "b"))) (named (codes "c"))) ≡ goal
+    (IfElse (called (codes "a")) (called (codes "b")) (called (codes "c"))) no_goals
 an_if = refl
 
 half_an_if : body_goals 9 (both (codes "->") (named (codes "a")) (named (codes "b"))) ≡ goal (If (called (codes "a")) (called (codes "b"))) no_goals

@@ -1,39 +1,43 @@
 -- Each runnable branch has its children, and each list of consistent runnable branches has a run.
-use Rattle.std.proofs.Common.{◌≡◌, ℕ, zero, suc, ◌+◌, ◌-◌, Bool, cond, map, drop, length, true, false, List, [], ◌∷◌, ◌++◌, Option, Some, None, refl, sym, ◌∙◌, subst, inl, inr, Result, Ok, Err}
+use Rattle.std.proofs.Common.{◌≡◌, ℕ, zero, suc, ◌+◌, ◌-◌, Bool, cond, map, drop, length, true, false, List, [], ◌∷◌, ◌++◌, Option, Some, None, refl, sym, ◌∙◌}
+use Rattle.std.proofs.Common.{subst, inl, inr, Result, Ok, Err}
 use Rattle.std.proofs.lemmas.Bool.{true≢false}
 use Rattle.fd_language.specs.Term.{Term, Var, Substitution, apply}
 use Rattle.fd_language.specs.Family.{Family}
 use Rattle.fd_language.specs.Range.{Range}
 use Rattle.fd_model.specs.Builtins.{Finding, faulted, decided, equated, finding}
-use Rattle.fd_model.specs.Goal.{Goal, Goals, no_goals, goal, listed, True, Fail, Unify, Post, Constrain, Label, Call, Either, Builtin, Cut, If, IfElse, Not, Best, marked, marked_goals, marked_all, Clause, Query, Branch, Program, Event, Answer, End, Budget, Limit, Fault, start_of}
-use Rattle.fd_model.specs.Closed.{AllPosted}
+use Rattle.fd_model.specs.Goal.{Goal, Goals, no_goals, goal, listed, True, Fail, Unify, Post, Constrain, Label, Call, Either, Builtin, Cut, If, IfElse, Not}
+use Rattle.fd_model.specs.Goal.{Best, marked, marked_goals, marked_all, Clause, Query, Branch, Program, Event, Answer, End, Budget, Limit, Fault, start_of}
+use Rattle.fd_model.specs.ClosedFamilies.{AllPosted}
 use Rattle.fd_language.specs.Monotonicity.{IsMonotone}
 use Rattle.fd_model.specs.Laws.{OneRun}
 use Rattle.fd_model.specs.declared.kinds.Order.{Order}
 use Rattle.fd_model.specs.Labelling.{read_list, values_by, pick}
 use Rattle.fd_model.specs.Members.{Member}
-use Rattle.fd_model.specs.Seen.{IsConsistent, IsView}
+use Rattle.fd_model.specs.BranchViews.{IsConsistent, IsView}
 use Rattle.fd_model.specs.Posting.{post, Found, offends, posts}
 use Rattle.fd_model.specs.Renaming.{rename_goal, rename_goals}
 use Rattle.fd_model.specs.declared.kinds.QueryFault.{QueryFault}
 use Rattle.fd_model.specs.declared.kinds.ConstraintKind.{ConstraintKind}
 use Rattle.fd_model.specs.LinearRows.{Expansion}
-use Rattle.fd_model.specs.Constraining.{constrain, arguments}
+use Rattle.fd_model.specs.ConstraintExpansion.{constrain, arguments}
 use Rattle.fd_model.proofs.RowsMonotone.{monotone_rows}
-use Rattle.fd_model.specs.Children.{Offer, Faults, Gives, Seeks, by_test, by_cost, cost_fault, unless_fault, kept_by, last_of, Kept, KeptOffer, offer, look_in, sets_in, by_value, by_pick, by_listing, with_goals, with_equations, with_range, with_expansion, by_clauses, by_clause, by_post, by_constraint, by_finding, fits_head}
+use Rattle.fd_model.specs.Children.{Offer, Faults, Gives, Seeks, by_test, by_cost, cost_fault, unless_fault, kept_by, last_of, Kept, KeptOffer, offer, look_in}
+use Rattle.fd_model.specs.Children.{sets_in, by_value, by_pick, by_listing, with_goals, with_equations, with_range, with_expansion, by_clauses, by_clause}
+use Rattle.fd_model.specs.Children.{by_post, by_constraint, by_finding, fits_head}
 use Rattle.fd_model.specs.Lines.{answer_line, says}
-use Rattle.fd_model.specs.Sound.{IsRunnable, AllRunnable, AreRunnable, ClausesRunnable, IsRunnableProgram}
+use Rattle.fd_model.specs.RunnablePrograms.{IsRunnable, AllRunnable, AreRunnable, ClausesRunnable, IsRunnableProgram}
 use Rattle.fd_language.specs.Check.{range_fits}
 use Rattle.fd_model.specs.Run.{IsLimit, Run, over, last, fewer, any, spent, faulty, taken}
 use Rattle.fd_language.proofs.Lemmas.{range_fits_same}
-use Rattle.fd_model.proofs.Accepting.{posted_monotone}
-use Rattle.fd_model.proofs.Consistent.{decide_consistent, has_view}
+use Rattle.fd_model.proofs.AcceptedRanges.{posted_monotone}
+use Rattle.fd_model.proofs.ConsistentBranches.{decide_consistent, has_view}
 use Rattle.fd_language.specs.Lists.{Each}
 use Rattle.fd_model.specs.Leaves.{SoughtLeaf}
 use Rattle.fd_model.proofs.Leaves.{sought_each}
 use Rattle.fd_model.proofs.LeafExistence.{sought_there}
-use Rattle.fd_model.proofs.Unique.{run_once}
-use Rattle.fd_model.proofs.Growing.{posted_both}
+use Rattle.fd_model.proofs.UniqueRuns.{run_once}
+use Rattle.fd_model.proofs.AddedRanges.{posted_both}
 
 -- what a branch keeps: its goals are runnable and its posted ranges monotone
 pub record IsSound (M : ℕ) (b : Branch) : Type 0 where
@@ -99,7 +103,8 @@ body_renamed M f [] h = tt
 body_renamed M f (g ∷ gs) h = (runnable_renamed M f g h.0, body_renamed M f gs h.1)
 
 -- a search for the best leaf gives no branches of its own
-no_branches : (seen : Term) (b : Branch) (rest : List Goal) (o : Order) (least : Bool) (t c : Term) (l : Result (List Member) QueryFault) (cs : List Branch) → by_cost seen (Seeks b rest o least t c) l ≡ Gives cs → ⊥
+no_branches : (seen : Term) (b : Branch) (rest : List Goal) (o : Order) (least : Bool) (t c : Term) (l : Result (List Member) QueryFault) (cs : List Branch)
+    → by_cost seen (Seeks b rest o least t c) l ≡ Gives cs → ⊥
 no_branches seen b rest o least t c (Err f) cs e = cc
 no_branches seen b rest o least t c (Ok ms) cs e = by_fault (cost_fault ms seen) e
   where
@@ -113,7 +118,14 @@ module _ (M N m : ℕ) (b : Branch) (rest : List Goal) (posted : AllPosted (λ p
   clauses_sound (c ∷ cs) t h = by_head (fits_head t c.head) (by_clauses m cs b t rest) (clauses_sound cs t h.1)
     where
       by_head : (fits : Bool) (bs : List Branch) → AllSound M bs → AllSound M (cond fits (by_clause m b t rest c ∷ bs) bs)
-      by_head true bs l = (record { goals = runnable_both M (marked_all m (map (rename_goal (λ x. b.fresh + x)) c.body)) rest (all_marked M m (map (rename_goal (λ x. b.fresh + x)) c.body) (body_renamed M (λ x. b.fresh + x) c.body h.0)) others; posted = posted }, l)
+      by_head true bs l = (
+        record {
+          goals = runnable_both M (marked_all m (map (rename_goal (λ x. b.fresh + x)) c.body)) rest
+              (all_marked M m (map (rename_goal (λ x. b.fresh + x)) c.body) (body_renamed M (λ x. b.fresh + x) c.body h.0)) others;
+          posted = posted;
+        },
+        l,
+      )
       by_head false bs l = l
 
   post_sound : (look : ℕ → Term) (t : Term) (r : Range) → range_fits M r true ≡ true → (f : Found) → post look t r b.fresh ≡ f → (cs : List Branch) → by_post b rest f ≡ Gives cs → AllSound M cs
@@ -122,7 +134,8 @@ module _ (M N m : ℕ) (b : Branch) (rest : List Goal) (posted : AllPosted (λ p
       let kids : with_range b rest p es n ∷ [] ≡ cs = cc in
       subst (AllSound M) kids (record { goals = others; posted = (posted_monotone M look t r b.fresh n p es fits e, posted) }, tt)
 
-  constraint_sound : (look : ℕ → Term) (c : ConstraintKind) (t : Term) (r : Result Expansion QueryFault) → constrain M look c t b.fresh ≡ r → (cs : List Branch) → by_constraint b rest r ≡ Gives cs → AllSound M cs
+  constraint_sound : (look : ℕ → Term) (c : ConstraintKind) (t : Term) (r : Result Expansion QueryFault) → constrain M look c t b.fresh ≡ r → (cs : List Branch)
+      → by_constraint b rest r ≡ Gives cs → AllSound M cs
   constraint_sound look c t (Err f) e cs i = absurd (cc)
   constraint_sound look c t (Ok x) e cs i =
       let kids : with_expansion b rest x ∷ [] ≡ cs = cc in
@@ -153,7 +166,8 @@ module _ (M N m : ℕ) (b : Branch) (rest : List Goal) (posted : AllPosted (λ p
   tested k test gs h g = record { goals = runnable_both M (marked_all k (listed test)) (Cut (Some m) ∷ gs) (all_marked M k (listed test) (runnable_listed M test h)) (tt, g); posted = posted }
 
   -- the children of a sound branch are sound
-  pub offer_sound : (prog : Program) (look : ℕ → Term) (sets : ℕ → Option (List ℕ)) (g : Goal) → IsRunnableProgram M prog → IsRunnable M g → (cs : List Branch) → offer M N m prog look sets b g rest ≡ Gives cs → AllSound M cs
+  pub offer_sound : (prog : Program) (look : ℕ → Term) (sets : ℕ → Option (List ℕ)) (g : Goal) → IsRunnableProgram M prog → IsRunnable M g → (cs : List Branch)
+      → offer M N m prog look sets b g rest ≡ Gives cs → AllSound M cs
   offer_sound prog look sets True p h cs e = one_sound (with_goals b rest) cs e (record { goals = others; posted = posted })
   offer_sound prog look sets Fail p h cs e = let kids : [] ≡ cs = cc in subst (AllSound M) kids tt
   offer_sound prog look sets (Unify s t) p h cs e = one_sound (with_equations b rest (record { left = s; right = t } ∷ []) b.fresh) cs e (record { goals = others; posted = posted })
@@ -163,15 +177,20 @@ module _ (M N m : ℕ) (b : Branch) (rest : List Goal) (posted : AllPosted (λ p
   offer_sound prog look sets (Call t) p h cs e = let kids : by_clauses m prog.clauses b t rest ≡ cs = cc in subst (AllSound M) kids (clauses_sound prog.clauses t p.clauses)
   offer_sound prog look sets (Either x y) p h cs e =
       let kids : with_goals b (listed x ++ rest) ∷ with_goals b (listed y ++ rest) ∷ [] ≡ cs = cc in
-      subst (AllSound M) kids
-      (record { goals = runnable_both M (listed x) rest (runnable_listed M x h.0) others; posted = posted }, (record { goals = runnable_both M (listed y) rest (runnable_listed M y h.1) others; posted = posted }, tt))
+      subst (AllSound M) kids (
+        record { goals = runnable_both M (listed x) rest (runnable_listed M x h.0) others; posted = posted },
+        (record { goals = runnable_both M (listed y) rest (runnable_listed M y h.1) others; posted = posted }, tt),
+      )
   offer_sound prog look sets (Builtin k t) p h cs e = finding_sound (finding k look sets t) cs e
   offer_sound prog look sets (Cut c) p h cs e = one_sound (with_goals b rest) cs e (record { goals = others; posted = posted })
-  offer_sound prog look sets (If test holds) p h cs e = one_sound (by_test m m b test (listed holds ++ rest)) cs e (tested m test (listed holds ++ rest) h.0 (runnable_both M (listed holds) rest (runnable_listed M holds h.1) others))
+  offer_sound prog look sets (If test holds) p h cs e = one_sound (by_test m m b test (listed holds ++ rest)) cs e
+      (tested m test (listed holds ++ rest) h.0 (runnable_both M (listed holds) rest (runnable_listed M holds h.1) others))
   offer_sound prog look sets (IfElse test holds other) p h cs e =
       let kids : by_test (suc m) m b test (listed holds ++ rest) ∷ with_goals b (listed other ++ rest) ∷ [] ≡ cs = cc in
-      subst (AllSound M) kids
-      (tested (suc m) test (listed holds ++ rest) h.0 (runnable_both M (listed holds) rest (runnable_listed M holds h.1) others), (record { goals = runnable_both M (listed other) rest (runnable_listed M other h.2) others; posted = posted }, tt))
+      subst (AllSound M) kids (
+        tested (suc m) test (listed holds ++ rest) h.0 (runnable_both M (listed holds) rest (runnable_listed M holds h.1) others),
+        (record { goals = runnable_both M (listed other) rest (runnable_listed M other h.2) others; posted = posted }, tt),
+      )
   offer_sound prog look sets (Not gs) p h cs e =
       let kids : by_test (suc m) m b gs (Fail ∷ rest) ∷ with_goals b rest ∷ [] ≡ cs = cc in
       subst (AllSound M) kids (tested (suc m) gs (Fail ∷ rest) h (tt, others), (record { goals = others; posted = posted }, tt))
@@ -219,7 +238,8 @@ module _ (M N : ℕ) (prog : Program) (q : Query) (runnable : IsRunnableProgram 
   -- what a search for the best leaf finds is live
   found_live : (b : Branch) (rest : List Goal) (o : Order) (least : Bool) (t c : Term) (cs : List Branch) → IsLive b → AreRunnable M rest → SoughtLeaf M N b rest o least t c cs → AllLive cs
   found_live b rest o least t c cs l h f =
-      live_each cs (sought_each M N b rest o least t c cs (λ d. AllPosted (λ p. IsMonotone M p.range) d.posted × IsConsistent M N d.equations d.posted) IsLive (λ d s D ms x n i v e p j ok. (i.0, ok)) (l.0.posted, l.1)
+      live_each cs (sought_each M N b rest o least t c cs (λ d. AllPosted (λ p. IsMonotone M p.range) d.posted × IsConsistent M N d.equations d.posted) IsLive
+      (λ d s D ms x n i v e p j ok. (i.0, ok)) (l.0.posted, l.1)
       (λ d i. (record { goals = h; posted = i.0 }, i.1)) f)
 
   by_children : (m : ℕ) (k : Option ℕ) (b : Branch) (bs : List Branch) (g : Goal) (rest : List Goal) → AllLive bs → b.goals ≡ g ∷ rest → ((cs : List Branch) → AllLive cs → HasRun m k cs)
@@ -229,7 +249,8 @@ module _ (M N : ℕ) (prog : Program) (q : Query) (runnable : IsRunnableProgram 
       let more = later (ks ++ last_of (kept_by (length bs) g) bs) (live_both ks (last_of (kept_by (length bs) g) bs) lives (live_last (kept_by (length bs) g) bs ls)) in
       (says s D b g ++ more.0, suc more.1, taken g rest s D ks e (record { view = v; kept = subst (λ o. KeptOffer M N o (Gives ks)) (sym i) kept }) more.2)
 
-  by_offer : (m : ℕ) (k : Option ℕ) (b : Branch) (bs : List Branch) (g : Goal) (rest : List Goal) → IsLive b → AllLive bs → b.goals ≡ g ∷ rest → IsRunnable M g → AreRunnable M rest → ((cs : List Branch) → AllLive cs → HasRun m k cs)
+  by_offer : (m : ℕ) (k : Option ℕ) (b : Branch) (bs : List Branch) (g : Goal) (rest : List Goal) → IsLive b → AllLive bs → b.goals ≡ g ∷ rest → IsRunnable M g
+      → AreRunnable M rest → ((cs : List Branch) → AllLive cs → HasRun m k cs)
       → (s : Substitution) (D : Family) → IsView M N b.equations b.posted s D → (o : Offer) → offer M N (length bs) prog (look_in b s D) (sets_in b s D) b g rest ≡ o → HasRun (suc m) k (b ∷ bs)
   by_offer m k b bs g rest l ls e h hs later s D v (Faults f) i = (Fault f ∷ [], 1, faulty g rest s D e (record { view = v; kept = subst (λ o. KeptOffer M N o (Faults f)) (sym i) refl }))
   by_offer m k b bs g rest l ls e h hs later s D v (Gives cs) i =
@@ -245,7 +266,8 @@ module _ (M N : ℕ) (prog : Program) (q : Query) (runnable : IsRunnableProgram 
   by_limit n (Some (suc zero)) b bs e l a later = let v = view_of b l in (Answer (answer_line q v.0 v.1 b) ∷ Limit ∷ [], 0, last v.0 v.1 e v.2)
   by_limit n (Some (suc (suc j))) b bs e l a later = let v = view_of b l in let more = later (Some (suc j)) tt in (Answer (answer_line q v.0 v.1 b) ∷ more.0, more.1, fewer v.0 v.1 e v.2 more.2)
 
-  by_goals : (n : ℕ) (k : Option ℕ) (b : Branch) (bs : List Branch) (gs : List Goal) → b.goals ≡ gs → IsLive b → AllLive bs → IsLimit k → ((j : Option ℕ) → IsLimit j → HasRun n j bs) → ((m : ℕ) → n ≡ suc m → (cs : List Branch) → AllLive cs → HasRun m k cs) → HasRun n k (b ∷ bs)
+  by_goals : (n : ℕ) (k : Option ℕ) (b : Branch) (bs : List Branch) (gs : List Goal) → b.goals ≡ gs → IsLive b → AllLive bs → IsLimit k
+      → ((j : Option ℕ) → IsLimit j → HasRun n j bs) → ((m : ℕ) → n ≡ suc m → (cs : List Branch) → AllLive cs → HasRun m k cs) → HasRun n k (b ∷ bs)
   by_goals n k b bs [] e l ls a here later = by_limit n k b bs e l a here
   by_goals zero k b bs (g ∷ rest) e l ls a here later = (Budget ∷ [], 0, spent g rest e)
   by_goals (suc m) k b bs (g ∷ rest) e l ls a here later =
@@ -265,7 +287,8 @@ nothing_constrained : (M N : ℕ) → IsConsistent M N [] []
 nothing_constrained M N = record { unifier = λ x. Var x; general = record { unifies = tt; general = λ u x h. refl }; some = λ x h. absurd (true≢false (sym h)) }
 
 -- each query of a runnable program has a run
-pub query_has_run : (M N : ℕ) (prog : Program) (q : Query) → IsRunnableProgram M prog → AreRunnable M q.goals → (n : ℕ) (k : Option ℕ) → IsLimit k → (es : List Event) × (r : ℕ) × Run M N prog q n k (start_of q ∷ []) es r
+pub query_has_run : (M N : ℕ) (prog : Program) (q : Query) → IsRunnableProgram M prog → AreRunnable M q.goals → (n : ℕ) (k : Option ℕ) → IsLimit k
+    → (es : List Event) × (r : ℕ) × Run M N prog q n k (start_of q ∷ []) es r
 query_has_run M N prog q p h n k a = has_run M N prog q p n k a (start_of q ∷ []) ((record { goals = all_marked M 0 q.goals h; posted = tt }, nothing_constrained M N), tt)
 
 pub one_run : OneRun

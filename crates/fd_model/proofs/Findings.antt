@@ -1,5 +1,6 @@
 -- What a built-in goal equates are terms over the variables of the goal, and what it comes to doesn't depend on the names of variables.
-use Rattle.std.proofs.Common.{◌≡◌, ℕ, ℤ, pos, Bool, true, false, cond, ◌==◌, List, [], ◌++◌, Option, Result, Ok, Err, refl, sym, ◌∙◌, ap, inl, inr, eq-eqb, ne_eqb}
+use Rattle.std.proofs.Common.{◌≡◌, ℕ, ℤ, pos, Bool, true, false, cond, ◌==◌, List, [], ◌++◌, Option, Result, Ok, Err, refl, sym, ◌∙◌, ap, inl, inr, eq-eqb}
+use Rattle.std.proofs.Common.{ne_eqb}
 use Rattle.std.specs.Prelude.{◌&&◌, not, codes, ◌∷◌}
 use Rattle.std.specs.Str.{bytes_eq}
 use Rattle.fd_language.specs.Term.{Name, Term, Terms, Var, Int, Atom, Comp, no_terms, term, Substitution, apply, apply_all}
@@ -7,13 +8,16 @@ use Rattle.fd_language.specs.Family.{has}
 use Rattle.fd_language.specs.Variables.{TermBelow, variables_of, variables_of_all}
 use Rattle.std.proofs.lemmas.Bool.{cases_eq}
 use Rattle.fd_language.proofs.Lemmas.{two, in_left, in_right}
-use Rattle.fd_model.proofs.Heeding.{first_member}
+use Rattle.fd_model.proofs.ModelSubstitutions.{first_member}
 use Rattle.fd_model.specs.declared.kinds.QueryFault.{QueryFault}
 use Rattle.fd_model.specs.declared.kinds.BuiltinKind.{BuiltinKind}
 use Rattle.fd_model.specs.declared.kinds.BuiltinKind.TheVariants as kind
 use Rattle.fd_model.specs.Arithmetic.{Value, not_a_number, opposite_of, by_name, value_of}
 use Rattle.fd_model.specs.Linear.{of_one}
-use Rattle.fd_model.specs.Builtins.{evaluated, checked_value, is_same, are_same, is_open, is_integer, is_atom, is_atomic, is_compound, Numbers, one, those, set_numbers, least_number, greatest_number, number_count, two_terms, interval_term, interval_terms, interval_list, first_argument, second_argument, Finding, faulted, decided, equated, equals_value, equals_number, compared, numbers_of, found, finding}
+use Rattle.fd_model.specs.Builtins.{evaluated, checked_value, is_same, are_same, is_open, is_integer, is_atom, is_atomic, is_compound, Numbers, one, those}
+use Rattle.fd_model.specs.Builtins.{set_numbers, least_number, greatest_number, number_count, two_terms, interval_term, interval_terms, interval_list}
+use Rattle.fd_model.specs.Builtins.{first_argument, second_argument, Finding, faulted, decided, equated, equals_value, equals_number, compared, numbers_of}
+use Rattle.fd_model.specs.Builtins.{found, finding}
 use Rattle.fd_model.specs.Lines.{Interval, intervals}
 
 abbrev pub IsFindingBelow : ℕ → Finding → Type 0
@@ -110,7 +114,8 @@ same_number cell x y h = elim (cases_eq x y) [
 ]
 
 mutual
-  pub same_renamed : (look : Substitution) (cell : ℕ → ℕ) (t u : Term) → Named look cell (variables_of t) → Named look cell (variables_of u) → Apart cell (variables_of t) (variables_of u) → is_same (apply look t) (apply look u) ≡ is_same t u
+  pub same_renamed : (look : Substitution) (cell : ℕ → ℕ) (t u : Term) → Named look cell (variables_of t) → Named look cell (variables_of u)
+      → Apart cell (variables_of t) (variables_of u) → is_same (apply look t) (apply look u) ≡ is_same t u
   same_renamed look cell (Var x) (Var y) h i d = two is_same (h x (first_member x [])) (i y (first_member y [])) ∙ same_number cell x y (d x y (first_member x []) (first_member y []))
   same_renamed look cell (Var x) (Int z) h i d = ap (λ t. is_same t (Int z)) (h x (first_member x []))
   same_renamed look cell (Var x) (Atom a) h i d = ap (λ t. is_same t (Atom a)) (h x (first_member x []))
@@ -128,7 +133,8 @@ mutual
   same_renamed look cell (Comp f ts) (Atom b) h i d = refl
   same_renamed look cell (Comp f ts) (Comp g us) h i d = ap (λ x. bytes_eq f g && x) (all_same_renamed look cell ts us h i d)
 
-  all_same_renamed : (look : Substitution) (cell : ℕ → ℕ) (ts us : Terms) → Named look cell (variables_of_all ts) → Named look cell (variables_of_all us) → Apart cell (variables_of_all ts) (variables_of_all us) → are_same (apply_all look ts) (apply_all look us) ≡ are_same ts us
+  all_same_renamed : (look : Substitution) (cell : ℕ → ℕ) (ts us : Terms) → Named look cell (variables_of_all ts) → Named look cell (variables_of_all us)
+      → Apart cell (variables_of_all ts) (variables_of_all us) → are_same (apply_all look ts) (apply_all look us) ≡ are_same ts us
   all_same_renamed look cell no_terms no_terms h i d = refl
   all_same_renamed look cell no_terms (term u us) h i d = refl
   all_same_renamed look cell (term t ts) no_terms h i d = refl
@@ -138,13 +144,16 @@ mutual
       (same_renamed look cell t u (λ y k. h y (in_left tv tsv y k)) (λ y k. i y (in_left uv usv y k)) (λ x y k l. d x y (in_left tv tsv x k) (in_left uv usv y l)))
       (all_same_renamed look cell ts us (λ y k. h y (in_right tv tsv y k)) (λ y k. i y (in_right uv usv y k)) (λ x y k l. d x y (in_right tv tsv x k) (in_right uv usv y l)))
 
-pub numbers_renamed : (look : Substitution) (cell : ℕ → ℕ) (sets sets' : ℕ → Option (List ℕ)) (t : Term) → Named look cell (variables_of t) → ((y : ℕ) → has (variables_of t) y ≡ true → sets' (cell y) ≡ sets y) → numbers_of sets' (apply look t) ≡ numbers_of sets t
+pub numbers_renamed : (look : Substitution) (cell : ℕ → ℕ) (sets sets' : ℕ → Option (List ℕ)) (t : Term) → Named look cell (variables_of t)
+    → ((y : ℕ) → has (variables_of t) y ≡ true → sets' (cell y) ≡ sets y) → numbers_of sets' (apply look t) ≡ numbers_of sets t
 numbers_renamed look cell sets sets' (Var x) h s = ap (numbers_of sets') (h x (first_member x [])) ∙ ap set_numbers (s x (first_member x []))
 numbers_renamed look cell sets sets' (Int z) h s = refl
 numbers_renamed look cell sets sets' (Atom a) h s = refl
 numbers_renamed look cell sets sets' (Comp f ts) h s = refl
 
-kind_renamed : {A : Type 0} (test : Term → A) (var : A) → ((x : ℕ) → test (Var x) ≡ var) → (other : (f : Name) (ts us : Terms) → test (Comp f ts) ≡ test (Comp f us)) → (look : Substitution) (cell : ℕ → ℕ) (t : Term) → Named look cell (variables_of t) → test (apply look t) ≡ test t
+kind_renamed : {A : Type 0} (test : Term → A) (var : A) → ((x : ℕ) → test (Var x) ≡ var)
+    → (other : (f : Name) (ts us : Terms) → test (Comp f ts) ≡ test (Comp f us)) → (look : Substitution) (cell : ℕ → ℕ) (t : Term)
+    → Named look cell (variables_of t) → test (apply look t) ≡ test t
 kind_renamed test var v other look cell (Var x) h = ap test (h x (first_member x [])) ∙ v (cell x) ∙ sym (v x)
 kind_renamed test var v other look cell (Int z) h = refl
 kind_renamed test var v other look cell (Atom a) h = refl
@@ -173,12 +182,14 @@ value_same : (look : Substitution) (t : Term) (r r' : Result ℤ QueryFault) →
 value_same look t (Err f) r' e = ap (equals_value (apply look t)) e
 value_same look t (Ok z) r' e = ap (equals_value (apply look t)) e
 
-number_same : (look : Substitution) (tell : Numbers → Term) → ((ns : Numbers) → apply look (tell ns) ≡ tell ns) → (t : Term) (r r' : Result Numbers QueryFault) → r' ≡ r → SameFinding look (equals_number tell t r) (equals_number tell (apply look t) r')
+number_same : (look : Substitution) (tell : Numbers → Term) → ((ns : Numbers) → apply look (tell ns) ≡ tell ns) → (t : Term) (r r' : Result Numbers QueryFault)
+    → r' ≡ r → SameFinding look (equals_number tell t r) (equals_number tell (apply look t) r')
 number_same look tell s t (Err f) r' e = ap (equals_number tell (apply look t)) e
 number_same look tell s t (Ok ns) r' e = ap (equals_number tell (apply look t)) e ∙ ap (equated (apply look t)) (sym (s ns))
 
 -- What a goal comes to doesn't depend on the names of variables: u and v are as they are seen, and settled gives these with other names, one for each variable.
-module _ (look settled : Substitution) (cell : ℕ → ℕ) (sets sets' : ℕ → Option (List ℕ)) (a b u v : Term) (named_u : Named settled cell (variables_of u)) (named_v : Named settled cell (variables_of v)) (apart : Apart cell (variables_of u) (variables_of v))
+module _ (look settled : Substitution) (cell : ℕ → ℕ) (sets sets' : ℕ → Option (List ℕ)) (a b u v : Term) (named_u : Named settled cell (variables_of u))
+    (named_v : Named settled cell (variables_of v)) (apart : Apart cell (variables_of u) (variables_of v))
     (same_sets : (y : ℕ) → has (variables_of u) y ≡ true → sets' (cell y) ≡ sets y) where
   abbrev left : Term
   left = apply settled u
@@ -192,7 +203,8 @@ module _ (look settled : Substitution) (cell : ℕ → ℕ) (sets sets' : ℕ �
   values : (holds : ℤ → ℤ → Bool) → SameFinding look (compared holds (evaluated u) (evaluated v)) (compared holds (evaluated left) (evaluated right))
   values holds = compared_same look holds (evaluated u) (evaluated left) (evaluated v) (evaluated right) (evaluated_renamed settled cell u named_u) (evaluated_renamed settled cell v named_v)
 
-  numbers : (tell : Numbers → Term) → ((ns : Numbers) → apply look (tell ns) ≡ tell ns) → SameFinding look (equals_number tell b (numbers_of sets u)) (equals_number tell (apply look b) (numbers_of sets' left))
+  numbers : (tell : Numbers → Term) → ((ns : Numbers) → apply look (tell ns) ≡ tell ns)
+      → SameFinding look (equals_number tell b (numbers_of sets u)) (equals_number tell (apply look b) (numbers_of sets' left))
   numbers tell s = number_same look tell s b (numbers_of sets u) (numbers_of sets' left) (numbers_renamed settled cell sets sets' u named_u same_sets)
 
   pub found_renamed : (k : BuiltinKind) → SameFinding look (found k sets a b u v) (found k sets' (apply look a) (apply look b) left right)

@@ -9,7 +9,7 @@ use Rattle.fd_model.specs.Members.{Member}
 use Rattle.fd_model.specs.Leaves.{IsBetter, IsAsGood}
 use Rattle.fd_model.specs.BestPosted.{IsCostOf, Costs, HaveValues, IsBestPosted}
 use Rattle.fd_model.specs.PostedLaws.{cost_by, ComesBefore, FirstOfBest}
-use Rattle.fd_model.specs.Satisfies.{Assignment}
+use Rattle.fd_model.specs.Satisfaction.{Assignment}
 use Rattle.fd_model.proofs.Lists.{each_at}
 use Rattle.fd_model.proofs.KeptLeaves.{kept_are_leaves}
 use Rattle.fd_model.proofs.OrderedLeaves.{in_order}

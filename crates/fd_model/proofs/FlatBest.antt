@@ -1,5 +1,6 @@
 -- The answer of a flat query that asks for the least or the greatest cost, and its events.
-use Rattle.std.proofs.Common.{◌≡◌, ℕ, ◌<◌, ◌≤◌, Bool, true, false, ◌==◌, ℤ, pos, List, [], ◌∷◌, ◌++◌, map, Option, Some, None, Ok, cond, refl, ap, sym, ◌∙◌, subst, inl, inr, ◌⊎◌, arith, eqb-true}
+use Rattle.std.proofs.Common.{◌≡◌, ℕ, ◌<◌, ◌≤◌, Bool, true, false, ◌==◌, ℤ, pos, List, [], ◌∷◌, ◌++◌, map, Option, Some, None, Ok, cond, refl, ap, sym, ◌∙◌}
+use Rattle.std.proofs.Common.{subst, inl, inr, ◌⊎◌, arith, eqb-true}
 use Rattle.std.proofs.lemmas.Int.{ints}
 use Rattle.std.proofs.lemmas.Bool.{or_cases, true≢false, cases_Bool}
 use Rattle.fd_language.specs.Term.{Term, Var, Int, Atom, Comp, Substitution, apply}
@@ -9,15 +10,15 @@ use Rattle.fd_model.specs.declared.kinds.Order.{Order}
 use Rattle.fd_model.specs.declared.kinds.QueryFault.{QueryFault}
 use Rattle.fd_model.specs.declared.kinds.QueryFault.TheVariants.{Parameter}
 use Rattle.fd_model.specs.Goal.{Goal, Label, Best, Program, Query, Branch, Event, Answer, End, start_of}
-use Rattle.fd_model.specs.Sound.{NumbersBelow, EachBelow}
-use Rattle.fd_model.specs.Seen.{IsView}
+use Rattle.fd_model.specs.RunnablePrograms.{NumbersBelow, EachBelow}
+use Rattle.fd_model.specs.BranchViews.{IsView}
 use Rattle.fd_model.specs.Lines.{says}
 use Rattle.fd_model.specs.Members.{Member, Open, Known, as_member}
 use Rattle.fd_model.specs.Labelling.{read_list, open_ones}
 use Rattle.fd_model.specs.Leaves.{IsBetter, IsAsGood, BestLeaf, SoughtLeaf}
 use Rattle.fd_model.specs.Children.{Children, Faults, Gives as GivesBranches, KeptOffer, offer, Seeks, look_in, sets_in, with_goals, cost_fault}
 use Rattle.fd_model.specs.Run.{Run}
-use Rattle.fd_model.specs.Satisfies.{Assignment}
+use Rattle.fd_model.specs.Satisfaction.{Assignment}
 use Rattle.fd_model.specs.Answers.{answers, EndsWith, Shows, EachShows, Somewhere, InOrder, Comes}
 use Rattle.fd_model.specs.FlatLines.{assigned_line, IsLast, IsSatisfying, ComesFirst, IsAssigned}
 use Rattle.fd_model.specs.BestAnswers.{number_in, cost_in, IsBestAnswer, AreBestAnswers}
@@ -25,16 +26,17 @@ use Rattle.fd_model.specs.FlatBest.{IsFlatBest, IsStart, FlatBest, cost_at, IsBe
 use Rattle.fd_model.specs.Ways.{Way, added_by, begins as way_begins, goes}
 use Rattle.fd_model.proofs.Lists.{each_where, each_map, each_at, each_after, some_either}
 use Rattle.fd_model.proofs.GoalRows.{Rewritten, with_ranges, IsPlain}
-use Rattle.fd_model.proofs.Searching.{Search, searched}
-use Rattle.fd_model.proofs.Staging.{IsGoalRow, IsStage, Assigned}
+use Rattle.fd_model.proofs.SearchAnswers.{Search, searched}
+use Rattle.fd_model.proofs.FlatBranches.{IsGoalRow, IsStage, Assigned}
 use Rattle.fd_model.proofs.Labels.{IsReady}
-use Rattle.fd_model.proofs.Flattening.{read_itself, itself, stage_ready, stage_kids, offered as row_offered, flat_search}
+use Rattle.fd_model.proofs.FlatSearch.{read_itself, itself, stage_ready, stage_kids, offered as row_offered, flat_search}
 use Rattle.fd_model.proofs.BestLeaves.{best_search, offered as best_offered}
 use Rattle.fd_model.proofs.Events.{AreLines, lines_of, lines_shown, EachLine}
 use Rattle.fd_model.proofs.FlatQueries.{Holds, Good, none, row, kept, start_stage, Given, there, back, quiet}
 
 -- the same answers, however what is allowed is said
-best_mapped : (M N : ℕ) (o : Order) (least : Bool) (t : Term) (vs : List ℕ) (cost : List ℕ → ℤ) (A B : List ℕ → Type 0) (S T : Branch → Type 0) (V W : Type 0) → ((ns : List ℕ) → A ns → B ns) → ((ns : List ℕ) → B ns → A ns) → ((d : Branch) → S d → T d) → (W → V)
+best_mapped : (M N : ℕ) (o : Order) (least : Bool) (t : Term) (vs : List ℕ) (cost : List ℕ → ℤ) (A B : List ℕ → Type 0) (S T : Branch → Type 0) (V W : Type 0)
+    → ((ns : List ℕ) → A ns → B ns) → ((ns : List ℕ) → B ns → A ns) → ((d : Branch) → S d → T d) → (W → V)
     → (found : List Branch) → AreBestAnswers M N o least t vs cost A S found V → AreBestAnswers M N o least t vs cost B T found W
 best_mapped M N o least t vs cost A B S T V W there back placed whole found (inl h) = inl (record {
   branch = h.branch;
@@ -56,7 +58,8 @@ best_mapped M N o least t vs cost A B S T V W there back placed whole found (inl
 })
 best_mapped M N o least t vs cost A B S T V W there back placed whole found (inr h) = inr (h.0, λ w ns i. h.1 (whole w) ns (back ns i))
 
-module _ (M N : ℕ) (positive : 0 < N) (within : N ≤ M) (prog : Program) (q : Query) (gs : List Goal) (o : Order) (least : Bool) (ms : List Member) (c : Member) (f : IsFlatBest M N q gs o least ms c) (scoped : EachBelow q.variables q.goals) where
+module _ (M N : ℕ) (positive : 0 < N) (within : N ≤ M) (prog : Program) (q : Query) (gs : List Goal) (o : Order) (least : Bool) (ms : List Member) (c : Member)
+    (f : IsFlatBest M N q gs o least ms c) (scoped : EachBelow q.variables q.goals) where
   abbrev final : Goal
   final = Best o least f.list f.cost
 
@@ -123,7 +126,8 @@ module _ (M N : ℕ) (positive : 0 < N) (within : N ≤ M) (prog : Program) (q :
   listed : cost_fault ms (apply base f.cost) ≡ None
   listed = ap (cost_fault ms) (plain_cost f.cost f.member) ∙ f.listed
 
-  reached : (m : ℕ) (b : Branch) (g : Goal) (rest : List Goal) (s : Substitution) (D : Family) (cs : List Branch) → IsReached b → b.goals ≡ g ∷ rest → Children M N prog m b g rest s D (GivesBranches cs) → Each IsReached cs
+  reached : (m : ℕ) (b : Branch) (g : Goal) (rest : List Goal) (s : Substitution) (D : Family) (cs : List Branch) → IsReached b → b.goals ≡ g ∷ rest
+      → Children M N prog m b g rest s D (GivesBranches cs) → Each IsReached cs
   reached m b g rest s D cs w e k = each_where IsReached cs (λ d i. (added_by M (look_in b s D) b.fresh g ++ w.0, goes m g rest s D cs w.1 e k i))
 
   ended : (b : Branch) → Stage b [] → IsReached b → (found left : List Branch) → Search M N prog (b ∷ []) found left → Result (Allows b []) found left
@@ -132,13 +136,17 @@ module _ (M N : ℕ) (positive : 0 < N) (within : N ≤ M) (prog : Program) (q :
       (λ d i. (b, way.0, way.1, stage.goals, i)) (λ e. e) found
       (best_search M N within prog o least f.list ms base stage.new read f.cost c member listed b (begins b stage) stage.goals found left search)
 
-  pub answers_of : (n : ℕ) (k : Option ℕ) (es : List Event) (r : ℕ) (run : Run M N prog q n k (start_of q ∷ []) es r) → AreBestAnswers M N o least f.list vs cost (IsAssigned M N gs vs) Starts (answers run) (EndsWith End es)
+  pub answers_of : (n : ℕ) (k : Option ℕ) (es : List Event) (r : ℕ) (run : Run M N prog q n k (start_of q ∷ []) es r)
+      → AreBestAnswers M N o least f.list vs cost (IsAssigned M N gs vs) Starts (answers run) (EndsWith End es)
   answers_of n k es r run =
       let s = searched M N prog q run in
       let found = flat_search M N within prog final o f.list ms q.variables Holding Sound f.every low f.read rows keeps Result (λ A b. inr (refl, λ e. absurd (cc))) (λ A left no. inr (refl, λ e. no))
-      (λ A B there back found left r. best_mapped M N o least f.list vs cost A B Starts Starts (left ≡ []) (left ≡ []) there back (λ d i. i) (λ e. e) found r) IsReached reached ended gs (start_of q) begun ([], way_begins) (answers run) s.0 s.1 in
-      best_mapped M N o least f.list vs cost (Given M N positive within prog q gs final f.list ms f.goals refl (λ h. h.0) f.read f.flat f.every scoped) (IsAssigned M N gs vs) Starts Starts (s.0 ≡ []) (EndsWith End es)
-      (there M N positive within prog q gs final f.list ms f.goals refl (λ h. h.0) f.read f.flat f.every scoped) (back M N positive within prog q gs final f.list ms f.goals refl (λ h. h.0) f.read f.flat f.every scoped) (λ d i. i) s.2 (answers run) found
+      (λ A B there back found left r. best_mapped M N o least f.list vs cost A B Starts Starts (left ≡ []) (left ≡ []) there back (λ d i. i) (λ e. e) found r)
+      IsReached reached ended gs (start_of q) begun ([], way_begins) (answers run) s.0 s.1 in
+      best_mapped M N o least f.list vs cost (Given M N positive within prog q gs final f.list ms f.goals refl (λ h. h.0) f.read f.flat f.every scoped)
+      (IsAssigned M N gs vs) Starts Starts (s.0 ≡ []) (EndsWith End es)
+      (there M N positive within prog q gs final f.list ms f.goals refl (λ h. h.0) f.read f.flat f.every scoped)
+      (back M N positive within prog q gs final f.list ms f.goals refl (λ h. h.0) f.read f.flat f.every scoped) (λ d i. i) s.2 (answers run) found
 
   -- the branches of such a query: on the way to the last goal, or behind it
   abbrev IsBestBranch : Branch → Type 0
@@ -161,16 +169,19 @@ module _ (M N : ℕ) (positive : 0 < N) (within : N ≤ M) (prog : Program) (q :
         ap (λ h. offer M N m prog (look_in b s D) (sets_in b s D) b h rest) one ∙ ap (λ r. offer M N m prog (look_in b s D) (sets_in b s D) b final r) others
         ∙ best_offered M N within prog o least f.list ms base stage.new read f.cost c member listed b (begins b stage) s D v m
 
-  best_children : (m : ℕ) (b : Branch) (g : Goal) (rest : List Goal) (s : Substitution) (D : Family) (cs : List Branch) → IsBestBranch b → b.goals ≡ g ∷ rest → Children M N prog m b g rest s D (GivesBranches cs) → Each IsBestBranch cs
+  best_children : (m : ℕ) (b : Branch) (g : Goal) (rest : List Goal) (s : Substitution) (D : Family) (cs : List Branch) → IsBestBranch b → b.goals ≡ g ∷ rest
+      → Children M N prog m b g rest s D (GivesBranches cs) → Each IsBestBranch cs
   best_children m b g rest s D cs (inl ([], stage)) e k =
       let sought : SoughtLeaf M N b [] o least f.list f.cost cs = subst (λ p. KeptOffer M N p (GivesBranches cs)) (seeks m b g rest s D stage e k.view) k.kept in
       found_bare sought.0 cs sought.2
   best_children m b g rest s D cs (inl (h ∷ hs, stage)) e k =
       stage_kids M N within prog final o f.list ms q.variables Holding Sound f.every low f.read rows keeps m b g rest s D h hs stage e k.view IsBestBranch (λ d i. inl (hs, i)) cs
-      (subst (λ p. KeptOffer M N p (GivesBranches cs)) (row_offered M N within prog final o f.list ms q.variables Holding Sound f.every low f.read rows keeps m b g rest s D h hs stage e k.view) k.kept)
+      (subst (λ p. KeptOffer M N p (GivesBranches cs))
+      (row_offered M N within prog final o f.list ms q.variables Holding Sound f.every low f.read rows keeps m b g rest s D h hs stage e k.view) k.kept)
   best_children m b g rest s D cs (inr h) e k = absurd (let i = sym h ∙ e in cc)
 
-  best_sound : (m : ℕ) (b : Branch) (g : Goal) (rest : List Goal) (s : Substitution) (D : Family) (x : QueryFault) → IsBestBranch b → b.goals ≡ g ∷ rest → Children M N prog m b g rest s D (Faults x) → ⊥
+  best_sound : (m : ℕ) (b : Branch) (g : Goal) (rest : List Goal) (s : Substitution) (D : Family) (x : QueryFault) → IsBestBranch b → b.goals ≡ g ∷ rest
+      → Children M N prog m b g rest s D (Faults x) → ⊥
   best_sound m b g rest s D x (inl ([], stage)) e k = subst (λ p. KeptOffer M N p (Faults x)) (seeks m b g rest s D stage e k.view) k.kept
   best_sound m b g rest s D x (inl (h ∷ hs, stage)) e k =
       subst (λ p. KeptOffer M N p (Faults x)) (row_offered M N within prog final o f.list ms q.variables Holding Sound f.every low f.read rows keeps m b g rest s D h hs stage e k.view) k.kept
@@ -178,7 +189,8 @@ module _ (M N : ℕ) (positive : 0 < N) (within : N ≤ M) (prog : Program) (q :
 
   best_silent : (b : Branch) (g : Goal) (rest : List Goal) (s : Substitution) (D : Family) → IsBestBranch b → b.goals ≡ g ∷ rest → says s D b g ≡ []
   best_silent b g rest s D (inl ([], stage)) e = let k = sym e ∙ stage.goals in let same : g ≡ final = cc in ap (says s D b) same
-  best_silent b g rest s D (inl (h ∷ hs, stage)) e = let k = sym e ∙ stage.goals in let same : g ≡ h = cc in ap (says s D b) same ∙ quiet M N positive within prog vs q.variables f.every h stage.good.0 b s D
+  best_silent b g rest s D (inl (h ∷ hs, stage)) e = let k = sym e ∙ stage.goals in let same : g ≡ h = cc in
+      ap (says s D b) same ∙ quiet M N positive within prog vs q.variables f.every h stage.good.0 b s D
   best_silent b g rest s D (inr h) e = absurd (let i = sym h ∙ e in cc)
 
   pub lines : (n : ℕ) (k : Option ℕ) (es : List Event) (r : ℕ) (run : Run M N prog q n k (start_of q ∷ []) es r) → AreLines M N q (answers run) es
@@ -280,7 +292,8 @@ module _ (M N : ℕ) (prog : Program) (q : Query) (gs : List Goal) (o : Order) (
         equal ns e = cost_there a ns e ∙ same ∙ sym own_cost
 
         by_place : Somewhere (λ ns. ns ≡ map a us) h.before ⊎ Somewhere (λ ns. ns ≡ map a us) (h.numbers ∷ h.behind) → (map a us ≡ map found us) ⊎ ComesFirst o us found a
-        by_place (inl i) = absurd (each_at (λ ns. IsBetter least (worth h.numbers) (worth ns)) h.before (λ ns. ns ≡ map a us) ⊥ h.earlier i (λ ns b e. never_better least (worth h.numbers) (worth ns) b (equal ns e)))
+        by_place (inl i) = absurd (each_at (λ ns. IsBetter least (worth h.numbers) (worth ns)) h.before (λ ns. ns ≡ map a us) ⊥ h.earlier i
+            (λ ns b e. never_better least (worth h.numbers) (worth ns) b (equal ns e)))
         by_place (inr (inl e)) = inl (sym e ∙ own.3)
         by_place (inr (inr i)) = inr (each_at (Comes o h.numbers) h.behind (λ ns. ns ≡ map a us) (ComesFirst o us found a) (order_after (Comes o) h.before (h.numbers ∷ h.behind) h.order).0 i
             (λ ns b e. subst (λ x. Comes o x (map a us)) own.3 (subst (Comes o h.numbers) e b)))

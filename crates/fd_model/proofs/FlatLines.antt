@@ -3,11 +3,11 @@ use Rattle.std.proofs.Common.{◌≡◌, ℕ, ◌<◌, true, ◌==◌, List, [],
 use Rattle.std.proofs.lemmas.Bool.{or_cases, true≢false}
 use Rattle.fd_language.specs.Family.{has}
 use Rattle.fd_model.specs.Goal.{Goal, Event, Answer, End}
-use Rattle.fd_model.specs.Sound.{NumbersBelow}
+use Rattle.fd_model.specs.RunnablePrograms.{NumbersBelow}
 use Rattle.fd_model.specs.Labelling.{open_ones}
 use Rattle.fd_language.specs.Lists.{Each}
 use Rattle.fd_model.specs.Answers.{answers, EndsWith, Somewhere, InOrder, Comes, EachShows}
-use Rattle.fd_model.specs.Satisfies.{Assignment}
+use Rattle.fd_model.specs.Satisfaction.{Assignment}
 use Rattle.fd_model.specs.FlatLines.{IsAssigned, assigned_line, IsSatisfying, FlatEvents}
 use Rattle.fd_model.proofs.Events.{lines_shown}
 use Rattle.fd_model.proofs.FlatQueries.{answers_of, lines}
@@ -41,7 +41,8 @@ numbers_below n [] x h i = absurd (true≢false (sym i))
 numbers_below n (y ∷ xs) x h i = elim (or_cases (y == x) (has xs x) i) [ inl e ↦ subst (λ z. z < n) (eqb-true y x e) h.0 | inr e ↦ numbers_below n xs x h.1 e ]
 
 -- the assignments of lists of values
-assigned : (M N : ℕ) (gs : List Goal) (vs : List ℕ) (nss : List (List ℕ)) → Each (IsAssigned M N gs vs) nss → (found : List Assignment) × (map (λ a. map a vs) found ≡ nss) × Each (IsSatisfying M N gs) found
+assigned : (M N : ℕ) (gs : List Goal) (vs : List ℕ) (nss : List (List ℕ)) → Each (IsAssigned M N gs vs) nss
+    → (found : List Assignment) × (map (λ a. map a vs) found ≡ nss) × Each (IsSatisfying M N gs) found
 assigned M N gs vs [] h = ([], refl, tt)
 assigned M N gs vs (ns ∷ nss) h =
     let later = assigned M N gs vs nss h.1 in

@@ -12,7 +12,7 @@ use Rattle.fd_model.specs.FlatConstraints.{SeesNumbers}
 use Rattle.fd_model.specs.PostingLaws.{IsPostable, FlatPosts}
 use Rattle.fd_language.proofs.Lemmas.{none_parameter}
 use Rattle.fd_language.specs.Lists.{Each}
-use Rattle.fd_model.proofs.Heeding.{first_member}
+use Rattle.fd_model.proofs.ModelSubstitutions.{first_member}
 use Rattle.fd_language.specs.Family.{has}
 use Rattle.std.proofs.lemmas.Bool.{or_right}
 
@@ -45,7 +45,9 @@ module _ (M : ℕ) (look : ℕ → Term) (sees : SeesNumbers M look) where
   given None p n es h t r k e = record { posted = p; fresh = n; made = es; gives = e }
 
 pub flat_posts : FlatPosts
-flat_posts M look (Var v) r n h none sees = given M look sees (first_offence (need_of r) look (one_occurrence v false ++ range_occurrences r)) _ _ _ (none_offends M look sees (need_of r) (one_occurrence v false ++ range_occurrences r) (refl, none_parameter r none)) (Var v) r n refl
-flat_posts M look (Int z) r n h none sees = given M look sees (first_offence (need_of r) look (range_occurrences r)) _ _ _ (none_offends M look sees (need_of r) (range_occurrences r) (none_parameter r none)) (Int z) r n refl
+flat_posts M look (Var v) r n h none sees = given M look sees (first_offence (need_of r) look (one_occurrence v false ++ range_occurrences r)) _ _ _
+    (none_offends M look sees (need_of r) (one_occurrence v false ++ range_occurrences r) (refl, none_parameter r none)) (Var v) r n refl
+flat_posts M look (Int z) r n h none sees = given M look sees (first_offence (need_of r) look (range_occurrences r)) _ _ _
+    (none_offends M look sees (need_of r) (range_occurrences r) (none_parameter r none)) (Int z) r n refl
 flat_posts M look (Atom f) r n h none sees = absurd (cc)
 flat_posts M look (Comp f ts) r n h none sees = absurd (cc)

@@ -6,7 +6,7 @@ use Rattle.fd_language.specs.Term.{Term, Var, Int, Atom, Comp, Substitution}
 use Rattle.fd_language.specs.Family.{Family, has}
 use Rattle.fd_language.specs.Range.{Range, reads, set_of}
 use Rattle.fd_model.specs.Goal.{Goal, Post, Constrain, Label, marked, marked_all, Program, Query, Branch, Event, End, start_of}
-use Rattle.fd_model.specs.Sound.{GoalBelow, EachBelow}
+use Rattle.fd_model.specs.RunnablePrograms.{GoalBelow, EachBelow}
 use Rattle.fd_model.specs.Lines.{says}
 use Rattle.fd_model.specs.Children.{Gives as GivesBranches, offer}
 use Rattle.fd_language.proofs.Lemmas.{set_agree, none_parameter, reads_occur}
@@ -17,21 +17,21 @@ use Rattle.fd_model.proofs.GoalRows.{Rewritten, with_ranges, numbers, IsPlain}
 use Rattle.fd_model.specs.Run.{Run}
 use Rattle.fd_language.specs.Lists.{Each}
 use Rattle.fd_model.specs.Answers.{answers, EndsWith, AreAnswers}
-use Rattle.fd_model.specs.Satisfies.{Assignment, singles, InRange}
-use Rattle.fd_model.specs.Constraining.{arguments}
+use Rattle.fd_model.specs.Satisfaction.{Assignment, singles, InRange}
+use Rattle.fd_model.specs.ConstraintExpansion.{arguments}
 use Rattle.fd_model.specs.FlatConstraints.{is_place}
 use Rattle.fd_model.specs.FlatQueries.{IsSatisfied, IsFlatGoal, IsFlat}
 use Rattle.fd_model.specs.FlatLines.{IsAssigned, FlatAnswers}
-use Rattle.fd_model.proofs.Searching.{searched}
-use Rattle.fd_model.proofs.Wayfaring.{list_below}
-use Rattle.fd_model.proofs.Seeing.{arguments_below}
+use Rattle.fd_model.proofs.SearchAnswers.{searched}
+use Rattle.fd_model.proofs.Ways.{list_below}
+use Rattle.fd_model.proofs.SeenTerms.{arguments_below}
 use Rattle.fd_model.proofs.ConstrainRows.{constrain_row, satisfies_same}
 use Rattle.fd_model.proofs.PostRows.{LiesIn, post_variable, post_integer}
-use Rattle.fd_model.proofs.Staging.{IsGoalRow, IsStage, Assigned}
-use Rattle.fd_model.proofs.Completing.{answers_map}
-use Rattle.fd_model.proofs.Flattening.{label_search, IsFlatBranch, start_flat, flat_children, flat_silent, flat_sound}
+use Rattle.fd_model.proofs.FlatBranches.{IsGoalRow, IsStage, Assigned}
+use Rattle.fd_model.proofs.LabelledAnswers.{answers_map}
+use Rattle.fd_model.proofs.FlatSearch.{label_search, IsFlatBranch, start_flat, flat_children, flat_silent, flat_sound}
 use Rattle.fd_model.proofs.Events.{AreLines, lines_of}
-use Rattle.fd_model.proofs.Comparing.{worth_same}
+use Rattle.fd_model.proofs.ComparisonRows.{worth_same}
 
 each_pair : {X : Type 0} (H G : X → Type 0) (xs : List X) → Each H xs → Each G xs → Each (λ x. H x × G x) xs
 each_pair H G [] h g = tt
@@ -76,7 +76,8 @@ module _ (M N : ℕ) (positive : 0 < N) (within : N ≤ M) (prog : Program) (vs 
     },
   )
 
-  pub goal_row : (m : ℕ) (b : Branch) (g : Goal) (rest : List Goal) (look : Substitution) (sets : ℕ → Option (List ℕ)) → IsGood g → nv ≤ b.fresh → IsPlain N vs look → IsRowOf m b g rest look sets (λ a. IsSatisfied M N a g)
+  pub goal_row : (m : ℕ) (b : Branch) (g : Goal) (rest : List Goal) (look : Substitution) (sets : ℕ → Option (List ℕ)) → IsGood g → nv ≤ b.fresh
+      → IsPlain N vs look → IsRowOf m b g rest look sets (λ a. IsSatisfied M N a g)
   goal_row m b (Post (Var v) r) rest look sets good low plain =
       posted_row m b (Var v) r rest look sets refl (post_variable M N m prog nv vs every b rest look sets plain low r good.0.1 good.1.1 v good.1.0)
   goal_row m b (Post (Int z) r) rest look sets good low plain =
@@ -170,7 +171,8 @@ module _ (M N : ℕ) (positive : 0 < N) (within : N ≤ M) (prog : Program) (q :
   back ns h = (h.0, record { bounded = h.1; unifier = numbers h.0; unifies = tt; given = λ x i. refl; posted = tt }, h.2, h.3)
 
 -- A flat query ends with a labelling.
-module _ (M N : ℕ) (positive : 0 < N) (within : N ≤ M) (prog : Program) (q : Query) (gs : List Goal) (o : Order) (ms : List Member) (f : IsFlat M N q gs o ms) (scoped : EachBelow q.variables q.goals) where
+module _ (M N : ℕ) (positive : 0 < N) (within : N ≤ M) (prog : Program) (q : Query) (gs : List Goal) (o : Order) (ms : List Member) (f : IsFlat M N q gs o ms)
+    (scoped : EachBelow q.variables q.goals) where
   abbrev final : Goal
   final = Label o f.list
 
@@ -196,11 +198,15 @@ module _ (M N : ℕ) (positive : 0 < N) (within : N ≤ M) (prog : Program) (q :
   begun : IsStage M N within prog final members q.variables Holding Sound f.every low (start_of q) gs
   begun = start_stage M N positive within prog q gs final f.list ms f.goals refl (λ h. h) f.read f.flat f.every scoped
 
-  pub answers_of : (n : ℕ) (k : Option ℕ) (es : List Event) (r : ℕ) (run : Run M N prog q n k (start_of q ∷ []) es r) → AreAnswers M N o members (IsAssigned M N gs members) (answers run) (EndsWith End es)
+  pub answers_of : (n : ℕ) (k : Option ℕ) (es : List Event) (r : ℕ) (run : Run M N prog q n k (start_of q ∷ []) es r)
+      → AreAnswers M N o members (IsAssigned M N gs members) (answers run) (EndsWith End es)
   answers_of n k es r run =
       let s = searched M N prog q run in
       let found = label_search M N within prog final o f.list ms q.variables Holding Sound f.every low f.read rows keeps refl gs (start_of q) begun (answers run) s.0 s.1 in
-      answers_map M N o members (Given M N positive within prog q gs final f.list ms f.goals refl (λ h. h) f.read f.flat f.every scoped) (IsAssigned M N gs members) (s.0 ≡ []) (EndsWith End es) (there M N positive within prog q gs final f.list ms f.goals refl (λ h. h) f.read f.flat f.every scoped) (back M N positive within prog q gs final f.list ms f.goals refl (λ h. h) f.read f.flat f.every scoped) s.2 (answers run) found
+      answers_map M N o members (Given M N positive within prog q gs final f.list ms f.goals refl (λ h. h) f.read f.flat f.every scoped)
+      (IsAssigned M N gs members) (s.0 ≡ []) (EndsWith End es)
+      (there M N positive within prog q gs final f.list ms f.goals refl (λ h. h) f.read f.flat f.every scoped)
+      (back M N positive within prog q gs final f.list ms f.goals refl (λ h. h) f.read f.flat f.every scoped) s.2 (answers run) found
 
   abbrev FlatBranch : Branch → Type 0
   FlatBranch = IsFlatBranch M N within prog final o f.list ms q.variables Holding Sound f.every low f.read rows keeps refl

@@ -1,5 +1,7 @@
 -- Flat comparisons meet no fault.
-use Rattle.std.proofs.Common.{◌≡◌, ℕ, suc, ◌+◌, ◌-◌, ◌*◌, ◌^◌, ◌≤◌, ◌<◌, Bool, true, false, cond, not, ◌&&◌, ◌||◌, ◌==◌, ℤ, pos, negsuc, ◌+ℤ◌, ◌-ℤ◌, ◌*ℤ◌, neg_ℤ, nat_abs, nat_lt, List, [], ◌∷◌, ◌++◌, length, refl, ap, inl, inr, arith, Result, Ok, Err, mul-le-mul, mul-le-mul_left, length-append}
+use Rattle.std.proofs.Common.{◌≡◌, ℕ, suc, ◌+◌, ◌-◌, ◌*◌, ◌^◌, ◌≤◌, ◌<◌, Bool, true, false, cond, not, ◌&&◌, ◌||◌, ◌==◌, ℤ, pos, negsuc, ◌+ℤ◌, ◌-ℤ◌, ◌*ℤ◌}
+use Rattle.std.proofs.Common.{neg_ℤ, nat_abs, nat_lt, List, [], ◌∷◌, ◌++◌, length, refl, ap, inl, inr, arith, Result, Ok, Err, mul-le-mul, mul-le-mul_left}
+use Rattle.std.proofs.Common.{length-append}
 use Rattle.std.proofs.Math.Nat.{mul_assoc, mul_comm}
 use Rattle.std.specs.List.{list_all}
 use Rattle.std.specs.Ordering.{int_eq}
@@ -15,9 +17,10 @@ use Rattle.fd_language.specs.Variables.{variables_of}
 use Rattle.fd_language.specs.Range.{is_none_left}
 use Rattle.fd_language.specs.Term.{Term, Var, Int, Atom, Comp, no_terms, term}
 use Rattle.fd_language.proofs.Lemmas.{abs_add, abs_mul}
-use Rattle.fd_model.specs.Linear.{Sum, with_product, with_products, scaled, nonzero, plus, times, is_constant, in_integers, are_few, is_within, checked, of_both, of_one, sum_of, difference_of, product_of, collect_term, Linear, collect, normal, normal_form, comparison}
+use Rattle.fd_model.specs.Linear.{Sum, with_product, with_products, scaled, nonzero, plus, times, is_constant, in_integers, are_few, is_within, checked}
+use Rattle.fd_model.specs.Linear.{of_both, of_one, sum_of, difference_of, product_of, collect_term, Linear, collect, normal, normal_form, comparison}
 use Rattle.fd_model.specs.LinearRows.{Expansion, linear_rows}
-use Rattle.fd_model.specs.Constraining.{compare}
+use Rattle.fd_model.specs.ConstraintExpansion.{compare}
 use Rattle.fd_model.specs.FlatConstraints.{width, is_narrow, is_ground, is_operator, is_flat, is_flat_comparison, FlatCompares}
 use Rattle.fd_model.proofs.RowWidths.{weight, weight_product, weight_nonzero}
 
@@ -104,7 +107,8 @@ module _ (M : ℕ) (some : 0 < M) where
       let o = length_products s.products t.products in
       (omega arith, omega arith)
 
-  times_light : (k : ℤ) (s : Sum) (w n : ℕ) → weight M s.products + nat_abs s.constant ≤ w → length s.products ≤ n → (weight M (times k s).products + nat_abs (times k s).constant ≤ nat_abs k * w) × (length (times k s).products ≤ n)
+  times_light : (k : ℤ) (s : Sum) (w n : ℕ) → weight M s.products + nat_abs s.constant ≤ w → length s.products ≤ n
+      → (weight M (times k s).products + nat_abs (times k s).constant ≤ nat_abs k * w) × (length (times k s).products ≤ n)
   times_light k s w n h l =
       let e = weight_scaled k s.products in
       let f = abs_mul k s.constant in
@@ -177,7 +181,8 @@ module _ (M : ℕ) (some : 0 < M) where
       by_test false e = by_other (is_constant t) (other e)
 
     operator_gives : (p q r : Bool) → (p || (q || (r && (is_ground a || is_ground b)))) ≡ true → cond (p || q) (width M a + width M b) (width M a * width M b) < 2 ^ 63
-        → Gives (cond (p || q) (width M a + width M b) (width M a * width M b)) (cond p (of_both sum_of (Ok s) (Ok t)) (cond q (of_both difference_of (Ok s) (Ok t)) (cond r (of_both product_of (Ok s) (Ok t)) (Err BadType))))
+        → Gives (cond (p || q) (width M a + width M b) (width M a * width M b))
+        (cond p (of_both sum_of (Ok s) (Ok t)) (cond q (of_both difference_of (Ok s) (Ok t)) (cond r (of_both product_of (Ok s) (Ok t)) (Err BadType))))
     operator_gives true q r g h = sum_gives h
     operator_gives false true r g h = difference_gives h
     operator_gives false false true g h = product_gives g h
@@ -212,8 +217,12 @@ module _ (M : ℕ) (some : 0 < M) where
       let k = flat_collected a ((and_parts (bytes_eq f (codes "-")) (is_flat M a) h).1) (omega arith) in
       let o = times_light (negsuc 0) k.0 (width M a) (length (variables_of a)) k.2.light k.2.few in
       let w = width_small a ((and_parts (bytes_eq f (codes "-")) (is_flat M a) h).1) in
-      let g = light_checked (times (negsuc 0) k.0) (omega (arith, o.0)) (omega (arith, o.1)) in
-      (times (negsuc 0) k.0, if_true (bytes_eq f (codes "-")) (of_one (λ s. checked (times (negsuc 0) s)) (collect_term a)) (Err BadType) (Ok (times (negsuc 0) k.0)) ((and_parts (bytes_eq f (codes "-")) (is_flat M a) h).0) (rw k.1 g), record { light = omega (arith, o.0); few = omega (arith, o.1) })
+      let g = light_checked (times (negsuc 0) k.0) (omega (arith, o.0)) (omega (arith, o.1)) in (
+        times (negsuc 0) k.0,
+        if_true (bytes_eq f (codes "-")) (of_one (λ s. checked (times (negsuc 0) s)) (collect_term a)) (Err BadType)
+            (Ok (times (negsuc 0) k.0)) ((and_parts (bytes_eq f (codes "-")) (is_flat M a) h).0) (rw k.1 g),
+        record { light = omega (arith, o.0); few = omega (arith, o.1) },
+      )
   flat_collected (Comp f (term a (term b no_terms))) h l =
       let v = length-append (variables_of a) (variables_of b ++ []) in
       let v2 = length-append (variables_of b) [] in

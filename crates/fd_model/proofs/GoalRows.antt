@@ -4,12 +4,12 @@ use Rattle.fd_language.specs.Term.{Var, Int, Substitution}
 use Rattle.fd_language.specs.Unifier.{Equation, Unifies}
 use Rattle.fd_language.specs.Family.{has}
 use Rattle.fd_language.specs.Range.{Indexical, set_of}
-use Rattle.fd_model.specs.Closed.{AllPosted, constrained}
+use Rattle.fd_model.specs.ClosedFamilies.{AllPosted, constrained}
 use Rattle.fd_model.specs.Goal.{Goal, Branch}
 use Rattle.fd_language.specs.Variables.{TermBelow}
 use Rattle.fd_model.specs.LinearRows.{Expansion}
-use Rattle.fd_model.specs.Constraining.{equations}
-use Rattle.fd_model.specs.Satisfies.{Assignment, singles}
+use Rattle.fd_model.specs.ConstraintExpansion.{equations}
+use Rattle.fd_model.specs.Satisfaction.{Assignment, singles}
 use Rattle.fd_language.specs.Lists.{Each}
 use Rattle.fd_model.specs.Answers.{Settles}
 use Rattle.fd_model.specs.Ways.{added}

@@ -1,5 +1,6 @@
 -- Leaves of posted lists and the assignments that keep the posted ranges.
-use Rattle.std.proofs.Common.{◌≡◌, ℕ, ◌≤◌, true, ◌==◌, List, [], ◌∷◌, ◌++◌, map, Some, None, pos, refl, ap, sym, ◌∙◌, subst, inl, inr, arith, eqb-true, append_assoc, append-nil}
+use Rattle.std.proofs.Common.{◌≡◌, ℕ, ◌≤◌, true, ◌==◌, List, [], ◌∷◌, ◌++◌, map, Some, None, pos, refl, ap, sym, ◌∙◌, subst, inl, inr, arith, eqb-true}
+use Rattle.std.proofs.Common.{append_assoc, append-nil}
 use Rattle.std.proofs.lemmas.Bool.{or_cases, or_right, true≢false}
 use Rattle.std.proofs.lemmas.Int.{ints}
 use Rattle.fd_model.specs.declared.kinds.Order.{Order}
@@ -9,17 +10,17 @@ use Rattle.fd_language.specs.Range.{Indexical, set_of, reads, least}
 use Rattle.fd_language.specs.SingleValues.{only}
 use Rattle.fd_language.proofs.Lemmas.{first_member, only_member, least_small, set_agree, in_left, in_right}
 use Rattle.fd_model.specs.Answers.{Somewhere, OneValue}
-use Rattle.fd_model.specs.Closed.{AllPosted, constrained}
+use Rattle.fd_model.specs.ClosedFamilies.{AllPosted, constrained}
 use Rattle.fd_model.specs.Domains.{Domains}
 use Rattle.fd_model.specs.Labelling.{open_ones}
 use Rattle.fd_model.specs.Members.{Member}
 use Rattle.fd_model.specs.PostedLeaves.{AreLeft, seen_in, picked_in, exactly, with_value, KeptLists, PostedLeaves, no_leaves, leaf, grows}
 use Rattle.fd_model.specs.BestPosted.{HaveValues}
 use Rattle.fd_model.specs.PostedLaws.{Keeps, IsWhole, LeavesAreKept, KeptAreLeaves}
-use Rattle.fd_model.specs.Satisfies.{Assignment, singles}
-use Rattle.fd_model.specs.Seen.{IsConsistent}
+use Rattle.fd_model.specs.Satisfaction.{Assignment, singles}
+use Rattle.fd_model.specs.BranchViews.{IsConsistent}
 use Rattle.fd_model.proofs.Constants.{in_span}
-use Rattle.fd_model.proofs.Growing.{posted_both}
+use Rattle.fd_model.proofs.AddedRanges.{posted_both}
 use Rattle.fd_model.proofs.ListNames.{posted_left}
 use Rattle.fd_model.proofs.PostedSets.{AllMonotone, InRanges, monotone_more, left_ranges, left_narrower, left_some, domains_from, consistent_by}
 use Rattle.fd_model.proofs.PostedLeaves.{some_only, still_only, none_picked, each_leaf}
@@ -46,7 +47,8 @@ module _ (M : ℕ) (a : Assignment) where
   kept_more : (ps : List Indexical) (x : ℕ) → Keeps M ps a → Keeps M (with_value ps x (a x)) a
   kept_more ps x k = record {
     bounded = k.bounded;
-    posted = posted_both (λ p. has (set_of M (singles a) p.range) (a p.target) ≡ true) ps (exactly x (a x) ∷ []) k.posted (in_span M (singles a) (pos (a x)) (pos (a x)) (a x) (k.bounded x) (omega (arith, ints)) (omega (arith, ints)), tt);
+    posted = posted_both (λ p. has (set_of M (singles a) p.range) (a p.target) ≡ true) ps (exactly x (a x) ∷ []) k.posted
+        (in_span M (singles a) (pos (a x)) (pos (a x)) (a x) (k.bounded x) (omega (arith, ints)) (omega (arith, ints)), tt);
   }
 
   -- where each has one value these are the assignment's
@@ -89,7 +91,11 @@ module _ (M : ℕ) (o : Order) (ms : List Member) (a : Assignment) where
 
   kept_leaf : {bs ls : List (List Indexical)} → PostedLeaves M o ms bs ls → Somewhere KeptHere bs → Somewhere HasThem ls
   kept_leaf no_leaves h = absurd h
-  kept_leaf (leaf {b = b} D d e l) (inl k) = inl (record { family = D; left = d; values = kept_values M a D (open_ones ms) (kept_in M a b D k d) (end_only D ms (none_picked o D (map (seen_in D) ms) e)) })
+  kept_leaf (leaf {b = b} D d e l) (inl k) = inl (record {
+    family = D;
+    left = d;
+    values = kept_values M a D (open_ones ms) (kept_in M a b D k d) (end_only D ms (none_picked o D (map (seen_in D) ms) e));
+  })
   kept_leaf (leaf D d e l) (inr h) = inr (kept_leaf l h)
   kept_leaf (grows {b = b} {bs = bs} D x cs d e g l) (inl k) = kept_leaf l (somewhere_left cs bs (kept_among b x (D x) (kept_in M a b D k d x) k cs g))
   kept_leaf (grows {bs = bs} D x cs d e g l) (inr h) = kept_leaf l (somewhere_right cs bs h)
@@ -108,11 +114,16 @@ one_only : (xs : List ℕ) (n : ℕ) → only xs ≡ Some n → OneValue xs
 one_only xs n e = (n, some_only xs n e)
 
 module _ (M : ℕ) (E : Family) (rises : IsFamily M E) where
-  lowest_keeps : (ps : List Indexical) → InRanges M E ps → ((x : ℕ) → has (constrained ps) x ≡ true → OneValue (E x)) → AllPosted (λ p. has (set_of M (singles (lowest E)) p.range) (lowest E p.target) ≡ true) ps
+  lowest_keeps : (ps : List Indexical) → InRanges M E ps → ((x : ℕ) → has (constrained ps) x ≡ true → OneValue (E x))
+      → AllPosted (λ p. has (set_of M (singles (lowest E)) p.range) (lowest E p.target) ≡ true) ps
   lowest_keeps [] r f = tt
   lowest_keeps (p ∷ ps) r f =
-      let target : has (E p.target) (least (E p.target)) ≡ true = (let e = one_least (E p.target) (f p.target (first_member p.target (reads p.range ++ constrained ps))) in subst (λ l. has l (least (E p.target)) ≡ true) (sym e) (first_member (least (E p.target)) [])) in
-      let same : set_of M (singles (lowest E)) p.range ≡ set_of M E p.range = set_agree M (singles (lowest E)) E p.range (λ v i. sym (one_least (E v) (f v (or_right (p.target == v) (has (reads p.range ++ constrained ps) v) (in_left (reads p.range) (constrained ps) v i))))) in (
+      let target : has (E p.target) (least (E p.target)) ≡ true =
+      (let e = one_least (E p.target) (f p.target (first_member p.target (reads p.range ++ constrained ps))) in
+      subst (λ l. has l (least (E p.target)) ≡ true) (sym e) (first_member (least (E p.target)) [])) in
+      let same : set_of M (singles (lowest E)) p.range ≡ set_of M E p.range = set_agree M (singles (lowest E)) E p.range
+      (λ v i. sym (one_least (E v) (f v (or_right (p.target == v) (has (reads p.range ++ constrained ps) v)
+      (in_left (reads p.range) (constrained ps) v i))))) in (
         subst (λ l. has l (least (E p.target)) ≡ true) (sym same) (r.0.each (least (E p.target)) target),
         lowest_keeps ps r.1 (λ x i. f x (or_right (p.target == x) (has (reads p.range ++ constrained ps) x) (in_right (reads p.range) (constrained ps) x i))),
       )
@@ -159,7 +170,8 @@ module _ (M : ℕ) (o : Order) (ms : List Member) (ps : List Indexical) (ws : Li
           cc
 
   pub whole_leaves : (ls : List (List Indexical)) → PostedLeaves M o ms (ps ∷ []) ls → Each (λ l. (a : Assignment) × Keeps M ps a × HaveValues M (open_ones ms) l (map a (open_ones ms))) ls
-  whole_leaves ls l = each_leaf M o ms IsBelow (λ qs. (a : Assignment) × Keeps M ps a × HaveValues M (open_ones ms) qs (map a (open_ones ms))) below_child leaf_kept l (record { monotone = whole.monotone; consistent = whole.consistent; more = []; extends = sym (append-nil ps) }, tt)
+  whole_leaves ls l = each_leaf M o ms IsBelow (λ qs. (a : Assignment) × Keeps M ps a × HaveValues M (open_ones ms) qs (map a (open_ones ms))) below_child
+      leaf_kept l (record { monotone = whole.monotone; consistent = whole.consistent; more = []; extends = sym (append-nil ps) }, tt)
 
 pub leaves_are_kept : LeavesAreKept
 leaves_are_kept M o ms ps ws ls whole l = whole_leaves M o ms ps ws whole ls l

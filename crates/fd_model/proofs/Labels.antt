@@ -1,5 +1,6 @@
 -- The branches of a labelling: each leaf shows its only solution, and the children of a branch part its solutions.
-use Rattle.std.proofs.Common.{◌≡◌, ℕ, ◌<◌, ◌≤◌, true, false, cond, ◌==◌, ℤ, pos, IsTrue, List, [], ◌∷◌, ◌++◌, map, Option, Some, None, ◌⊎◌, refl, ap, sym, ◌∙◌, subst, inl, inr, arith, eqb-true, Result, Err, Ok}
+use Rattle.std.proofs.Common.{◌≡◌, ℕ, ◌<◌, ◌≤◌, true, false, cond, ◌==◌, ℤ, pos, IsTrue, List, [], ◌∷◌, ◌++◌, map, Option, Some, None, ◌⊎◌, refl, ap, sym, ◌∙◌}
+use Rattle.std.proofs.Common.{subst, inl, inr, arith, eqb-true, Result, Err, Ok}
 use Rattle.fd_model.proofs.Slots.{int_number}
 use Rattle.std.proofs.lemmas.Bool.{or_cases, or_right, cases_Bool, true≢false}
 use Rattle.fd_model.specs.declared.kinds.QueryFault.{QueryFault}
@@ -9,23 +10,25 @@ use Rattle.fd_language.specs.Term.{Term, Var, Int, Atom, Comp, Substitution, app
 use Rattle.fd_language.specs.Unifier.{Unifies}
 use Rattle.fd_language.specs.Family.{Family, has, IsSubset, IsRising}
 use Rattle.fd_language.specs.Range.{Indexical, set_of, reads}
-use Rattle.fd_model.specs.Closed.{AllPosted, constrained}
+use Rattle.fd_model.specs.ClosedFamilies.{AllPosted, constrained}
 use Rattle.fd_model.specs.Goal.{Goal, Label, Program, Branch}
-use Rattle.fd_model.specs.Seen.{IsConsistent, IsView, set_at, by_set}
+use Rattle.fd_model.specs.BranchViews.{IsConsistent, IsView, set_at, by_set}
 use Rattle.fd_model.specs.Children.{Gives, Faults, with_goals, Kept, KeptOffer, look_in, Children, kept_by, offer, by_value, by_pick, by_listing, sets_in}
-use Rattle.fd_language.proofs.Lemmas.{has_high, has_either, in_universe, universe_rising, in_left, in_right, set_agree, still_unifies, number_for, number_at, number_back}
+use Rattle.fd_language.proofs.Lemmas.{has_high, has_either, in_universe, universe_rising, in_left, in_right, set_agree, still_unifies, number_for, number_at}
+use Rattle.fd_language.proofs.Lemmas.{number_back}
 use Rattle.fd_model.proofs.OneView.{one_view}
 use Rattle.fd_model.specs.Labelling.{read_list, values_by, pick, open_ones}
 use Rattle.fd_model.specs.Members.{Member}
-use Rattle.fd_model.specs.Satisfies.{Assignment, singles}
+use Rattle.fd_model.specs.Satisfaction.{Assignment, singles}
 use Rattle.fd_model.specs.Answers.{IsSolution, Somewhere, Precedes, Comes, OneValue, Settles}
 use Rattle.fd_model.proofs.Models.{view_model}
-use Rattle.fd_model.proofs.Heeding.{Heeds, heeds_weaker, solution_heeds, solution_consistent, solution_inside, given_constrained, given_listed, set_found, look_heeds, look_only, look_single, single_set, by_set_int, through_look, first_member, pos_same}
-use Rattle.fd_model.proofs.Listing.{read_members}
-use Rattle.fd_model.proofs.Picking.{IsInt, AllInts, First, Among, Picked, picked_among, pick_none, pick_some}
-use Rattle.fd_model.proofs.Keeping.{rising_within, kept_each, kept_there, kept_order}
-use Rattle.fd_model.proofs.Grounded.{Follows, IsGrounded, child_ground, is_read, list_read as read_as, open_self as self_open}
-use Rattle.fd_model.proofs.Searching.{IsParted, IsLeaf, Before}
+use Rattle.fd_model.proofs.ModelSubstitutions.{Heeds, heeds_weaker, solution_heeds, solution_consistent, solution_inside, given_constrained, given_listed}
+use Rattle.fd_model.proofs.ModelSubstitutions.{set_found, look_heeds, look_only, look_single, single_set, by_set_int, through_look, first_member, pos_same}
+use Rattle.fd_model.proofs.SubstitutedLists.{read_members}
+use Rattle.fd_model.proofs.PickedMembers.{IsInt, AllInts, First, Among, Picked, picked_among, pick_none, pick_some}
+use Rattle.fd_model.proofs.ValueBranches.{rising_within, kept_each, kept_there, kept_order}
+use Rattle.fd_model.proofs.OpenMembers.{Follows, IsGrounded, child_ground, is_read, list_read as read_as, open_self as self_open}
+use Rattle.fd_model.proofs.SearchAnswers.{IsParted, IsLeaf, Before}
 
 pub natural : Term → ℕ
 natural (Int (pos n)) = n
@@ -88,7 +91,8 @@ module _ (M N : ℕ) (low : N ≤ M) (prog : Program) (o : Order) (t : Term) (ms
     -- what a solution gives is what is seen
     seen_value : (a : Assignment) (l : IsSolution M N b.equations b.posted vs a) (y : ℕ) (z : ℤ) → has vs y ≡ true → look y ≡ Int z → z ≡ pos (a y)
     seen_value a l y z h e =
-        let k = sym (given_listed M N low b.equations b.posted vs a l y h) ∙ sym (through_look M N b s D v ready.consistent l.unifier (solution_heeds M N low b.equations b.posted vs a l) y) ∙ ap (apply l.unifier) e in
+        let k = sym (given_listed M N low b.equations b.posted vs a l y h)
+        ∙ sym (through_look M N b s D v ready.consistent l.unifier (solution_heeds M N low b.equations b.posted vs a l) y) ∙ ap (apply l.unifier) e in
         int_same (a y) z k
 
     full : (x : ℕ) → has (constrained b.posted) x ≡ true → (n : ℕ) × (has (D x) n ≡ true)
@@ -96,8 +100,11 @@ module _ (M N : ℕ) (low : N ≤ M) (prog : Program) (o : Order) (t : Term) (ms
 
     seen_one : (w : ℕ) → has (constrained b.posted) w ≡ true → IsInt (look w) → OneValue (D w)
     seen_one w c i =
-        let f = full w c in
-        (f.0, single_set M N b s D v ready.consistent w f.0 c (λ k h. pos_same k f.0 (look_only M N b s D v ready.consistent w i.0 k c i.1 h ∙ sym (look_only M N b s D v ready.consistent w i.0 f.0 c i.1 f.1))))
+        let f = full w c in (
+          f.0,
+          single_set M N b s D v ready.consistent w f.0 c
+              (λ k h. pos_same k f.0 (look_only M N b s D v ready.consistent w i.0 k c i.1 h ∙ sym (look_only M N b s D v ready.consistent w i.0 f.0 c i.1 f.1))),
+        )
 
     module _ (ints : AllInts look vs) where
       unsettled : (w : ℕ) → has (constrained b.posted) w ≡ true → has ws w ≡ false → OneValue (D w)
@@ -169,7 +176,9 @@ module _ (M N : ℕ) (low : N ≤ M) (prog : Program) (o : Order) (t : Term) (ms
         values = map seen_number vs;
         shown = record { unifier = s; family = D; view = v; values = map_shown look seen_number vs (λ y h. number_given y (in_left vs (constrained b.posted) y h)) };
         allowed = (seen_number, seen_solution, refl);
-        only = λ ns h. h.2 ∙ map_same h.0 seen_number vs (λ y k. let e = seen_value h.0 h.1 y (pos (seen_number y)) k (number_given y (in_left vs (constrained b.posted) y k)) in pos_same (h.0 y) (seen_number y) (sym e));
+        only = λ ns h. h.2 ∙ map_same h.0 seen_number vs
+            (λ y k. let e = seen_value h.0 h.1 y (pos (seen_number y)) k (number_given y (in_left vs (constrained b.posted) y k)) in
+            pos_same (h.0 y) (seen_number y) (sym e));
       }
 
     grounded : IsGrounded M N t ms base listed b
@@ -220,7 +229,8 @@ module _ (M N : ℕ) (low : N ≤ M) (prog : Program) (o : Order) (t : Term) (ms
 
       values_of : (r : Option (List ℕ)) → set_at s D (constrained b.posted) x ≡ r → IsRising 0 N (values_by N r)
       values_of None e = universe_rising N
-      values_of (Some xs) e = let f = set_found s D x (constrained b.posted) xs e in subst (IsRising 0 N) f.set (rising_within 0 M N (D f.variable) (v.closed.family.rising f.variable) (λ n h. v.closed.within f.variable n f.listed h))
+      values_of (Some xs) e = let f = set_found s D x (constrained b.posted) xs e in
+          subst (IsRising 0 N) f.set (rising_within 0 M N (D f.variable) (v.closed.family.rising f.variable) (λ n h. v.closed.within f.variable n f.listed h))
 
       rising : IsRising 0 N values
       rising = values_of (set_at s D (constrained b.posted) x) refl
@@ -229,13 +239,15 @@ module _ (M N : ℕ) (low : N ≤ M) (prog : Program) (o : Order) (t : Term) (ms
       module _ (a : Assignment) (l : IsSolution M N b.equations b.posted vs a) where
         open_number : (y : ℕ) → has vs y ≡ true → look y ≡ Var x → l.unifier x ≡ Int (pos (a y))
         open_number y h e =
-            sym (ap (apply l.unifier) e) ∙ through_look M N b s D v ready.consistent l.unifier (solution_heeds M N low b.equations b.posted vs a l) y ∙ given_listed M N low b.equations b.posted vs a l y h
+            sym (ap (apply l.unifier) e) ∙ through_look M N b s D v ready.consistent l.unifier (solution_heeds M N low b.equations b.posted vs a l) y
+            ∙ given_listed M N low b.equations b.posted vs a l y h
 
         value_by : (n : ℕ) (r : Option (List ℕ)) → n ≤ N → l.unifier x ≡ Int (pos n) → set_at s D (constrained b.posted) x ≡ r → has (values_by N r) n ≡ true
         value_by n None h e i = in_universe N n h
         value_by n (Some xs) h e i =
             let f = set_found s D x (constrained b.posted) xs i in
-            let same : a f.variable ≡ n = int_number (a f.variable) n (sym (given_constrained M N low b.equations b.posted vs a l f.variable f.listed) ∙ sym (v.general.general l.unifier f.variable l.unifies) ∙ ap (apply l.unifier) f.term ∙ e) in
+            let same : a f.variable ≡ n = int_number (a f.variable) n (sym (given_constrained M N low b.equations b.posted vs a l f.variable f.listed)
+            ∙ sym (v.general.general l.unifier f.variable l.unifies) ∙ ap (apply l.unifier) f.term ∙ e) in
             subst (λ k. has xs k ≡ true) same (subst (λ k. has k (a f.variable) ≡ true) f.set (solution_inside M N low b.equations b.posted vs a l s D v f.variable))
 
         more_solution : (n : ℕ) → l.unifier x ≡ Int (pos n) → IsSolution M N (child n).equations (child n).posted vs a
@@ -262,7 +274,10 @@ module _ (M N : ℕ) (low : N ≤ M) (prog : Program) (o : Order) (t : Term) (ms
       inside_by : (n : ℕ) (y : ℕ) (z : ℤ) → has values n ≡ true → has vs y ≡ true → ((u : Substitution) → Unifies u (child n).equations → u y ≡ Int z) → (m : ℕ) × (m ≤ N) × (z ≡ pos m)
       inside_by n y z i h all =
           let u = after (number_for x (pos n)) s in
-          let e : apply (number_for x (pos n)) (s y) ≡ Int z = all u (ap (apply (number_for x (pos n))) open_self ∙ number_at x (pos n), still_unifies (number_for x (pos n)) s b.equations v.general.unifies) in
+          let e : apply (number_for x (pos n)) (s y) ≡ Int z = all u (
+            ap (apply (number_for x (pos n))) open_self ∙ number_at x (pos n),
+            still_unifies (number_for x (pos n)) s b.equations v.general.unifies,
+          ) in
           elim (number_back x (pos n) z (s y) e) [
             | inl k ↦ (n, has_high 0 N values n rising i, sym k.1)
             | inr k ↦ ready.inside y z h (λ r j. sym (v.general.general r y j) ∙ ap (apply r) k)
@@ -324,14 +339,16 @@ module _ (M N : ℕ) (low : N ≤ M) (prog : Program) (o : Order) (t : Term) (ms
     by_picked None new e h cs k = done_part (pick_none o _ look ms new e h) cs k
     by_picked (Some x) new e h cs k = picked_part x (pick_some o _ look ms new x e h) cs k
 
-    by_listed : (r : Result (List Member) QueryFault) → read_list (apply look t) ≡ r → (cs : List Branch) → KeptOffer M N (by_listing (λ x. values_by N (set_at s D (constrained b.posted) x)) b o (Label o t) [] r) (Gives cs) → Parted b cs
+    by_listed : (r : Result (List Member) QueryFault) → read_list (apply look t) ≡ r → (cs : List Branch)
+        → KeptOffer M N (by_listing (λ x. values_by N (set_at s D (constrained b.posted) x)) b o (Label o t) [] r) (Gives cs) → Parted b cs
     by_listed (Err f) e cs k = absurd k
     by_listed (Ok new) e cs k = by_picked (pick o (λ x. values_by N (set_at s D (constrained b.posted) x)) new) new (sym list_read ∙ e) refl cs k
 
   pub leaf : (b : Branch) (s : Substitution) (D : Family) → IsReady b → b.goals ≡ [] → IsView M N b.equations b.posted s D → IsLeaf M N prog vs (Comes o) IsReady Allows b
   leaf b s D ready e v = leaf_of b s D ready v (ready.finished e s D v)
 
-  pub part : (m : ℕ) (b : Branch) (g : Goal) (rest : List Goal) (s : Substitution) (D : Family) (cs : List Branch) → IsReady b → b.goals ≡ g ∷ rest → Children M N prog m b g rest s D (Gives cs) → Parted b cs
+  pub part : (m : ℕ) (b : Branch) (g : Goal) (rest : List Goal) (s : Substitution) (D : Family) (cs : List Branch) → IsReady b → b.goals ≡ g ∷ rest
+      → Children M N prog m b g rest s D (Gives cs) → Parted b cs
   part m b g rest s D cs ready e c = elim ready.goals [
     | inl h ↦ absurd (let k = sym e ∙ h in cc)
     | inr h ↦
@@ -339,13 +356,15 @@ module _ (M N : ℕ) (low : N ≤ M) (prog : Program) (o : Order) (t : Term) (ms
         let one : g ≡ Label o t = cc in
         let others : rest ≡ [] = cc in
         let kept : KeptOffer M N (offer M N m prog (look_in b s D) (sets_in b s D) b (Label o t) []) (Gives cs) =
-        subst (λ r. KeptOffer M N (offer M N m prog (look_in b s D) (sets_in b s D) b (Label o t) r) (Gives cs)) others (subst (λ f. KeptOffer M N (offer M N m prog (look_in b s D) (sets_in b s D) b f rest) (Gives cs)) one c.kept) in
+        subst (λ r. KeptOffer M N (offer M N m prog (look_in b s D) (sets_in b s D) b (Label o t) r) (Gives cs)) others
+        (subst (λ f. KeptOffer M N (offer M N m prog (look_in b s D) (sets_in b s D) b f rest) (Gives cs)) one c.kept) in
         by_listed b s D ready c.view (read_list (apply (look_in b s D) t)) refl cs kept
   ]
 
   -- the list of a branch of the labelling is read without fault
   module _ (b : Branch) (s : Substitution) (D : Family) (ready : IsReady b) (v : IsView M N b.equations b.posted s D) where
-    no_listing : (r : Result (List Member) QueryFault) (f : QueryFault) → read_list (apply (look_in b s D) t) ≡ r → KeptOffer M N (by_listing (λ x. values_by N (set_at s D (constrained b.posted) x)) b o (Label o t) [] r) (Faults f) → ⊥
+    no_listing : (r : Result (List Member) QueryFault) (f : QueryFault) → read_list (apply (look_in b s D) t) ≡ r
+        → KeptOffer M N (by_listing (λ x. values_by N (set_at s D (constrained b.posted) x)) b o (Label o t) [] r) (Faults f) → ⊥
     no_listing (Err g) f e k = let n = is_read M N t ms base listed b s D (as_grounded b ready) v in let same : Err g ≡ Ok n.0 = sym e ∙ list_read b s D ready v ∙ n.1 in cc
     no_listing (Ok new) f e k = no_pick (pick o (λ x. values_by N (set_at s D (constrained b.posted) x)) new) k
       where
@@ -361,7 +380,8 @@ module _ (M N : ℕ) (low : N ≤ M) (prog : Program) (o : Order) (t : Term) (ms
         let one : g ≡ Label o t = cc in
         let others : rest ≡ [] = cc in
         let kept : KeptOffer M N (offer M N m prog (look_in b s D) (sets_in b s D) b (Label o t) []) (Faults f) =
-        subst (λ r. KeptOffer M N (offer M N m prog (look_in b s D) (sets_in b s D) b (Label o t) r) (Faults f)) others (subst (λ i. KeptOffer M N (offer M N m prog (look_in b s D) (sets_in b s D) b i rest) (Faults f)) one c.kept) in
+        subst (λ r. KeptOffer M N (offer M N m prog (look_in b s D) (sets_in b s D) b (Label o t) r) (Faults f)) others
+        (subst (λ i. KeptOffer M N (offer M N m prog (look_in b s D) (sets_in b s D) b i rest) (Faults f)) one c.kept) in
         no_listing b s D ready c.view (read_list (apply (look_in b s D) t)) f refl kept
   ]
 

@@ -1,5 +1,6 @@
 -- Each labelling has its leaves, and these have a best one.
-use Rattle.std.proofs.Common.{◌≡◌, ℕ, zero, suc, ◌≤◌, Bool, true, false, ℤ, List, [], ◌∷◌, ◌++◌, map, Option, Some, None, Result, Ok, Err, cond, ◌⊎◌, refl, ap, sym, ◌∙◌, subst, inl, inr, arith}
+use Rattle.std.proofs.Common.{◌≡◌, ℕ, zero, suc, ◌≤◌, Bool, true, false, ℤ, List, [], ◌∷◌, ◌++◌, map, Option, Some, None, Result, Ok, Err, cond, ◌⊎◌, refl, ap}
+use Rattle.std.proofs.Common.{sym, ◌∙◌, subst, inl, inr, arith}
 use Rattle.std.proofs.lemmas.Int.{ints}
 use Rattle.std.proofs.lemmas.Bool.{cases_Bool}
 use Rattle.std.proofs.lemmas.List.{append_assoc, append-nil}
@@ -9,28 +10,29 @@ use Rattle.fd_language.specs.Family.{Family, has}
 use Rattle.fd_language.specs.Lists.{Each}
 use Rattle.fd_language.specs.Monotonicity.{IsMonotone}
 use Rattle.fd_model.specs.declared.kinds.Order.{Order}
-use Rattle.fd_model.specs.Closed.{AllPosted}
+use Rattle.fd_model.specs.ClosedFamilies.{AllPosted}
 use Rattle.fd_model.specs.declared.kinds.QueryFault.{QueryFault}
 use Rattle.fd_model.specs.declared.kinds.QueryFault.TheVariants.{Parameter}
 use Rattle.fd_model.specs.Goal.{Goal, True, Fail, Unify, Post, Constrain, Label, Call, Either, Builtin, Cut, If, IfElse, Not, Best, Program, Branch}
-use Rattle.fd_model.specs.Seen.{IsConsistent, IsView}
+use Rattle.fd_model.specs.BranchViews.{IsConsistent, IsView}
 use Rattle.fd_model.specs.Members.{Member}
 use Rattle.fd_model.specs.Labelling.{read_list, pick, values_by, open_ones}
 use Rattle.fd_model.specs.Branches.{with_goals, by_value, Kept, look_in, sets_in}
 use Rattle.fd_model.specs.Builtins.{Finding, faulted, decided, equated, finding}
 use Rattle.fd_model.specs.Posting.{post, Found, offends, posts}
 use Rattle.fd_model.specs.LinearRows.{Expansion}
-use Rattle.fd_model.specs.Constraining.{constrain}
-use Rattle.fd_model.specs.Children.{Gives, Seeks, KeptOffer, offer, by_post, by_constraint, by_finding, by_pick as pick_offer, by_listing, by_cost, cost_fault, unless_fault}
+use Rattle.fd_model.specs.ConstraintExpansion.{constrain}
+use Rattle.fd_model.specs.Children.{Gives, Seeks, KeptOffer, offer, by_post, by_constraint, by_finding, by_pick as pick_offer, by_listing, by_cost, cost_fault}
+use Rattle.fd_model.specs.Children.{unless_fault}
 use Rattle.fd_model.specs.Leaves.{Leaves, no_leaves, leaf, grows, IsSeenAs, IsBetter, IsAsGood, IsBest, BestLeaf, SoughtLeaf}
 use Rattle.fd_language.proofs.Lemmas.{through_term}
 use Rattle.fd_model.proofs.Lists.{each_map, each_both}
-use Rattle.fd_model.proofs.Keeping.{kept_each}
-use Rattle.fd_model.proofs.Heeding.{look_heeds, through_look}
-use Rattle.fd_model.proofs.Picking.{IsInt, AllInts, picked_among, pick_none, pick_some}
-use Rattle.fd_model.proofs.Grounded.{IsGrounded, is_read, list_read, child_grounded, child_fewer, open_count, some_open, zero_ground}
+use Rattle.fd_model.proofs.ValueBranches.{kept_each}
+use Rattle.fd_model.proofs.ModelSubstitutions.{look_heeds, through_look}
+use Rattle.fd_model.proofs.PickedMembers.{IsInt, AllInts, picked_among, pick_none, pick_some}
+use Rattle.fd_model.proofs.OpenMembers.{IsGrounded, is_read, list_read, child_grounded, child_fewer, open_count, some_open, zero_ground}
 use Rattle.fd_model.proofs.OneView.{from_view}
-use Rattle.fd_model.proofs.Consistent.{decide_consistent, has_view}
+use Rattle.fd_model.proofs.ConsistentBranches.{decide_consistent, has_view}
 
 -- the consistent ones among branches
 pub kept_there_is : (M N : ℕ) (bs : List Branch) → Each (λ b. AllPosted (λ p. IsMonotone M p.range) b.posted) bs → (cs : List Branch) × Kept M N bs cs
@@ -92,7 +94,8 @@ module _ (M N : ℕ) (o : Order) (t c : Term) (ms : List Member) (base : Substit
       let later = all_leaves n one bs h.1 in
       (first.0 ++ later.0, leaves_both M N o t bs later.0 first.1 later.1, each_both HasCost first.0 later.0 first.2 later.2)
 
-  by_pick : (n : ℕ) → ((m : ℕ) → n ≡ suc m → (b : Branch) → IsReady m b → HasLeaves (b ∷ [])) → (b : Branch) (s : Substitution) (D : Family) (new : List Member) → IsReady n b → IsView M N b.equations b.posted s D
+  by_pick : (n : ℕ) → ((m : ℕ) → n ≡ suc m → (b : Branch) → IsReady m b → HasLeaves (b ∷ [])) → (b : Branch) (s : Substitution) (D : Family) (new : List Member)
+      → IsReady n b → IsView M N b.equations b.posted s D
       → read_list (apply (look_in b s D) t) ≡ Ok new → (r : Option ℕ) → pick o (λ y. values_by N (sets_in b s D y)) new ≡ r → HasLeaves (b ∷ [])
   by_pick n less b s D new h v e None p = one_leaf b s D new h.0 v e p
   by_pick zero less b s D new h v e (Some x) p =
@@ -105,7 +108,12 @@ module _ (M N : ℕ) (o : Order) (t c : Term) (ms : List Member) (base : Substit
       let values = values_by N (sets_in b s D x) in
       let kept = kept_there_is M N (map (by_value b b.goals x) values) (each_mono b x values h.1) in
       let ready : Each (IsReady n) kept.0 = kept_each M N (by_value b b.goals x) (IsReady n) values kept.0
-      (λ k i ok. (child_grounded M N t ms base listed b s D h.0 v x among k ok, h.1, λ s' D' v'. (let fewer = child_fewer M N t ms base listed b s D h.0 v x among k ok s' D' v' in let few = h.2 s D v in omega (arith, fewer, few)))) kept.1 in
+      (λ k i ok. (
+        child_grounded M N t ms base listed b s D h.0 v x among k ok,
+        h.1,
+        λ s' D' v'. (let fewer = child_fewer M N t ms base listed b s D h.0 v x among k ok s' D' v' in let few = h.2 s D v in
+            omega (arith, fewer, few)),
+      )) kept.1 in
       let leaves = all_leaves n (less n refl) kept.0 ready in
       (leaves.0, grows s D new x kept.0 v e p kept.1 (subst (λ l. Leaves M N o t l leaves.0) (sym (append-nil kept.0)) leaves.1), leaves.2)
 
@@ -193,7 +201,8 @@ module _ (ms : List Member) (base : Substitution) where
   cost_int (Comp f ts) e u ints = absurd (cc)
 
 -- a search for the best leaf finds it, if there is a leaf
-pub found_there : (M N : ℕ) (b : Branch) (rest : List Goal) (o : Order) (least : Bool) (t c : Term) (s : Substitution) (D : Family) (ms : List Member) → IsConsistent M N b.equations b.posted → AllPosted (λ p. IsMonotone M p.range) b.posted
+pub found_there : (M N : ℕ) (b : Branch) (rest : List Goal) (o : Order) (least : Bool) (t c : Term) (s : Substitution) (D : Family) (ms : List Member)
+    → IsConsistent M N b.equations b.posted → AllPosted (λ p. IsMonotone M p.range) b.posted
     → IsView M N b.equations b.posted s D → read_list (apply (look_in b s D) t) ≡ Ok ms → cost_fault ms (apply (look_in b s D) c) ≡ None → (cs : List Branch) × SoughtLeaf M N b rest o least t c cs
 found_there M N b rest o least t c s D ms ok mono v e f =
     let base = look_in b s D in
@@ -211,9 +220,11 @@ found_there M N b rest o least t c s D ms ok mono v e f =
 abbrev IsSought : ℕ → ℕ → Branch → List Goal → Branch → List Goal → Order → Bool → Term → Term → Type 0
 IsSought M N b rest d r o least t c = (cs : List Branch) × (d ≡ b) × (r ≡ rest) × SoughtLeaf M N d r o least t c cs
 
-module _ (M N : ℕ) (b : Branch) (rest : List Goal) (s : Substitution) (D : Family) (ok : IsConsistent M N b.equations b.posted) (mono : AllPosted (λ p. IsMonotone M p.range) b.posted) (v : IsView M N b.equations b.posted s D)
+module _ (M N : ℕ) (b : Branch) (rest : List Goal) (s : Substitution) (D : Family) (ok : IsConsistent M N b.equations b.posted)
+    (mono : AllPosted (λ p. IsMonotone M p.range) b.posted) (v : IsView M N b.equations b.posted s D)
     (p : Order) (most : Bool) (x y : Term) (d : Branch) (r : List Goal) (o : Order) (least : Bool) (t c : Term) where
-  by_fault : (ms : List Member) → read_list (apply (look_in b s D) x) ≡ Ok ms → (f : Option QueryFault) → cost_fault ms (apply (look_in b s D) y) ≡ f → unless_fault f (Seeks b rest p most x y) ≡ Seeks d r o least t c
+  by_fault : (ms : List Member) → read_list (apply (look_in b s D) x) ≡ Ok ms → (f : Option QueryFault) → cost_fault ms (apply (look_in b s D) y) ≡ f
+      → unless_fault f (Seeks b rest p most x y) ≡ Seeks d r o least t c
       → IsSought M N b rest d r o least t c
   by_fault ms e (Some f) h j = absurd (cc)
   by_fault ms e None h j =
@@ -222,12 +233,14 @@ module _ (M N : ℕ) (b : Branch) (rest : List Goal) (s : Substitution) (D : Fam
       let two : rest ≡ r = cc in
       (found.0, sym one, sym two, subst (λ f. KeptOffer M N f (Gives found.0)) j found.1)
 
-  by_list : (l : Result (List Member) QueryFault) → read_list (apply (look_in b s D) x) ≡ l → by_cost (apply (look_in b s D) y) (Seeks b rest p most x y) l ≡ Seeks d r o least t c → IsSought M N b rest d r o least t c
+  by_list : (l : Result (List Member) QueryFault) → read_list (apply (look_in b s D) x) ≡ l
+      → by_cost (apply (look_in b s D) y) (Seeks b rest p most x y) l ≡ Seeks d r o least t c → IsSought M N b rest d r o least t c
   by_list (Err f) e j = absurd (cc)
   by_list (Ok ms) e j = by_fault ms e (cost_fault ms (apply (look_in b s D) y)) refl j
 
 -- where an offer is such a search
-pub sought_there : (M N m : ℕ) (prog : Program) (b : Branch) (g : Goal) (rest : List Goal) (s : Substitution) (D : Family) → IsConsistent M N b.equations b.posted → AllPosted (λ p. IsMonotone M p.range) b.posted
+pub sought_there : (M N m : ℕ) (prog : Program) (b : Branch) (g : Goal) (rest : List Goal) (s : Substitution) (D : Family)
+    → IsConsistent M N b.equations b.posted → AllPosted (λ p. IsMonotone M p.range) b.posted
     → IsView M N b.equations b.posted s D → (d : Branch) (r : List Goal) (o : Order) (least : Bool) (t c : Term) → offer M N m prog (look_in b s D) (sets_in b s D) b g rest ≡ Seeks d r o least t c
     → IsSought M N b rest d r o least t c
 sought_there M N m prog b True rest s D ok mono v d r o least t c i = absurd (cc)

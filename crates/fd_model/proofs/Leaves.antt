@@ -5,13 +5,13 @@ use Rattle.fd_language.specs.Family.{Family, has}
 use Rattle.fd_language.specs.Lists.{Each}
 use Rattle.fd_model.specs.declared.kinds.Order.{Order}
 use Rattle.fd_model.specs.Goal.{Goal, Label, Branch}
-use Rattle.fd_model.specs.Seen.{IsConsistent, IsView}
+use Rattle.fd_model.specs.BranchViews.{IsConsistent, IsView}
 use Rattle.fd_model.specs.Members.{Member}
 use Rattle.fd_model.specs.Labelling.{read_list, pick, values_by}
 use Rattle.fd_model.specs.Branches.{with_goals, by_value, look_in, sets_in}
 use Rattle.fd_model.specs.Leaves.{Leaves, no_leaves, leaf, grows, BestLeaf, SoughtLeaf}
 use Rattle.fd_model.proofs.Lists.{each_both, each_after}
-use Rattle.fd_model.proofs.Keeping.{kept_each}
+use Rattle.fd_model.proofs.ValueBranches.{kept_each}
 
 -- what a consistent child of the labelling has, where its branch has it
 abbrev pub Passes : ℕ → ℕ → Order → Term → (Branch → Type 0) → Type 0

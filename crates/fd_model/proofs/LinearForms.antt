@@ -6,7 +6,7 @@ use Rattle.fd_language.specs.Family.{has}
 use Rattle.fd_language.specs.Range.{set_of, in_range}
 use Rattle.fd_model.specs.Linear.{scaled, nonzero, Comparison}
 use Rattle.fd_model.specs.LinearRows.{row_by_sign, rows_behind, compares, no_number}
-use Rattle.fd_model.specs.Satisfies.{Assignment, singles}
+use Rattle.fd_model.specs.Satisfaction.{Assignment, singles}
 use Rattle.fd_model.specs.ConstraintLaws.{total}
 use Rattle.fd_model.proofs.Integers.{turned_once}
 use Rattle.fd_model.proofs.Sums.{total-append}
@@ -32,7 +32,8 @@ nonzero_scaled [] h = tt
 nonzero_scaled (t ∷ ts) h = ((λ e. h.0 (let f = turned_once t.1 in omega (arith, ints))), nonzero_scaled ts h.1)
 
 module _ (M : ℕ) (b : Assignment) (small : (v : ℕ) → b v ≤ M) where
-  pub one_row : (k : Comparison) (c : ℤ) (before ts : List (ℕ × ℤ)) (t : ℕ × ℤ) → (t.1 ≡ pos 0 → ⊥) → has (set_of M (singles b) (row_by_sign k c (before ++ ts) t.1)) (b t.0) ≡ compares k (total b (before ++ t ∷ ts)) c
+  pub one_row : (k : Comparison) (c : ℤ) (before ts : List (ℕ × ℤ)) (t : ℕ × ℤ) → (t.1 ≡ pos 0 → ⊥)
+      → has (set_of M (singles b) (row_by_sign k c (before ++ ts) t.1)) (b t.0) ≡ compares k (total b (before ++ t ∷ ts)) c
   one_row k c before ts t f =
       set_singles M b (row_by_sign k c (before ++ ts) t.1) (b t.0) (small t.0)
       ∙ (row_is M b k c (before ++ ts) t.1 (b t.0) f (small t.0)

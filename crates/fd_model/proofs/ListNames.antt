@@ -4,11 +4,12 @@ use Rattle.std.proofs.lemmas.Bool.{or_cases, or_left, or_right, true≢false}
 use Rattle.fd_language.specs.Lists.{Each}
 use Rattle.fd_language.specs.Family.{has}
 use Rattle.fd_language.specs.Range.{Range, Indexical, Union, reads}
-use Rattle.fd_model.specs.Closed.{constrained, AllPosted}
+use Rattle.fd_model.specs.ClosedFamilies.{constrained, AllPosted}
 use Rattle.fd_language.proofs.Lemmas.{has_either, in_left, in_right}
 use Rattle.fd_model.specs.Members.{Member, Open, Known, placed, equated_from}
-use Rattle.fd_model.specs.ListRows.{differs, against, pairwise, different_ranges, union_onto, union_of, elements_at, index_ranges, element_ranges, counter, counted, counts, units}
-use Rattle.fd_model.proofs.Determining.{NamesIn, names_one, AllNamed}
+use Rattle.fd_model.specs.ListRows.{differs, against, pairwise, different_ranges, union_onto, union_of, elements_at, index_ranges, element_ranges, counter}
+use Rattle.fd_model.specs.ListRows.{counted, counts, units}
+use Rattle.fd_model.proofs.DeterminedValues.{NamesIn, names_one, AllNamed}
 use Rattle.fd_model.proofs.RowNames.{AllVars}
 
 -- what two lists of ranges name
@@ -126,7 +127,8 @@ counts_names P v (x ∷ xs) m h g =
     let p = counter v x m in
     let q = counted v x m in
     names_one P p (q ∷ counts v xs (suc m)) g.0 (named_either P (x ∷ []) (x ∷ []) (one_named P x h.0) (one_named P x h.0))
-    (names_one P q (counts v xs (suc m)) h.0 (named_either P (m ∷ []) (m ∷ m ∷ []) (one_named P m g.0) (named_either P (m ∷ []) (m ∷ []) (one_named P m g.0) (one_named P m g.0))) (counts_names P v xs (suc m) h.1 g.1))
+    (names_one P q (counts v xs (suc m)) h.0 (named_either P (m ∷ []) (m ∷ m ∷ []) (one_named P m g.0)
+    (named_either P (m ∷ []) (m ∷ []) (one_named P m g.0) (one_named P m g.0))) (counts_names P v xs (suc m) h.1 g.1))
 
 pub named_counts : (z : ℤ) (xs : List ℕ) (m v : ℕ) → has xs v ≡ true → has (constrained (counts z xs m)) v ≡ true
 named_counts z [] m v h = absurd (true≢false (sym h))

@@ -1,5 +1,6 @@
 -- The rows of the constraints on lists keep the limit of width, and all rows are accepted.
-use Rattle.std.proofs.Common.{◌≡◌, ℕ, suc, ◌+◌, ◌*◌, ◌^◌, ◌≤◌, ◌<◌, true, not, ◌||◌, ℤ, pos, nat_abs, nat_lt, List, [], ◌∷◌, ◌++◌, length, refl, ap, sym, ◌∙◌, subst, arith, Ok, Err, mul-le-mul}
+use Rattle.std.proofs.Common.{◌≡◌, ℕ, suc, ◌+◌, ◌*◌, ◌^◌, ◌≤◌, ◌<◌, true, not, ◌||◌, ℤ, pos, nat_abs, nat_lt, List, [], ◌∷◌, ◌++◌, length, refl, ap, sym, ◌∙◌}
+use Rattle.std.proofs.Common.{subst, arith, Ok, Err, mul-le-mul}
 use Rattle.std.proofs.lemmas.Bool.{and_from}
 use Rattle.std.specs.Str.{bytes_eq}
 use Rattle.std.specs.Prelude.{codes}
@@ -7,16 +8,17 @@ use Rattle.fd_model.specs.declared.kinds.ConstraintKind.{ConstraintKind}
 use Rattle.fd_model.specs.declared.kinds.ConstraintKind.TheVariants.{Compare, AllDifferent, Element, Atmost}
 use Rattle.fd_language.specs.Term.{Term, Terms, Int, Atom, Comp, no_terms, term}
 use Rattle.fd_language.specs.Range.{Range, Union, Indexical}
-use Rattle.fd_model.specs.Closed.{AllPosted}
+use Rattle.fd_model.specs.ClosedFamilies.{AllPosted}
 use Rattle.fd_language.specs.RangeVerdict.{over_limit, factor_over_limit, range_within, is_accepted}
 use Rattle.fd_model.specs.Linear.{IsAtMost}
 use Rattle.fd_model.specs.LinearRows.{Expansion, linear_rows}
 use Rattle.fd_model.specs.Members.{Member, as_member, as_integer, prepend, walk, after, placed}
-use Rattle.fd_model.specs.ListRows.{against, pairwise, different_ranges, different_rows, where_is, union_onto, union_of, elements_at, index_ranges, element_ranges, counted, counts, units}
-use Rattle.fd_model.specs.Constraining.{basic, all_different}
+use Rattle.fd_model.specs.ListRows.{against, pairwise, different_ranges, different_rows, where_is, union_onto, union_of, elements_at, index_ranges}
+use Rattle.fd_model.specs.ListRows.{element_ranges, counted, counts, units}
+use Rattle.fd_model.specs.ConstraintExpansion.{basic, all_different}
 use Rattle.fd_model.specs.ConstraintLaws.{HasIntegers, HaveIntegers, HasShortLists, cells}
-use Rattle.fd_model.proofs.Collecting.{one_ok, both_ok, test_ok}
-use Rattle.fd_model.proofs.Choosing.{element_ok}
+use Rattle.fd_model.proofs.CollectedSums.{one_ok, both_ok, test_ok}
+use Rattle.fd_model.proofs.ElementRows.{element_ok}
 use Rattle.fd_model.proofs.Counters.{atmost_ok, units_nonzero}
 use Rattle.fd_model.proofs.RowWidths.{under, weight, AreNarrow}
 use Rattle.fd_model.proofs.CompareWidths.{Within, form_within, compare_within}
@@ -55,7 +57,8 @@ module _ (M : ℕ) (small : M < 2 ^ 28) where
 
   where_within : (a : ℤ) (y : ℕ) (b : ℤ) → nat_abs a < 2 ^ 66 → nat_abs b < 2 ^ 66 → range_within M (where_is a y b) ≡ true
   where_within a y b h g =
-      and_from _ _ (and_from _ _ (and_from _ _ (and_from _ _ (and_from _ _ (under (nat_abs a) (omega arith)) refl) refl) zero_factor) (under (nat_abs b) (omega arith))) (under (M + nat_abs b) (omega arith))
+      and_from _ _ (and_from _ _ (and_from _ _ (and_from _ _ (and_from _ _ (under (nat_abs a) (omega arith)) refl) refl) zero_factor)
+      (under (nat_abs b) (omega arith))) (under (M + nat_abs b) (omega arith))
 
   abbrev EachWithin : List Range → Type 0
   EachWithin [] = Unit {0}
@@ -151,7 +154,8 @@ record AreElements (t : Term) (zs : List ℤ) : Type 0 where
 
 elements_small : (t : Term) (zs : List ℤ) → HasIntegers t → walk as_integer t ≡ Ok zs → AreElements t zs
 elements_small (Atom f) zs i h =
-    test_ok (bytes_eq f (codes "[]")) (Ok []) (Err _) zs (AreElements (Atom f) zs) h (λ c e. let k : [] ≡ zs = cc in subst (AreElements (Atom f)) k (record { all_small = tt; count = refl })) (λ c e. absurd (cc))
+    test_ok (bytes_eq f (codes "[]")) (Ok []) (Err _) zs (AreElements (Atom f) zs) h (λ c e. let k : [] ≡ zs = cc in
+    subst (AreElements (Atom f)) k (record { all_small = tt; count = refl })) (λ c e. absurd (cc))
 elements_small (Comp f (term x (term t no_terms))) zs i h =
     test_ok (bytes_eq f (codes ".")) _ (Err _) zs (AreElements (Comp f (term x (term t no_terms))) zs) h
     (λ c e.

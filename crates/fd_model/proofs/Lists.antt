@@ -30,7 +30,11 @@ module _ {X : Type 0} where
 
 pub each_itself : {X Y : Type 0} (H : X → Y → Type 0) (xs : List X) → Each (λ x. (y : Y) → H x y → Somewhere (λ z. H z y) xs) xs
 each_itself H [] = tt
-each_itself H (x ∷ xs) = (λ y h. inl h, each_map (λ z. (y : _) → H z y → Somewhere (λ w. H w y) xs) (λ z. (y : _) → H z y → Somewhere (λ w. H w y) (x ∷ xs)) (λ z f y h. inr (f y h)) xs (each_itself H xs))
+each_itself H (x ∷ xs) = (
+  λ y h. inl h,
+  each_map (λ z. (y : _) → H z y → Somewhere (λ w. H w y) xs) (λ z. (y : _) → H z y → Somewhere (λ w. H w y) (x ∷ xs))
+      (λ z f y h. inr (f y h)) xs (each_itself H xs),
+)
 
 -- what all that stand in a list are, each is
 pub each_where : {X : Type 0} (P : X → Type 0) (xs : List X) → ((x : X) → Somewhere (λ y. y ≡ x) xs → P x) → Each P xs

@@ -1,5 +1,6 @@
 -- Products, `fd_and`, `fd_or` and `fd_not`: exactly one extension fits where they are satisfied.
-use Rattle.std.proofs.Common.{◌≡◌, ℕ, zero, suc, ◌+◌, ◌*◌, ◌≤◌, ◌<◌, Bool, true, false, cond, ℤ, pos, ◌+ℤ◌, ◌*ℤ◌, List, [], ◌∷◌, Option, Some, None, refl, ap, sym, ◌∙◌, subst, inl, inr, ◌⊎◌, arith, Ok}
+use Rattle.std.proofs.Common.{◌≡◌, ℕ, zero, suc, ◌+◌, ◌*◌, ◌≤◌, ◌<◌, Bool, true, false, cond, ℤ, pos, ◌+ℤ◌, ◌*ℤ◌, List, [], ◌∷◌, Option, Some, None, refl, ap}
+use Rattle.std.proofs.Common.{sym, ◌∙◌, subst, inl, inr, ◌⊎◌, arith, Ok}
 use Rattle.std.specs.Option.{option_or}
 use Rattle.std.specs.Str.{bytes_eq}
 use Rattle.std.specs.Prelude.{codes}
@@ -16,11 +17,12 @@ use Rattle.fd_model.specs.Members.{Member, Open, Known, place_of, after, placed}
 use Rattle.fd_model.specs.ProductRows.{Product, factors, with_result, product_form, product_ranges}
 use Rattle.fd_model.specs.BooleanRows.{and_ranges, or_ranges, not_ranges}
 use Rattle.fd_model.specs.Splitting.{Split, joined, on_members, of_three, of_two, product_split}
-use Rattle.fd_model.specs.Satisfies.{Assignment, worth, operation, IsNumber, AreNumbers, HasResult, IsKnownNumber, IsBit, Tells, Satisfies, Holds}
+use Rattle.fd_model.specs.Satisfaction.{Assignment, worth, operation, IsNumber, AreNumbers, HasResult, IsKnownNumber, IsBit, Tells, Satisfies, Holds}
 use Rattle.fd_model.specs.ConstraintLaws.{IsRewritten}
 use Rattle.fd_model.proofs.Singles.{up_to, Inside, inside_append, inside_left}
-use Rattle.fd_model.proofs.Placing.{MemberBelow, MembersBelow, member_read, member_worth, member_worths, values_at, known_numbers, placed_worths, filled, filled_below, filled_small, filled_equated}
-use Rattle.fd_model.proofs.Differing.{are_numbers, placed_one}
+use Rattle.fd_model.proofs.FreshVariables.{MemberBelow, MembersBelow, member_read, member_worth, member_worths, values_at, known_numbers, placed_worths, filled}
+use Rattle.fd_model.proofs.FreshVariables.{filled_below, filled_small, filled_equated}
+use Rattle.fd_model.proofs.AllDifferentRows.{are_numbers, placed_one}
 use Rattle.fd_model.proofs.Splits.{three_ok, two_ok}
 use Rattle.fd_model.proofs.BooleanRows.{IsAnd, IsOr, product_inside, inside_product, and_inside, inside_and, or_inside, inside_or, not_inside, inside_not}
 
@@ -36,8 +38,10 @@ pub record HasForm (s t : Term) (p : Product) : Type 0 where
   pub result_is : member_term p.result ≡ t
 
 result_ok : (f : Name) (x y : ℕ) (t : Term) (p : Product) → bytes_eq f (codes "*") ≡ true → with_result (Some (x, y)) t ≡ Some p → HasForm (Comp f (term (Var x) (term (Var y) no_terms))) t p
-result_ok f x y (Var z) p e h = let g : record { left = x; right = y; result = Open z } ≡ p = cc in subst (HasForm (Comp f (term (Var x) (term (Var y) no_terms))) (Var z)) g (record { name = f; star = e; left_is = refl; result_is = refl })
-result_ok f x y (Int z) p e h = let g : record { left = x; right = y; result = Known z } ≡ p = cc in subst (HasForm (Comp f (term (Var x) (term (Var y) no_terms))) (Int z)) g (record { name = f; star = e; left_is = refl; result_is = refl })
+result_ok f x y (Var z) p e h = let g : record { left = x; right = y; result = Open z } ≡ p = cc in
+    subst (HasForm (Comp f (term (Var x) (term (Var y) no_terms))) (Var z)) g (record { name = f; star = e; left_is = refl; result_is = refl })
+result_ok f x y (Int z) p e h = let g : record { left = x; right = y; result = Known z } ≡ p = cc in
+    subst (HasForm (Comp f (term (Var x) (term (Var y) no_terms))) (Int z)) g (record { name = f; star = e; left_is = refl; result_is = refl })
 result_ok f x y _ p e h = absurd (cc)
 
 factors_ok : (s t : Term) (p : Product) → with_result (factors s) t ≡ Some p → HasForm s t p
@@ -85,7 +89,8 @@ members_below n s t p h bs bt =
       by_member (Known z) h = tt
 
 -- a constraint whose ranges say of the numbers of its members what it says of their integers
-module _ (M N : ℕ) (up : N ≤ M) (n : ℕ) (a : Assignment) (small : (v : ℕ) → a v ≤ N) (kind : ConstraintKind) (ts : Terms) (ms : List Member) (ps : List Indexical) (Says : List ℤ → Type 0) (below : MembersBelow n ms)
+module _ (M N : ℕ) (up : N ≤ M) (n : ℕ) (a : Assignment) (small : (v : ℕ) → a v ≤ N) (kind : ConstraintKind) (ts : Terms) (ms : List Member)
+    (ps : List Indexical) (Says : List ℤ → Type 0) (below : MembersBelow n ms)
     (into : (b : Assignment) → ((v : ℕ) → b v ≤ M) → Says (values_at b (placed n ms)) → Inside M b ps)
     (out : (b : Assignment) → ((v : ℕ) → b v ≤ M) → Inside M b ps → Says (values_at b (placed n ms)))
     (sat_in : Satisfies N kind ts a → AreNumbers N (member_worths a ms) × Says (member_worths a ms))
@@ -97,7 +102,8 @@ module _ (M N : ℕ) (up : N ≤ M) (n : ℕ) (a : Assignment) (small : (v : ℕ
         let known = known_numbers N a ms s.0 in
         let b = filled a n ms in
         placed_one M N n ms (joined (on_members n ms ps)) a small known refl refl
-        (inside_append M b ps [] (into b (up_to M N up b (filled_small N ms a n known small)) (subst Says (sym (placed_worths n a b (filled_below ms a n) ms n below (filled_equated N ms a n known))) s.1)) tt);
+        (inside_append M b ps [] (into b (up_to M N up b (filled_small N ms a n known small))
+        (subst Says (sym (placed_worths n a b (filled_below ms a n) ms n below (filled_equated N ms a n known))) s.1)) tt);
     satisfied = λ b g f.
         let w : values_at b (placed n ms) ≡ member_worths a ms = placed_worths n a b g.same ms n below f.equated in
         sat_out (subst (AreNumbers N) w (are_numbers N b g.within (placed n ms))) (subst Says w (out b (up_to M N up b g.within) (inside_left M b ps [] f.inside)));
@@ -205,10 +211,11 @@ told_number N p P z (inr e) = bit_number N p z (inl e.1)
 -- what the product form says
 product_says : (n : ℕ) (a : Assignment) (r : Relation) (s t : Term) (p : Product) → IsProductForm r s t p
     → (Holds r (worth a s) (worth a t) → SaysProduct (member_worths a (factor_members p))) × (SaysProduct (member_worths a (factor_members p)) → Holds r (worth a s) (worth a t))
-product_says n a r s t p h = subst (λ q. (Holds q (worth a s) (worth a t) → SaysProduct (member_worths a (factor_members p))) × (SaysProduct (member_worths a (factor_members p)) → Holds q (worth a s) (worth a t))) (sym h.relation) (by_sides h.sides) where
-  by_sides : HasForm s t p ⊎ HasForm t s p → (worth a s ≡ worth a t → SaysProduct (member_worths a (factor_members p))) × (SaysProduct (member_worths a (factor_members p)) → worth a s ≡ worth a t)
-  by_sides (inl k) = let i = product_worth a s t p k in let j = result_worth a s t p k in ((λ e. sym j ∙ (sym e ∙ i)), (λ e. i ∙ (sym e ∙ sym j)))
-  by_sides (inr k) = let i = product_worth a t s p k in let j = result_worth a t s p k in ((λ e. sym j ∙ (e ∙ i)), (λ e. j ∙ (e ∙ sym i)))
+product_says n a r s t p h = subst (λ q. (Holds q (worth a s) (worth a t) → SaysProduct (member_worths a (factor_members p)))
+    × (SaysProduct (member_worths a (factor_members p)) → Holds q (worth a s) (worth a t))) (sym h.relation) (by_sides h.sides) where
+      by_sides : HasForm s t p ⊎ HasForm t s p → (worth a s ≡ worth a t → SaysProduct (member_worths a (factor_members p))) × (SaysProduct (member_worths a (factor_members p)) → worth a s ≡ worth a t)
+      by_sides (inl k) = let i = product_worth a s t p k in let j = result_worth a s t p k in ((λ e. sym j ∙ (sym e ∙ i)), (λ e. i ∙ (sym e ∙ sym j)))
+      by_sides (inr k) = let i = product_worth a t s p k in let j = result_worth a t s p k in ((λ e. sym j ∙ (e ∙ i)), (λ e. j ∙ (e ∙ sym i)))
 
 pub product_below : (n : ℕ) (r : Relation) (s t : Term) (p : Product) → IsProductForm r s t p → TermBelow n s → TermBelow n t → MembersBelow n (factor_members p)
 product_below n r s t p h bs bt = elim h.sides [ inl k ↦ members_below n s t p k bs bt | inr k ↦ members_below n t s p k bt bs ]
@@ -222,7 +229,8 @@ number_result N a (Open x) h = tt
 number_result N a (Known z) h = h
 
 module _ (M N : ℕ) (up : N ≤ M) (n : ℕ) (a : Assignment) (small : (v : ℕ) → a v ≤ N) where
-  pub product_rewritten : (r : Relation) (s t : Term) (p : Product) → TermBelow n s → TermBelow n t → product_form r s t ≡ Some p → IsRewritten M N (Compare r) (term s (term t no_terms)) n (joined (product_split n p)) a
+  pub product_rewritten : (r : Relation) (s t : Term) (p : Product) → TermBelow n s → TermBelow n t → product_form r s t ≡ Some p
+      → IsRewritten M N (Compare r) (term s (term t no_terms)) n (joined (product_split n p)) a
   product_rewritten r s t p bs bt e =
       let f = product_form_ok r s t p e in
       let ms = factor_members p in
@@ -237,7 +245,8 @@ module _ (M N : ℕ) (up : N ≤ M) (n : ℕ) (a : Assignment) (small : (v : ℕ
       (λ numbers h. (subst (HasResult N) (sym e) (number_result N a p.result numbers.1.1.0), says.1 h))
 
   module _ (positive : 0 < N) where
-    pub and_rewritten : (x y z : Term) (s : Split) → TermBelow n x → TermBelow n y → TermBelow n z → of_three and_ranges x y z n ≡ Ok s → IsRewritten M N And (term x (term y (term z no_terms))) n (joined s) a
+    pub and_rewritten : (x y z : Term) (s : Split) → TermBelow n x → TermBelow n y → TermBelow n z → of_three and_ranges x y z n ≡ Ok s
+        → IsRewritten M N And (term x (term y (term z no_terms))) n (joined s) a
     and_rewritten x y z s bx by bz h =
         let k = three_ok and_ranges x y z n s h in
         let ms : List Member = k.first ∷ k.second ∷ k.third ∷ [] in
@@ -252,10 +261,17 @@ module _ (M N : ℕ) (up : N ≤ M) (n : ℕ) (a : Assignment) (small : (v : ℕ
         (members_rewritten M N up n a small And (term x (term y (term z no_terms))) ms (and_ranges u v w) SaysAnd (i.below bx, (j.below by, (o.below bz, tt)))
         (λ b l q. and_inside M b l u v w (says_and (b u) (b v) (b w) q))
         (λ b l q. and_says (b u) (b v) (b w) (inside_and M b l u v w q))
-        (λ sat. (subst (AreNumbers N) same (bit_number N positive (worth a x) sat.0, (bit_number N positive (worth a y) sat.1, (told_number N positive _ (worth a z) sat.2, tt))), subst SaysAnd same sat))
+        (λ sat. (
+          subst (AreNumbers N) same (
+            bit_number N positive (worth a x) sat.0,
+            (bit_number N positive (worth a y) sat.1, (told_number N positive _ (worth a z) sat.2, tt)),
+          ),
+          subst SaysAnd same sat,
+        ))
         (λ numbers q. subst SaysAnd (sym same) q))
 
-    pub or_rewritten : (x y z : Term) (s : Split) → TermBelow n x → TermBelow n y → TermBelow n z → of_three or_ranges x y z n ≡ Ok s → IsRewritten M N Or (term x (term y (term z no_terms))) n (joined s) a
+    pub or_rewritten : (x y z : Term) (s : Split) → TermBelow n x → TermBelow n y → TermBelow n z → of_three or_ranges x y z n ≡ Ok s
+        → IsRewritten M N Or (term x (term y (term z no_terms))) n (joined s) a
     or_rewritten x y z s bx by bz h =
         let k = three_ok or_ranges x y z n s h in
         let ms : List Member = k.first ∷ k.second ∷ k.third ∷ [] in
@@ -270,7 +286,13 @@ module _ (M N : ℕ) (up : N ≤ M) (n : ℕ) (a : Assignment) (small : (v : ℕ
         (members_rewritten M N up n a small Or (term x (term y (term z no_terms))) ms (or_ranges u v w) SaysOr (i.below bx, (j.below by, (o.below bz, tt)))
         (λ b l q. or_inside M b l u v w (says_or (b u) (b v) (b w) q))
         (λ b l q. or_says (b u) (b v) (b w) (inside_or M b l u v w q))
-        (λ sat. (subst (AreNumbers N) same (bit_number N positive (worth a x) sat.0, (bit_number N positive (worth a y) sat.1, (told_number N positive _ (worth a z) sat.2, tt))), subst SaysOr same sat))
+        (λ sat. (
+          subst (AreNumbers N) same (
+            bit_number N positive (worth a x) sat.0,
+            (bit_number N positive (worth a y) sat.1, (told_number N positive _ (worth a z) sat.2, tt)),
+          ),
+          subst SaysOr same sat,
+        ))
         (λ numbers q. subst SaysOr (sym same) q))
 
   pub not_rewritten : (x y : Term) (s : Split) → TermBelow n x → TermBelow n y → of_two not_ranges x y n ≡ Ok s → IsRewritten M N Not (term x (term y no_terms)) n (joined s) a

@@ -5,11 +5,11 @@ use Rattle.fd_language.specs.Term.{Term, Var, Int, Atom, Comp, Substitution, app
 use Rattle.fd_language.specs.Unifier.{Equation, IsMostGeneral, Unifies}
 use Rattle.fd_language.specs.Family.{Family, has, IsSubset}
 use Rattle.fd_language.specs.Range.{Indexical}
-use Rattle.fd_model.specs.Closed.{constrained}
-use Rattle.fd_model.specs.Seen.{IsConsistent, IsView}
+use Rattle.fd_model.specs.ClosedFamilies.{constrained}
+use Rattle.fd_model.specs.BranchViews.{IsConsistent, IsView}
 use Rattle.fd_model.specs.Models.{IsModel}
 use Rattle.fd_language.proofs.Lemmas.{rising_same, solved, Solved}
-use Rattle.fd_model.proofs.Closing.{closed_either}
+use Rattle.fd_model.proofs.ClosedFamilies.{closed_either}
 
 pub consistent_from : (M N : ℕ) (es : List Equation) (ps : List Indexical) (S : Family) → IsModel M N es ps S → IsConsistent M N es ps
 consistent_from M N es ps S m = record {

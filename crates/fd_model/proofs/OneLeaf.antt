@@ -6,7 +6,7 @@ use Rattle.fd_language.specs.Family.{Family}
 use Rattle.fd_language.specs.Lists.{Each}
 use Rattle.fd_model.specs.declared.kinds.Order.{Order}
 use Rattle.fd_model.specs.Goal.{Goal, Branch}
-use Rattle.fd_model.specs.Seen.{IsView}
+use Rattle.fd_model.specs.BranchViews.{IsView}
 use Rattle.fd_model.specs.Members.{Member}
 use Rattle.fd_model.specs.Labelling.{read_list, pick, values_by}
 use Rattle.fd_model.specs.Branches.{with_goals, by_value, Kept, look_in, sets_in}
@@ -97,6 +97,7 @@ module _ (M N : ℕ) (least : Bool) (c : Term) where
   best_leaf_once rest [] cs ds h g = h ∙ sym g
   best_leaf_once rest (l ∷ ls) cs ds h g = h.2 ∙ ap (λ d. with_goals d rest ∷ []) (best_once (l ∷ ls) h.0 g.0 h.1 g.1) ∙ sym g.2
 
-pub sought_once : (M N : ℕ) (b : Branch) (rest : List Goal) (o : Order) (least : Bool) (t c : Term) (cs ds : List Branch) → SoughtLeaf M N b rest o least t c cs → SoughtLeaf M N b rest o least t c ds → cs ≡ ds
+pub sought_once : (M N : ℕ) (b : Branch) (rest : List Goal) (o : Order) (least : Bool) (t c : Term) (cs ds : List Branch) → SoughtLeaf M N b rest o least t c cs
+    → SoughtLeaf M N b rest o least t c ds → cs ≡ ds
 sought_once M N b rest o least t c cs ds h g =
     let one = leaves_once M N o t h.1 g.1 in best_leaf_once M N least c rest g.0 cs ds (subst (λ ls. BestLeaf M N least c rest ls cs) one h.2) g.2

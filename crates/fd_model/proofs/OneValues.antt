@@ -1,5 +1,6 @@
 -- Where what is not added has one value, so have all the variables that a constraint's ranges name.
-use Rattle.std.proofs.Common.{◌≡◌, ℕ, suc, ◌+◌, ◌≤◌, ◌<◌, Bool, true, false, cond, ◌||◌, ◌==◌, ℤ, pos, List, [], ◌∷◌, length, refl, sym, ◌∙◌, subst, inl, inr, ◌⊎◌, arith, eq-eqb, Ok}
+use Rattle.std.proofs.Common.{◌≡◌, ℕ, suc, ◌+◌, ◌≤◌, ◌<◌, Bool, true, false, cond, ◌||◌, ◌==◌, ℤ, pos, List, [], ◌∷◌, length, refl, sym, ◌∙◌, subst, inl, inr}
+use Rattle.std.proofs.Common.{◌⊎◌, arith, eq-eqb, Ok}
 use Rattle.std.proofs.lemmas.Int.{ints}
 use Rattle.std.proofs.lemmas.Bool.{or_left, or_right}
 use Rattle.fd_model.specs.declared.kinds.Relation.{Relation}
@@ -10,25 +11,26 @@ use Rattle.fd_language.specs.Variables.{TermBelow, TermsBelow}
 use Rattle.fd_language.specs.Lists.{Each}
 use Rattle.fd_language.specs.Family.{Family, has, universe, IsFamily, IsSubset}
 use Rattle.fd_language.specs.Range.{Indexical, set_of, in_set}
-use Rattle.fd_model.specs.Closed.{constrained, AllPosted}
+use Rattle.fd_model.specs.ClosedFamilies.{constrained, AllPosted}
 use Rattle.fd_model.specs.Linear.{Comparison, IsAtMost, comparison, normal}
 use Rattle.fd_model.specs.LinearRows.{Expansion, linear_rows, compares, no_number}
 use Rattle.fd_model.specs.Members.{Member, Open, Known, as_member, walk, place_of, after, placed, fresh_after, equated_from}
 use Rattle.fd_model.specs.ListRows.{different_rows, element_rows, counter, counted, counts, units, atmost_rows}
-use Rattle.fd_model.specs.Constraining.{compare, all_different, element, atmost, basic}
-use Rattle.fd_model.specs.Satisfies.{Assignment, singles}
+use Rattle.fd_model.specs.ConstraintExpansion.{compare, all_different, element, atmost, basic}
+use Rattle.fd_model.specs.Satisfaction.{Assignment, singles}
 use Rattle.fd_model.specs.ConstraintLaws.{IsSettled}
 use Rattle.fd_model.specs.Ways.{is_equated}
 use Rattle.fd_language.proofs.Lemmas.{has_high, has-filter_back, set_agree, each_map}
-use Rattle.fd_model.proofs.Collecting.{one_ok}
-use Rattle.fd_model.proofs.Comparing.{form_of}
+use Rattle.fd_model.proofs.CollectedSums.{one_ok}
+use Rattle.fd_model.proofs.ComparisonRows.{form_of}
 use Rattle.fd_model.proofs.Singles.{set_singles}
-use Rattle.fd_model.proofs.Placing.{MembersBelow, member_read, members_read}
-use Rattle.fd_model.proofs.Choosing.{element_ok, where_is_test, other_is}
+use Rattle.fd_model.proofs.FreshVariables.{MembersBelow, member_read, members_read}
+use Rattle.fd_model.proofs.ElementRows.{element_ok, where_is_test, other_is}
 use Rattle.fd_model.proofs.Counters.{atmost_ok, unit, test_count}
-use Rattle.fd_model.proofs.Determining.{NamesIn, single_from, IsOne}
+use Rattle.fd_model.proofs.DeterminedValues.{NamesIn, single_from, IsOne}
 use Rattle.fd_model.proofs.RowNames.{AllVars, rows_names, each_below, collect_vars, normal_vars}
-use Rattle.fd_model.proofs.ListNames.{posted_left, posted_right, named_left, named_right, names_append, none_named, one_named, different_names, named_either, element_names, AllAdded, counts_names, named_counts, units_vars}
+use Rattle.fd_model.proofs.ListNames.{posted_left, posted_right, named_left, named_right, names_append, none_named, one_named, different_names, named_either}
+use Rattle.fd_model.proofs.ListNames.{element_names, AllAdded, counts_names, named_counts, units_vars}
 
 none_empty : (M n : ℕ) (S : Family) (ps : List Indexical) → IsSettled M (record { equated = []; ranges = record { target = n; range = no_number } ∷ ps; fresh = suc n }) S → ⊥
 none_empty M n S ps s =
@@ -91,8 +93,11 @@ IsOld n es v = (v < n) ⊎ (is_equated es v ≡ true)
 placed_old : (n : ℕ) (ms : List Member) (k : ℕ) → MembersBelow n ms → Each (IsOld n (equated_from k ms)) (placed k ms)
 placed_old n [] k b = tt
 placed_old n (Open x ∷ ms) k b = (inl b.0, placed_old n ms k b.1)
-placed_old n (Known z ∷ ms) k b =
-    (inr (or_left (k == k) _ (eq-eqb k k refl)), each_map (IsOld n (equated_from (suc k) ms)) (IsOld n ((k, z) ∷ equated_from (suc k) ms)) (λ v h. elim h [ inl l ↦ inl l | inr e ↦ inr (or_right (k == v) _ e) ]) (placed (suc k) ms) (placed_old n ms (suc k) b.1))
+placed_old n (Known z ∷ ms) k b = (
+  inr (or_left (k == k) _ (eq-eqb k k refl)),
+  each_map (IsOld n (equated_from (suc k) ms)) (IsOld n ((k, z) ∷ equated_from (suc k) ms))
+      (λ v h. elim h [ inl l ↦ inl l | inr e ↦ inr (or_right (k == v) _ e) ]) (placed (suc k) ms) (placed_old n ms (suc k) b.1),
+)
 
 -- where what is not added has one value, all named variables have
 module _ (M n : ℕ) (S : Family) (family : IsFamily M S) where
@@ -118,9 +123,11 @@ module _ (M n : ℕ) (S : Family) (family : IsFamily M S) where
   compare_one r s t x ks kt h =
       let g = form_of r s t n x h in
       let m = normal r g.linear in
-      subst HasOne g.rows (form_one (comparison r) m.products m.constant n (normal_vars (λ v. v < n) r g.linear (collect_vars (λ v. v < n) s t g.linear (each_below n s ks) (each_below n t kt) g.collected)))
+      subst HasOne g.rows (form_one (comparison r) m.products m.constant n
+      (normal_vars (λ v. v < n) r g.linear (collect_vars (λ v. v < n) s t g.linear (each_below n s ks) (each_below n t kt) g.collected)))
 
-  pub placed_one : (ms : List Member) (x : Expansion) → x.equated ≡ equated_from n ms → MembersBelow n ms → ((v : ℕ) → has (constrained x.ranges) v ≡ true → IsOld n x.equated v → IsOne S v) → Each (IfNamed x) (placed n ms)
+  pub placed_one : (ms : List Member) (x : Expansion) → x.equated ≡ equated_from n ms → MembersBelow n ms
+      → ((v : ℕ) → has (constrained x.ranges) v ≡ true → IsOld n x.equated v → IsOne S v) → Each (IfNamed x) (placed n ms)
   placed_one ms x e b old = each_map (IsOld n (equated_from n ms)) (IfNamed x) (λ v h i. old v i (subst (λ es. IsOld n es v) (sym e) h)) (placed n ms) (placed_old n ms n b)
 
   different_one : (l : Term) (x : Expansion) → TermBelow n l → all_different l n ≡ Ok x → HasOne x

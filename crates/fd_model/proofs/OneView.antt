@@ -5,12 +5,12 @@ use Rattle.fd_language.specs.Term.{Term, Terms, Var, Int, Atom, Comp, Substituti
 use Rattle.fd_language.specs.Unifier.{Equation, IsMostGeneral}
 use Rattle.fd_language.specs.Family.{Family, IsInside}
 use Rattle.fd_language.specs.Range.{Indexical}
-use Rattle.fd_model.specs.Closed.{IsClosed}
+use Rattle.fd_model.specs.ClosedFamilies.{IsClosed}
 use Rattle.fd_model.specs.Goal.{Branch}
-use Rattle.fd_model.specs.Seen.{IsView}
+use Rattle.fd_model.specs.BranchViews.{IsView}
 use Rattle.fd_model.specs.Children.{Kept}
 use Rattle.fd_language.proofs.Lemmas.{rising_same}
-use Rattle.fd_model.proofs.Closing.{var_from}
+use Rattle.fd_model.proofs.ClosedFamilies.{var_from}
 
 -- what s leaves as it is, u leaves as it is
 mutual
@@ -26,7 +26,8 @@ mutual
       let one : apply s t ≡ t = cc in let more : apply_all s ts ≡ ts = cc in
       let first = still_term s u h t one in let rest = still_terms s u h ts more in cc
 
-least_once : (es : List Equation) (s u : Substitution) → IsMostGeneral es s → IsMostGeneral es u → ((x y : ℕ) → s x ≡ Var y → y ≤ x) → ((x y : ℕ) → u x ≡ Var y → y ≤ x) → (y : ℕ) → s y ≡ Var y → u y ≡ Var y
+least_once : (es : List Equation) (s u : Substitution) → IsMostGeneral es s → IsMostGeneral es u → ((x y : ℕ) → s x ≡ Var y → y ≤ x)
+    → ((x y : ℕ) → u x ≡ Var y → y ≤ x) → (y : ℕ) → s y ≡ Var y → u y ≡ Var y
 least_once es s u g h p q y e =
     let found = var_from s (u y) y (h.general s y g.unifies ∙ e) in
     let low : found.0 ≤ y = q y found.0 found.1 in
@@ -57,5 +58,6 @@ one_view M N es ps s u D E v w =
     (units, fun_ext (one_family M N s ps D E v.closed closed (w.contains D (subst (λ x. IsClosed M N x ps D) units v.closed)) (v.contains E closed)))
 
 -- a thing that is made from the view is one
-pub from_view : {A : Type 0} (M N : ℕ) (b : Branch) (s u : Substitution) (D E : Family) (f : Substitution → Family → A) → IsView M N b.equations b.posted s D → IsView M N b.equations b.posted u E → f s D ≡ f u E
+pub from_view : {A : Type 0} (M N : ℕ) (b : Branch) (s u : Substitution) (D E : Family) (f : Substitution → Family → A) → IsView M N b.equations b.posted s D
+    → IsView M N b.equations b.posted u E → f s D ≡ f u E
 from_view M N b s u D E f v w = let one = one_view M N b.equations b.posted s u D E v w in ap (λ x. f x D) one.0 ∙ ap (λ x. f u x) one.1

@@ -1,5 +1,6 @@
 -- The order of leaves, by the values of the members.
-use Rattle.std.proofs.Common.{◌≡◌, ℕ, zero, suc, ◌≤◌, ◌<◌, true, ◌==◌, List, [], ◌∷◌, ◌++◌, map, Option, Some, None, ◌⊎◌, refl, ap, sym, ◌∙◌, subst, inl, inr, arith, eqb-true, append-nil}
+use Rattle.std.proofs.Common.{◌≡◌, ℕ, zero, suc, ◌≤◌, ◌<◌, true, ◌==◌, List, [], ◌∷◌, ◌++◌, map, Option, Some, None, ◌⊎◌, refl, ap, sym, ◌∙◌, subst, inl, inr}
+use Rattle.std.proofs.Common.{arith, eqb-true, append-nil}
 use Rattle.std.proofs.lemmas.Bool.{or_cases, or_left, or_right, true≢false}
 use Rattle.fd_model.specs.declared.kinds.Order.{Order}
 use Rattle.fd_model.specs.declared.kinds.Order.TheVariants.{Leftmost, FirstFail}
@@ -13,8 +14,8 @@ use Rattle.fd_model.specs.Labelling.{first_open, open_ones}
 use Rattle.fd_model.specs.Members.{Member, Open, Known}
 use Rattle.fd_model.specs.PostedLeaves.{AreLeft, open_unless, seen_in, picked_in, exactly, with_value, KeptLists, PostedLeaves, no_leaves, leaf, grows}
 use Rattle.fd_model.specs.PostedLaws.{ComesBefore, LeavesInOrder}
-use Rattle.fd_model.specs.Seen.{IsConsistent}
-use Rattle.fd_model.proofs.Determining.{single_from}
+use Rattle.fd_model.specs.BranchViews.{IsConsistent}
+use Rattle.fd_model.proofs.DeterminedValues.{single_from}
 use Rattle.fd_model.proofs.PostedSets.{AllMonotone, monotone_more, left_there, left_once, left_narrower, left_exactly, left_some}
 use Rattle.fd_model.proofs.PostedLeaves.{opens, some_only, among_picked, fewer_open, each_leaf, parted}
 
@@ -52,7 +53,8 @@ module _ (D E F : Family) (first : IsInside E D) (second : IsInside F D) (x n m 
       let g' : map F (open_ones ms) ≡ map alone ks = cc in
       by_set (only (D y)) refl e one two (λ j. rises ms j ns ks f' g')
     where
-      by_set : (s : Option ℕ) → only (D y) ≡ s → first_open (open_unless y s ∷ map (seen_in D) ms) ≡ Some x → E y ≡ i ∷ [] → F y ≡ k ∷ [] → (first_open (map (seen_in D) ms) ≡ Some x → Precedes ns ks) → (i < k) ⊎ ((i ≡ k) × Precedes ns ks)
+      by_set : (s : Option ℕ) → only (D y) ≡ s → first_open (open_unless y s ∷ map (seen_in D) ms) ≡ Some x → E y ≡ i ∷ [] → F y ≡ k ∷ []
+          → (first_open (map (seen_in D) ms) ≡ Some x → Precedes ns ks) → (i < k) ⊎ ((i ≡ k) × Precedes ns ks)
       by_set None s j one two later =
           let same : y ≡ x = cc in
           let a : i ≡ n = single_same i n (sym one ∙ ap E same ∙ here) in
@@ -71,8 +73,10 @@ still_among D [] x h = h
 still_among D (Known z ∷ ms) x h = still_among D ms x h
 still_among D (Open y ∷ ms) x h = by_set (only (D y)) h (still_among D ms x)
   where
-    by_set : (o : Option ℕ) → has (open_ones (open_unless y o ∷ map (seen_in D) ms)) x ≡ true → (has (open_ones (map (seen_in D) ms)) x ≡ true → has (open_ones ms) x ≡ true) → has (y ∷ open_ones ms) x ≡ true
-    by_set None g later = elim (or_cases (y == x) (has (open_ones (map (seen_in D) ms)) x) g) [ inl e ↦ or_left (y == x) (has (open_ones ms) x) e | inr e ↦ or_right (y == x) (has (open_ones ms) x) (later e) ]
+    by_set : (o : Option ℕ) → has (open_ones (open_unless y o ∷ map (seen_in D) ms)) x ≡ true
+        → (has (open_ones (map (seen_in D) ms)) x ≡ true → has (open_ones ms) x ≡ true) → has (y ∷ open_ones ms) x ≡ true
+    by_set None g later = elim (or_cases (y == x) (has (open_ones (map (seen_in D) ms)) x) g)
+        [ inl e ↦ or_left (y == x) (has (open_ones ms) x) e | inr e ↦ or_right (y == x) (has (open_ones ms) x) (later e) ]
     by_set (Some n) g later = or_right (y == x) (has (open_ones ms) x) (later g)
 
 in_order_both : {X : Type 0} (R : X → X → Type 0) (xs ys : List X) → InOrder R xs → InOrder R ys → Each (λ x. Each (R x) ys) xs → InOrder R (xs ++ ys)
@@ -100,7 +104,8 @@ module _ (M : ℕ) (o : Order) (ms : List Member) where
       pub inside : (E : Family) → AreLeft M l E → IsInside E D
       pub value : (E : Family) → AreLeft M l E → (k : ℕ) → has (E x) k ≡ true → k ≡ m
 
-    under_more : (m : ℕ) (qs : List Indexical) (E : Family) (y n : ℕ) → StaysUnder m qs → AreLeft M qs E → picked_in o E ms ≡ Some y → IsConsistent M M [] (with_value qs y n) → StaysUnder m (with_value qs y n)
+    under_more : (m : ℕ) (qs : List Indexical) (E : Family) (y n : ℕ) → StaysUnder m qs → AreLeft M qs E → picked_in o E ms ≡ Some y
+        → IsConsistent M M [] (with_value qs y n) → StaysUnder m (with_value qs y n)
     under_more m qs E y n u e q c = record {
       consistent = c;
       inside = λ F f. record { at = λ v. record { each = λ k h. ((u.inside E e).at v).each k (((left_narrower M qs (exactly y n ∷ []) E F e f).at v).each k h) } };
@@ -137,7 +142,9 @@ module _ (M : ℕ) (o : Order) (ms : List Member) where
     higher : (low n : ℕ) → low ≤ n → (ls : List (List Indexical)) → Each (From (suc n)) ls → Each (From low) ls
     higher low n h ls g = each_given (From (suc n)) (From low) (λ l f. (f.0, let k = f.1 in omega arith, f.2)) ls g
 
-    kids_in_order : ((n : ℕ) → IsConsistent M M [] (with_value ps x n) → (ls : List (List Indexical)) → PostedLeaves M o ms (with_value ps x n ∷ []) ls → InOrder R ls) → (low : ℕ) (ns : List ℕ) → IsRising low M ns → (cs : List (List Indexical)) → KeptLists M (map (with_value ps x) ns) cs → (ls : List (List Indexical)) → PostedLeaves M o ms cs ls → InOrder R ls × Each (From low) ls
+    kids_in_order : ((n : ℕ) → IsConsistent M M [] (with_value ps x n) → (ls : List (List Indexical)) → PostedLeaves M o ms (with_value ps x n ∷ []) ls
+        → InOrder R ls) → (low : ℕ) (ns : List ℕ) → IsRising low M ns → (cs : List (List Indexical)) → KeptLists M (map (with_value ps x) ns) cs
+        → (ls : List (List Indexical)) → PostedLeaves M o ms cs ls → InOrder R ls × Each (From low) ls
     kids_in_order ih low [] r cs k ls l = none_given ls (subst (λ (xs : List (List Indexical)). PostedLeaves M o ms xs ls) k l)
       where
         none_of : {xs ys : List (List Indexical)} → PostedLeaves M o ms xs ys → xs ≡ [] → ys ≡ []
@@ -153,7 +160,8 @@ module _ (M : ℕ) (o : Order) (ms : List Member) where
         let rest = kids_in_order ih (suc n) ns r.2 k.1.0 k.1.2 t.rest t.others in
         let front = all_under n t.front k.0 t.first in
         let low_here : low ≤ n = r.0 in
-        let cross : Each (λ a. Each (R a) t.rest) t.front = each_given (IsUnder n) (λ a. Each (R a) t.rest) (λ a u. each_given (From (suc n)) (R a) (λ b f. comes o p n f.0 (let h = f.1 in omega arith) a b u f.2) t.rest rest.1) t.front front in
+        let cross : Each (λ a. Each (R a) t.rest) t.front = each_given (IsUnder n) (λ a. Each (R a) t.rest)
+        (λ a u. each_given (From (suc n)) (R a) (λ b f. comes o p n f.0 (let h = f.1 in omega arith) a b u f.2) t.rest rest.1) t.front front in
         subst (λ (xs : List (List Indexical)). InOrder R xs × Each (From low) xs) (sym t.parts) (
           in_order_both R t.front t.rest (ih n k.0 t.front t.first) rest.0 cross,
           each_both (From low) t.front t.rest (each_given (IsUnder n) (From low) (λ a u. (n, low_here, u)) t.front front) (higher low n low_here t.rest rest.1),
@@ -166,7 +174,8 @@ module _ (M : ℕ) (o : Order) (ms : List Member) where
   abbrev Ordered : List Indexical → Type 0
   Ordered ps = (ls : List (List Indexical)) → PostedLeaves M o ms (ps ∷ []) ls → InOrder R ls
 
-  at_tree : (ps : List Indexical) → ((D : Family) (x : ℕ) → AreLeft M ps D → picked_in o D ms ≡ Some x → (n : ℕ) → IsConsistent M M [] (with_value ps x n) → Ordered (with_value ps x n)) → {as' ls : List (List Indexical)} → PostedLeaves M o ms as' ls → as' ≡ ps ∷ [] → InOrder R ls
+  at_tree : (ps : List Indexical) → ((D : Family) (x : ℕ) → AreLeft M ps D → picked_in o D ms ≡ Some x → (n : ℕ) → IsConsistent M M [] (with_value ps x n)
+      → Ordered (with_value ps x n)) → {as' ls : List (List Indexical)} → PostedLeaves M o ms as' ls → as' ≡ ps ∷ [] → InOrder R ls
   at_tree ps ih no_leaves e = tt
   at_tree ps ih (leaf {b = b} {bs = bs} {ls = ls} D d f l) e =
       let none : bs ≡ [] = cc in
@@ -188,7 +197,10 @@ module _ (M : ℕ) (o : Order) (ms : List Member) where
   ordered_by : (k : ℕ) (ps : List Indexical) (D : Family) → AllMonotone M ps → AreLeft M ps D → opens D ms ≤ k → Ordered ps
   ordered_by zero ps D m d h ls l = at_tree ps (λ E x e p n c ks t. absurd (
       let same = left_once M ps E D e d in
-      let f = fewer_open M o ms ps E (left_there M (with_value ps x n) (monotone_more M ps x n m)).0 x n e p (left_there M (with_value ps x n) (monotone_more M ps x n m)).1 (left_some M (with_value ps x n) (left_there M (with_value ps x n) (monotone_more M ps x n m)).0 c (left_there M (with_value ps x n) (monotone_more M ps x n m)).1) in
+      let f = fewer_open M o ms ps E (left_there M (with_value ps x n) (monotone_more M ps x n m)).0 x n e p
+      (left_there M (with_value ps x n) (monotone_more M ps x n m)).1
+      (left_some M (with_value ps x n) (left_there M (with_value ps x n) (monotone_more M ps x n m)).0 c
+      (left_there M (with_value ps x n) (monotone_more M ps x n m)).1) in
       let g = ap (λ (S : Family). opens S ms) same in
       omega arith)) l refl
   ordered_by (suc k) ps D m d h ls l = at_tree ps (λ E x e p n c ks t.

@@ -1,28 +1,30 @@
 -- What a goal `T in r` of a flat query becomes.
-use Rattle.std.proofs.Common.{◌≡◌, ℕ, suc, ◌+◌, ◌<◌, ◌≤◌, true, false, cond, ◌==◌, ℤ, pos, List, [], ◌∷◌, ◌++◌, length, Option, ◌⊎◌, refl, ap, sym, ◌∙◌, subst, inl, inr, arith, eqb-true, eq-eqb}
+use Rattle.std.proofs.Common.{◌≡◌, ℕ, suc, ◌+◌, ◌<◌, ◌≤◌, true, false, cond, ◌==◌, ℤ, pos, List, [], ◌∷◌, ◌++◌, length, Option, ◌⊎◌, refl, ap, sym, ◌∙◌, subst}
+use Rattle.std.proofs.Common.{inl, inr, arith, eqb-true, eq-eqb}
 use Rattle.std.proofs.lemmas.Bool.{or_cases, or_left, or_right, cases_Bool, true≢false}
 use Rattle.fd_language.specs.Term.{Term, Var, Int, Atom, Comp, Substitution, apply}
 use Rattle.fd_language.specs.Unifier.{Equation}
 use Rattle.fd_language.specs.Family.{has}
 use Rattle.fd_language.specs.Range.{Range, Indexical, reads, set_of}
-use Rattle.fd_model.specs.Closed.{constrained}
+use Rattle.fd_model.specs.ClosedFamilies.{constrained}
 use Rattle.fd_language.specs.Check.{fill_range}
 use Rattle.fd_language.specs.Needs.{need_of}
 use Rattle.fd_language.specs.RangeRenaming.{rename_range}
 use Rattle.fd_language.specs.Occurrences.{Occurrence, one_occurrence, range_occurrences}
 use Rattle.fd_model.specs.Posting.{is_integer, integer_of, integers_at, slot, slot_equations, unless_offence}
 use Rattle.fd_model.specs.Goal.{Goal, Post, Program, Branch}
-use Rattle.fd_model.specs.Sound.{OccurrencesBelow}
+use Rattle.fd_model.specs.RunnablePrograms.{OccurrencesBelow}
 use Rattle.fd_model.specs.Children.{Gives as GivesBranches, by_post, offer}
 pub use Rattle.fd_language.proofs.Lemmas.{map_has, has_map}
 use Rattle.fd_language.proofs.Lemmas.{has_either, in_left, reads_map, set_same, filled_as_is, none_parameter, free_occurrences_read}
 use Rattle.fd_model.proofs.GoalRows.{Rewritten, with_ranges, numbers, Gives, FitsRow, IsPlain}
-use Rattle.fd_model.specs.Satisfies.{Assignment, singles}
+use Rattle.fd_model.specs.Satisfaction.{Assignment, singles}
 use Rattle.fd_model.specs.Answers.{Somewhere}
 use Rattle.fd_model.proofs.Lists.{each_map}
-use Rattle.fd_model.proofs.Heeding.{first_member}
-use Rattle.fd_model.proofs.Slots.{Apart, integers, integers_are, integers_apart, integers_from, slot_out, slot_low, slot_high, extend, extend_bounded, extend_low, extend_slot, IsInteger, slots_given, slots_each, slots_unify, slots_back}
-use Rattle.fd_model.proofs.Staging.{IsGoalRow}
+use Rattle.fd_model.proofs.ModelSubstitutions.{first_member}
+use Rattle.fd_model.proofs.Slots.{Apart, integers, integers_are, integers_apart, integers_from, slot_out, slot_low, slot_high, extend, extend_bounded}
+use Rattle.fd_model.proofs.Slots.{extend_low, extend_slot, IsInteger, slots_given, slots_each, slots_unify, slots_back}
+use Rattle.fd_model.proofs.FlatBranches.{IsGoalRow}
 use Rattle.fd_model.proofs.FlatPosting.{Free, variables, IsPlainTerm, no_offence}
 use Rattle.fd_language.specs.Range.{params}
 
@@ -59,10 +61,13 @@ module _ (r : Range) (m tv : ℕ) (ys : List ℕ) where
   renamed_there : (y : ℕ) → has (tv ∷ reads r) y ≡ true → has (constrained (renamed ∷ [])) (slot m ys y) ≡ true
   renamed_there y h = elim (or_cases (tv == y) (has (reads r) y) h) [
     | inl e ↦ or_left (slot m ys tv == slot m ys y) _ (eq-eqb (slot m ys tv) (slot m ys y) (ap (slot m ys) (eqb-true tv y e)))
-    | inr e ↦ or_right (slot m ys tv == slot m ys y) _ (in_left (reads (rename_range (slot m ys) r)) [] (slot m ys y) (subst (λ l. has l (slot m ys y) ≡ true) (sym (reads_map (slot m ys) r)) (has_map (slot m ys) (reads r) y e)))
+    | inr e ↦ or_right (slot m ys tv == slot m ys y) _
+        (in_left (reads (rename_range (slot m ys) r)) [] (slot m ys y)
+        (subst (λ l. has l (slot m ys y) ≡ true) (sym (reads_map (slot m ys) r)) (has_map (slot m ys) (reads r) y e)))
   ]
 
-module _ (M N nv : ℕ) (vs : List ℕ) (every : (x : ℕ) → x < nv → has vs x ≡ true) (look : Substitution) (plain : IsPlain N vs look) (n : ℕ) (low : nv ≤ n) (r : Range) (free : Free (range_occurrences r)) where
+module _ (M N nv : ℕ) (vs : List ℕ) (every : (x : ℕ) → x < nv → has vs x ≡ true) (look : Substitution) (plain : IsPlain N vs look) (n : ℕ) (low : nv ≤ n)
+    (r : Range) (free : Free (range_occurrences r)) where
   module _ (xs : List ℕ) (small : (x : ℕ) → has xs x ≡ true → x < nv) where
     abbrev ys : List ℕ
     ys = integers look xs []
@@ -96,7 +101,10 @@ module _ (M N nv : ℕ) (vs : List ℕ) (every : (x : ℕ) → x < nv → has vs
 
     by_slot : (x y : ℕ) → has xs y ≡ true → slot n zs y ≡ x → (x < n + length zs) × ((has vs x ≡ true) ⊎ ((has [] x ≡ true) ⊎ Somewhere (Gives x) (slot_equations look n zs)))
     by_slot x y h e = elim (cases_Bool (has zs y)) [
-      | inl k ↦ (subst (λ z. z < n + length zs) e (slot_high n zs y k), inr (inr (subst (λ z. Somewhere (Gives z) (slot_equations look n zs)) e (slots_given look n zs y k (inside xs small_all y k).1))))
+      | inl k ↦ (
+        subst (λ z. z < n + length zs) e (slot_high n zs y k),
+        inr (inr (subst (λ z. Somewhere (Gives z) (slot_equations look n zs)) e (slots_given look n zs y k (inside xs small_all y k).1))),
+      )
       | inr k ↦ let same = sym (slot_out n zs y k) ∙ e in let l = small_all y h in (subst (λ z. z < n + length zs) same (omega arith), inl (subst (λ z. has vs z ≡ true) same (every y l)))
     ]
 
@@ -109,7 +117,12 @@ module _ (M N nv : ℕ) (vs : List ℕ) (every : (x : ℕ) → x < nv → has vs
       below = λ x h. (let g = renamed_from r n v zs x h in (by_slot x g.0 g.1 g.2).0);
       kinds = λ x h. (let g = renamed_from r n v zs x h in (by_slot x g.0 g.1 g.2).1);
       equated = each_map (λ e. (x : ℕ) × Gives x e × ((y : ℕ) × (has zs y ≡ true) × (slot n zs y ≡ x))) (λ e. (x : ℕ) × Gives x e × (n ≤ x) × (has (constrained (renamed r n v zs ∷ [])) x ≡ true))
-          (λ e g. (g.0, g.1, subst (λ z. n ≤ z) g.2.2 (slot_low n zs g.2.0 g.2.1), subst (λ z. has (constrained (renamed r n v zs ∷ [])) z ≡ true) g.2.2 (renamed_there r n v zs g.2.0 (inside xs small_all g.2.0 g.2.1).0)))
+          (λ e g. (
+            g.0,
+            g.1,
+            subst (λ z. n ≤ z) g.2.2 (slot_low n zs g.2.0 g.2.1),
+            subst (λ z. has (constrained (renamed r n v zs ∷ [])) z ≡ true) g.2.2 (renamed_there r n v zs g.2.0 (inside xs small_all g.2.0 g.2.1).0),
+          ))
           (slot_equations look n zs) (slots_each look n zs (apart xs small_all) (λ y h. (inside xs small_all y h).1));
       added = λ x h. absurd (true≢false (sym h));
       settles = λ S f c full others x k. others x k refl;
@@ -145,11 +158,16 @@ module _ (M N nv : ℕ) (vs : List ℕ) (every : (x : ℕ) → x < nv → has vs
     own_slot : slot (suc n) ws n ≡ n
     own_slot = slot_out (suc n) ws n no_slot
 
-    by_slot_or_own : (x y : ℕ) → has (n ∷ reads r) y ≡ true → slot (suc n) ws y ≡ x → (x < suc n + length ws) × ((has vs x ≡ true) ⊎ ((has [] x ≡ true) ⊎ Somewhere (Gives x) (first ∷ slot_equations look (suc n) ws)))
+    by_slot_or_own : (x y : ℕ) → has (n ∷ reads r) y ≡ true → slot (suc n) ws y ≡ x
+        → (x < suc n + length ws) × ((has vs x ≡ true) ⊎ ((has [] x ≡ true) ⊎ Somewhere (Gives x) (first ∷ slot_equations look (suc n) ws)))
     by_slot_or_own x y h e = elim (or_cases (n == y) (has (reads r) y) h) [
       | inl i ↦ let same : n ≡ x = sym own_slot ∙ ap (slot (suc n) ws) (eqb-true n y i) ∙ e in (omega arith, inr (inr (inl (ap Var same, (z, refl)))))
       | inr i ↦ elim (cases_Bool (has ws y)) [
-        | inl k ↦ (subst (λ w. w < suc n + length ws) e (slot_high (suc n) ws y k), inr (inr (inr (subst (λ w. Somewhere (Gives w) (slot_equations look (suc n) ws)) e (slots_given look (suc n) ws y k (inside (reads r) small y k).1)))))
+        | inl k ↦ (
+          subst (λ w. w < suc n + length ws) e (slot_high (suc n) ws y k),
+          inr (inr (inr (subst (λ w. Somewhere (Gives w) (slot_equations look (suc n) ws)) e
+              (slots_given look (suc n) ws y k (inside (reads r) small y k).1)))),
+        )
         | inr k ↦ let same = sym (slot_out (suc n) ws y k) ∙ e in let l = small y i in (subst (λ w. w < suc n + length ws) same (omega arith), inl (subst (λ w. has vs w ≡ true) same (every y l)))
       ]
     ]
@@ -178,9 +196,11 @@ module _ (M N nv : ℕ) (vs : List ℕ) (every : (x : ℕ) → x < nv → has vs
         let c = put k a in
         let e = extend (suc n) ws c in
         let low_same : (y : ℕ) → y < nv → c y ≡ a y = λ y l. put_low k a y (omega arith) in
-        let ints : (y : ℕ) → has ws y ≡ true → look y ≡ Int (pos (c y)) = λ y j. seen_number (reads r) small a same y j ∙ ap (λ i. Int (pos i)) (sym (low_same y (small y (inside (reads r) small y j).0))) in
+        let ints : (y : ℕ) → has ws y ≡ true → look y ≡ Int (pos (c y)) = λ y j. seen_number (reads r) small a same y j
+        ∙ ap (λ i. Int (pos i)) (sym (low_same y (small y (inside (reads r) small y j).0))) in
         let there : (y : ℕ) → y < nv → e (slot (suc n) ws y) ≡ a y =
-        slot_number (reads r) small (suc n) a e (omega arith) (λ y j. extend_slot (suc n) ws c y j ∙ low_same y (small y (inside (reads r) small y j).0)) (λ y l. extend_low (suc n) ws c y (omega arith) ∙ low_same y l) in
+        slot_number (reads r) small (suc n) a e (omega arith) (λ y j. extend_slot (suc n) ws c y j ∙ low_same y (small y (inside (reads r) small y j).0))
+        (λ y l. extend_low (suc n) ws c y (omega arith) ∙ low_same y l) in
         let own : e n ≡ k = extend_low (suc n) ws c n (omega arith) ∙ put_here k a in (
           e,
           record {
@@ -193,7 +213,8 @@ module _ (M N nv : ℕ) (vs : List ℕ) (every : (x : ℕ) → x < nv → has vs
 
     out_integer : (e : Assignment) → ((y : ℕ) → has vs y ≡ true → apply (numbers e) (look y) ≡ Int (pos (e y))) → FitsRow M N (row_of (suc n) n (first ∷ []) ws r) e → LiesIn M N r e (Int z)
     out_integer e same f =
-        let there : (y : ℕ) → y < nv → e (slot (suc n) ws y) ≡ e y = slot_number (reads r) small (suc n) e e (omega arith) (slots_back look (suc n) ws e e (seen_number (reads r) small e same) f.equations.1) (λ y l. refl) in (
+        let there : (y : ℕ) → y < nv → e (slot (suc n) ws y) ≡ e y = slot_number (reads r) small (suc n) e e (omega arith)
+        (slots_back look (suc n) ws e e (seen_number (reads r) small e same) f.equations.1) (λ y l. refl) in (
           e n,
           (let g = f.equations.0 in let i : z ≡ pos (e n) = cc in i),
           f.bounded n,
@@ -212,7 +233,8 @@ module _ (M N nv : ℕ) (vs : List ℕ) (every : (x : ℕ) → x < nv → has vs
               g.0,
               g.1,
               (let l : suc n ≤ g.0 = subst (λ w. suc n ≤ w) g.2.2 (slot_low (suc n) ws g.2.0 g.2.1) in omega arith),
-              subst (λ w. has (constrained (renamed r (suc n) n ws ∷ [])) w ≡ true) g.2.2 (renamed_there r (suc n) n ws g.2.0 (or_right (n == g.2.0) (has (reads r) g.2.0) (inside (reads r) small g.2.0 g.2.1).0)),
+              subst (λ w. has (constrained (renamed r (suc n) n ws ∷ [])) w ≡ true) g.2.2
+                  (renamed_there r (suc n) n ws g.2.0 (or_right (n == g.2.0) (has (reads r) g.2.0) (inside (reads r) small g.2.0 g.2.1).0)),
             ))
             (slot_equations look (suc n) ws) (slots_each look (suc n) ws (apart (reads r) small) (λ y h. (inside (reads r) small y h).1)),
       );
@@ -223,7 +245,8 @@ module _ (M N nv : ℕ) (vs : List ℕ) (every : (x : ℕ) → x < nv → has vs
     }
 
 -- what posting gives
-module _ (M N m : ℕ) (prog : Program) (nv : ℕ) (vs : List ℕ) (every : (x : ℕ) → x < nv → has vs x ≡ true) (b : Branch) (rest : List Goal) (look : Substitution) (sets : ℕ → Option (List ℕ)) (plain : IsPlain N vs look) (low : nv ≤ b.fresh)
+module _ (M N m : ℕ) (prog : Program) (nv : ℕ) (vs : List ℕ) (every : (x : ℕ) → x < nv → has vs x ≡ true) (b : Branch) (rest : List Goal) (look : Substitution)
+    (sets : ℕ → Option (List ℕ)) (plain : IsPlain N vs look) (low : nv ≤ b.fresh)
     (r : Range) (none : params r ≡ []) (below : OccurrencesBelow nv (range_occurrences r)) where
   free : Free (range_occurrences r)
   free = none_parameter r none
@@ -241,28 +264,41 @@ module _ (M N m : ℕ) (prog : Program) (nv : ℕ) (vs : List ℕ) (every : (x :
   abbrev spelled : ℕ → ℕ → List Equation → List Occurrence → Rewritten
   spelled m tv es ps = row_of M N nv vs every look plain b.fresh low r free m tv es (integers_at look ps []) (fill_range (λ y. integer_of (look y)) r)
 
-  same_row : (m tv : ℕ) (es : List Equation) (ps : List Occurrence) (qs : List ℕ) → Free ps → variables ps ≡ qs → spelled m tv es ps ≡ row_of M N nv vs every look plain b.fresh low r free m tv es (integers look qs []) r
+  same_row : (m tv : ℕ) (es : List Equation) (ps : List Occurrence) (qs : List ℕ) → Free ps → variables ps ≡ qs
+      → spelled m tv es ps ≡ row_of M N nv vs every look plain b.fresh low r free m tv es (integers look qs []) r
   same_row m tv es ps qs h e =
       ap (λ q. row_of M N nv vs every look plain b.fresh low r free m tv es (integers_at look ps []) q) (filled_as_is (λ y. integer_of (look y)) r none)
       ∙ ap (λ l. row_of M N nv vs every look plain b.fresh low r free m tv es l r) (integers_are look ps [] h ∙ ap (λ l. integers look l []) e)
 
-  pub post_variable : (v : ℕ) → v < nv → (w : Rewritten) × (offer M N m prog look sets b (Post (Var v) r) rest ≡ GivesBranches (with_ranges b rest w ∷ [])) × IsGoalRow M N b.fresh vs look (λ a. LiesIn M N r a (Var v)) w
+  pub post_variable : (v : ℕ) → v < nv → (w : Rewritten) × (offer M N m prog look sets b (Post (Var v) r) rest ≡ GivesBranches (with_ranges b rest w ∷ []))
+      × IsGoalRow M N b.fresh vs look (λ a. LiesIn M N r a (Var v)) w
   post_variable v h =
       let ps = one_occurrence v false ++ range_occurrences r in
-      let small : (x : ℕ) → has (v ∷ variables (range_occurrences r)) x ≡ true → x < nv = λ x i. elim (or_cases (v == x) (has (variables (range_occurrences r)) x) i) [ inl e ↦ subst (λ y. y < nv) (eqb-true v x e) h | inr e ↦ small_occurrences x e ] in (
+      let small : (x : ℕ) → has (v ∷ variables (range_occurrences r)) x ≡ true
+      → x < nv = λ x i. elim (or_cases (v == x) (has (variables (range_occurrences r)) x) i)
+      [ inl e ↦ subst (λ y. y < nv) (eqb-true v x e) h | inr e ↦ small_occurrences x e ] in (
         _,
-        ap (λ f. by_post b rest (unless_offence f (record { target = slot b.fresh (integers_at look ps []) v; range = rename_range (slot b.fresh (integers_at look ps [])) (fill_range (λ y. integer_of (look y)) r) }) (b.fresh + length (integers_at look ps [])) ([] ++ slot_equations look b.fresh (integers_at look ps []))))
+        ap (λ f. by_post b rest (unless_offence f (record {
+          target = slot b.fresh (integers_at look ps []) v;
+          range = rename_range (slot b.fresh (integers_at look ps [])) (fill_range (λ y. integer_of (look y)) r);
+        })
+            (b.fresh + length (integers_at look ps [])) ([] ++ slot_equations look b.fresh (integers_at look ps []))))
             (no_offence (need_of r) look ps (refl, free) (λ x i. plain_term x (small x i)))
             ∙ ap (λ w. GivesBranches (with_ranges b rest w ∷ [])) (same_row b.fresh v [] ps (v ∷ reads r) (refl, free) (ap (λ l. v ∷ l) (free_occurrences_read r free))),
         variable_row M N nv vs every look plain b.fresh low r free v h small_reads,
       )
 
-  pub post_integer : (z : ℤ) → (w : Rewritten) × (offer M N m prog look sets b (Post (Int z) r) rest ≡ GivesBranches (with_ranges b rest w ∷ [])) × IsGoalRow M N b.fresh vs look (λ a. LiesIn M N r a (Int z)) w
+  pub post_integer : (z : ℤ) → (w : Rewritten) × (offer M N m prog look sets b (Post (Int z) r) rest ≡ GivesBranches (with_ranges b rest w ∷ []))
+      × IsGoalRow M N b.fresh vs look (λ a. LiesIn M N r a (Int z)) w
   post_integer z =
       let ps = range_occurrences r in
       let es : List Equation = record { left = Var b.fresh; right = Int z } ∷ [] in (
         _,
-        ap (λ f. by_post b rest (unless_offence f (record { target = slot (suc b.fresh) (integers_at look ps []) b.fresh; range = rename_range (slot (suc b.fresh) (integers_at look ps [])) (fill_range (λ y. integer_of (look y)) r) }) (suc b.fresh + length (integers_at look ps [])) (es ++ slot_equations look (suc b.fresh) (integers_at look ps []))))
+        ap (λ f. by_post b rest (unless_offence f (record {
+          target = slot (suc b.fresh) (integers_at look ps []) b.fresh;
+          range = rename_range (slot (suc b.fresh) (integers_at look ps [])) (fill_range (λ y. integer_of (look y)) r);
+        })
+            (suc b.fresh + length (integers_at look ps [])) (es ++ slot_equations look (suc b.fresh) (integers_at look ps []))))
             (no_offence (need_of r) look ps free (λ x i. plain_term x (small_occurrences x i)))
             ∙ ap (λ w. GivesBranches (with_ranges b rest w ∷ [])) (same_row (suc b.fresh) b.fresh es ps (reads r) free (free_occurrences_read r free)),
         integer_row M N nv vs every look plain b.fresh low r free z small_reads,

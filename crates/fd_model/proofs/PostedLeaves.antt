@@ -1,5 +1,6 @@
 -- Leaves of posted lists: that there are some, that there are no others, and what holds of each.
-use Rattle.std.proofs.Common.{◌≡◌, ℕ, zero, suc, ◌≤◌, ◌<◌, Bool, true, false, cond, ltb, ◌==◌, List, [], ◌∷◌, ◌++◌, map, length, Option, Some, None, refl, ap, sym, ◌∙◌, subst, inl, inr, arith, eqb-true, eq-eqb, append_assoc}
+use Rattle.std.proofs.Common.{◌≡◌, ℕ, zero, suc, ◌≤◌, ◌<◌, Bool, true, false, cond, ltb, ◌==◌, List, [], ◌∷◌, ◌++◌, map, length, Option, Some, None, refl, ap}
+use Rattle.std.proofs.Common.{sym, ◌∙◌, subst, inl, inr, arith, eqb-true, eq-eqb, append_assoc}
 use Rattle.std.proofs.lemmas.Bool.{or_cases, or_left, or_right, true≢false}
 use Rattle.fd_model.specs.declared.kinds.Order.{Order}
 use Rattle.fd_model.specs.declared.kinds.Order.TheVariants.{Leftmost, FirstFail}
@@ -10,10 +11,10 @@ use Rattle.fd_language.specs.SingleValues.{only}
 use Rattle.fd_model.specs.Labelling.{pick, first_open, fewest, unless_fewer, open_ones}
 use Rattle.fd_model.specs.PostedLeaves.{AreLeft, open_unless, seen_in, picked_in, exactly, with_value, KeptLists, PostedLeaves, no_leaves, leaf, grows}
 use Rattle.fd_model.specs.Members.{Member, Open, Known}
-use Rattle.fd_model.specs.Seen.{IsConsistent}
+use Rattle.fd_model.specs.BranchViews.{IsConsistent}
 use Rattle.fd_language.proofs.Lemmas.{only_member, each_both}
-use Rattle.fd_model.proofs.Determining.{single_from}
-use Rattle.fd_model.proofs.Consistent.{decide_consistent}
+use Rattle.fd_model.proofs.DeterminedValues.{single_from}
+use Rattle.fd_model.proofs.ConsistentBranches.{decide_consistent}
 use Rattle.fd_model.proofs.PostedSets.{AllMonotone, monotone_more, left_there, left_once, left_narrower, left_exactly, left_some}
 
 -- how many members are seen as open ones
@@ -80,7 +81,8 @@ module _ (M : ℕ) (D E : Family) (rises : IsFamily M E) (inside : IsInside E D)
   no_more (Known z ∷ ms) = no_more ms
   no_more (Open y ∷ ms) = by_sets (only (D y)) (only (E y)) refl refl (no_more ms)
     where
-      by_sets : (a b : Option ℕ) → only (D y) ≡ a → only (E y) ≡ b → opens E ms ≤ opens D ms → length (open_ones (open_unless y b ∷ map (seen_in E) ms)) ≤ length (open_ones (open_unless y a ∷ map (seen_in D) ms))
+      by_sets : (a b : Option ℕ) → only (D y) ≡ a → only (E y) ≡ b → opens E ms ≤ opens D ms
+          → length (open_ones (open_unless y b ∷ map (seen_in E) ms)) ≤ length (open_ones (open_unless y a ∷ map (seen_in D) ms))
       by_sets (Some n) (Some k) e f h = h
       by_sets (Some n) None e f h = absurd (let g = single y n e in let b : ⊥ = cc in b)
       by_sets None (Some k) e f h = omega arith
@@ -100,7 +102,9 @@ module _ (M : ℕ) (D E : Family) (rises : IsFamily M E) (inside : IsInside E D)
         by_rest (Some k) j = omega arith
         by_rest None j = omega arith
 
-        by_sets : (a b : Option ℕ) → only (D y) ≡ a → only (E y) ≡ b → has (open_ones (open_unless y a ∷ map (seen_in D) ms)) x ≡ true → (has (open_ones (map (seen_in D) ms)) x ≡ true → opens E ms < opens D ms) → length (open_ones (open_unless y b ∷ map (seen_in E) ms)) < length (open_ones (open_unless y a ∷ map (seen_in D) ms))
+        by_sets : (a b : Option ℕ) → only (D y) ≡ a → only (E y) ≡ b → has (open_ones (open_unless y a ∷ map (seen_in D) ms)) x ≡ true
+            → (has (open_ones (map (seen_in D) ms)) x ≡ true → opens E ms < opens D ms)
+            → length (open_ones (open_unless y b ∷ map (seen_in E) ms)) < length (open_ones (open_unless y a ∷ map (seen_in D) ms))
         by_sets (Some n) (Some k) e f g later = later g
         by_sets (Some n) None e f g later = absurd (let j = single y n e in let b : ⊥ = cc in b)
         by_sets None b e f g later = elim (or_cases (y == x) (has (open_ones (map (seen_in D) ms)) x) g) [ inl j ↦ by_name b f j | inr j ↦ by_rest b (later j) ]
@@ -111,7 +115,8 @@ some_length (y ∷ ys) x h = omega arith
 
 module _ (M : ℕ) (o : Order) (ms : List Member) where
   -- where the picked variable gets a value fewer members are open
-  pub fewer_open : (ps : List Indexical) (D E : Family) (x n : ℕ) → AreLeft M ps D → picked_in o D ms ≡ Some x → AreLeft M (with_value ps x n) E → ((y : ℕ) → (k : ℕ) × (has (E y) k ≡ true)) → opens E ms < opens D ms
+  pub fewer_open : (ps : List Indexical) (D E : Family) (x n : ℕ) → AreLeft M ps D → picked_in o D ms ≡ Some x → AreLeft M (with_value ps x n) E
+      → ((y : ℕ) → (k : ℕ) × (has (E y) k ≡ true)) → opens E ms < opens D ms
   fewer_open ps D E x n d e f some =
       let inside = left_narrower M ps (exactly x n ∷ []) D E d f in
       let one : E x ≡ n ∷ [] = single_from 0 M n (E x) (f.family.rising x) (subst (λ k. has (E x) k ≡ true) (left_exactly M ps x n E f (some x).0 (some x).1) (some x).1) (left_exactly M ps x n E f) in
@@ -151,7 +156,8 @@ module _ (M : ℕ) (o : Order) (ms : List Member) where
   lead_all [] h bs ks l = (ks, l)
   lead_all (c ∷ cs) h bs ks l = let rest = lead_all cs h.1 bs ks l in h.0 (cs ++ bs) rest.0 rest.1
 
-  kept_lead : (ps : List Indexical) (x : ℕ) → ((n : ℕ) → IsConsistent M M [] (with_value ps x n) → Leads (with_value ps x n ∷ [])) → (ns : List ℕ) → Each (λ b. IsConsistent M M [] b → Leads (b ∷ [])) (map (with_value ps x) ns)
+  kept_lead : (ps : List Indexical) (x : ℕ) → ((n : ℕ) → IsConsistent M M [] (with_value ps x n) → Leads (with_value ps x n ∷ [])) → (ns : List ℕ)
+      → Each (λ b. IsConsistent M M [] b → Leads (b ∷ [])) (map (with_value ps x) ns)
   kept_lead ps x f [] = tt
   kept_lead ps x f (n ∷ ns) = (f n, kept_lead ps x f ns)
 
@@ -163,11 +169,14 @@ module _ (M : ℕ) (o : Order) (ms : List Member) where
       by_pick (Some x) e = absurd (let j = some_length (open_ones (map (seen_in D) ms)) x (among_picked o D (map (seen_in D) ms) x e) in omega arith)
   lead_by (suc k) ps D m d h bs ks l = by_pick (picked_in o D ms) refl (λ c E n j a. lead_by k c E n j a)
     where
-      by_pick : (p : Option ℕ) → picked_in o D ms ≡ p → ((c : List Indexical) (E : Family) → AllMonotone M c → AreLeft M c E → opens E ms ≤ k → Leads (c ∷ [])) → (ls : List (List Indexical)) × PostedLeaves M o ms (ps ∷ bs) ls
+      by_pick : (p : Option ℕ) → picked_in o D ms ≡ p → ((c : List Indexical) (E : Family) → AllMonotone M c → AreLeft M c E → opens E ms ≤ k → Leads (c ∷ []))
+          → (ls : List (List Indexical)) × PostedLeaves M o ms (ps ∷ bs) ls
       by_pick None e f = (ps ∷ ks, leaf D d e l)
       by_pick (Some x) e f =
           let kids = kept_there ps x m (D x) in
-          let all = each_kept (λ c. Leads (c ∷ [])) (map (with_value ps x) (D x)) kids.0 kids.1 (kept_lead ps x (λ n c. let more = monotone_more M ps x n m in let E = left_there M (with_value ps x n) more in f (with_value ps x n) E.0 more E.1 (let j = fewer_open ps D E.0 x n d e E.1 (left_some M (with_value ps x n) E.0 c E.1) in omega arith)) (D x)) in
+          let all = each_kept (λ c. Leads (c ∷ [])) (map (with_value ps x) (D x)) kids.0 kids.1 (kept_lead ps x (λ n c. let more = monotone_more M ps x n m in
+          let E = left_there M (with_value ps x n) more in
+          f (with_value ps x n) E.0 more E.1 (let j = fewer_open ps D E.0 x n d e E.1 (left_some M (with_value ps x n) E.0 c E.1) in omega arith)) (D x)) in
           let made = lead_all kids.0 all bs ks l in
           (made.0, grows D x kids.0 d e kids.1 made.1)
 
@@ -187,7 +196,8 @@ module _ (M : ℕ) (o : Order) (ms : List Member) where
   leaves_once {ks = ks} (grows {b = b} {bs = bs} D x cs d e h l) (grows E y ds f g i k) =
       let j : Some x ≡ Some y = same_pick b D E (Some x) (Some y) d f e g in
       let same : x ≡ y = cc in
-      let values : map (with_value b y) (E y) ≡ map (with_value b x) (D x) = ap (λ z. map (with_value b z) (E z)) (sym same) ∙ ap (λ (S : Family). map (with_value b x) (S x)) (left_once M b E D f d) in
+      let values : map (with_value b y) (E y) ≡ map (with_value b x) (D x) = ap (λ z. map (with_value b z) (E z)) (sym same)
+      ∙ ap (λ (S : Family). map (with_value b x) (S x)) (left_once M b E D f d) in
       let kids : ds ≡ cs = kept_once (map (with_value b x) (D x)) ds cs (subst (λ vs. KeptLists M vs ds) values i) h in
       leaves_once l (subst (λ xs. PostedLeaves M o ms (xs ++ bs) ks) kids k)
 

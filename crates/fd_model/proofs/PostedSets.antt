@@ -8,13 +8,13 @@ use Rattle.fd_language.specs.Family.{Family, has, universe, IsFamily, IsRising, 
 use Rattle.fd_language.specs.Range.{Indexical, in_set, set_of, reads}
 use Rattle.fd_language.specs.Monotonicity.{IsMonotone}
 use Rattle.fd_language.proofs.Lemmas.{identity, rising_same, universe_rising, in_universe, set_agree, in_left, in_right, has_high, rising-filter}
-use Rattle.fd_model.specs.Closed.{AllPosted, constrained}
+use Rattle.fd_model.specs.ClosedFamilies.{AllPosted, constrained}
 use Rattle.fd_model.specs.Domains.{Domains}
-use Rattle.fd_model.specs.Seen.{IsConsistent}
+use Rattle.fd_model.specs.BranchViews.{IsConsistent}
 use Rattle.fd_model.specs.PostedLeaves.{AreLeft, exactly, with_value}
-use Rattle.fd_model.proofs.Closing.{closed_either, greatest_for}
+use Rattle.fd_model.proofs.ClosedFamilies.{closed_either, greatest_for}
 use Rattle.fd_model.proofs.Constants.{in_span, from_span}
-use Rattle.fd_model.proofs.Growing.{posted_both}
+use Rattle.fd_model.proofs.AddedRanges.{posted_both}
 use Rattle.fd_model.proofs.ListNames.{posted_left, posted_right}
 use Rattle.fd_model.proofs.Orders.{whole}
 
@@ -96,7 +96,8 @@ in_ranges_agree : (M : ℕ) (T S : Family) (ps : List Indexical) → ((v : ℕ) 
 in_ranges_agree M T S [] h g = tt
 in_ranges_agree M T S (p ∷ ps) h g = (
   subst (λ l. IsSubset l (set_of M T p.range)) (sym (h p.target (or_left (p.target == p.target) (has (reads p.range ++ constrained ps) p.target) (eq-eqb p.target p.target refl))))
-      (subst (IsSubset (S p.target)) (sym (set_agree M T S p.range (λ v c. h v (or_right (p.target == v) (has (reads p.range ++ constrained ps) v) (in_left (reads p.range) (constrained ps) v c))))) g.0),
+      (subst (IsSubset (S p.target)) (sym (set_agree M T S p.range
+      (λ v c. h v (or_right (p.target == v) (has (reads p.range ++ constrained ps) v) (in_left (reads p.range) (constrained ps) v c))))) g.0),
   in_ranges_agree M T S ps (λ v c. h v (or_right (p.target == v) (has (reads p.range ++ constrained ps) v) (in_right (reads p.range) (constrained ps) v c))) g.1,
 )
 

@@ -1,5 +1,6 @@
 -- Posting a range without parameters: exactly one extension fits where its target lies in it.
-use Rattle.std.proofs.Common.{◌≡◌, ℕ, suc, ◌+◌, ◌≤◌, ◌<◌, Bool, true, false, cond, not, ◌||◌, ◌==◌, ℤ, pos, List, [], ◌∷◌, ◌++◌, length, refl, ap, sym, ◌∙◌, subst, inl, inr, arith, eqb-true, eq-eqb, Option, Some, None}
+use Rattle.std.proofs.Common.{◌≡◌, ℕ, suc, ◌+◌, ◌≤◌, ◌<◌, Bool, true, false, cond, not, ◌||◌, ◌==◌, ℤ, pos, List, [], ◌∷◌, ◌++◌, length, refl, ap, sym, ◌∙◌}
+use Rattle.std.proofs.Common.{subst, inl, inr, arith, eqb-true, eq-eqb, Option, Some, None}
 use Rattle.std.proofs.lemmas.Int.{ints}
 use Rattle.std.proofs.lemmas.Bool.{cases_Bool, true≢false}
 use Rattle.fd_model.specs.declared.kinds.QueryFault.{QueryFault}
@@ -12,12 +13,12 @@ use Rattle.fd_language.specs.Range.{params}
 use Rattle.fd_language.specs.RangeRenaming.{rename_range}
 use Rattle.fd_language.specs.Occurrences.{Occurrence, one_occurrence, range_occurrences}
 use Rattle.fd_model.specs.Posting.{is_integer, integers_at, integer_of, slot, slot_equations, posts, unless_offence}
-use Rattle.fd_model.specs.Sound.{OccurrencesBelow, RangeBelow}
+use Rattle.fd_model.specs.RunnablePrograms.{OccurrencesBelow, RangeBelow}
 use Rattle.fd_language.proofs.Lemmas.{set_same, each_both, filled_as_is, reads_occur}
-use Rattle.fd_model.specs.Satisfies.{Assignment, singles, worth}
+use Rattle.fd_model.specs.Satisfaction.{Assignment, singles, worth}
 use Rattle.fd_model.specs.FlatConstraints.{SeesNumbers}
 use Rattle.fd_model.specs.PostingLaws.{Solves, IsPosted, PostedRange}
-use Rattle.fd_model.proofs.Placing.{changed, changed_here, changed_other, changed_small}
+use Rattle.fd_model.proofs.FreshVariables.{changed, changed_here, changed_other, changed_small}
 use Rattle.fd_language.specs.Lists.{Each}
 
 module _ (M N n : ℕ) (look : ℕ → Term) (a : Assignment) (sees : SeesNumbers M look) (agree : (x : ℕ) → worth a (look x) ≡ pos (a x)) (small : (v : ℕ) → a v ≤ N) where
@@ -35,11 +36,16 @@ module _ (M N n : ℕ) (look : ℕ → Term) (a : Assignment) (sees : SeesNumber
   slotted_at [] ys l h = h
   slotted_at (p ∷ ps) ys l h =
       by_test (p.parameter || (not (is_integer (look p.variable)) || has ys p.variable))
-      (slotted_at ps ys l.1 h) (λ e. slotted_at ps (ys ++ p.variable ∷ []) l.1 (each_both Slotted ys (p.variable ∷ []) h ((as_integer p.variable (whole p.parameter (is_integer (look p.variable)) (has ys p.variable) e), l.0), tt))) where
+      (slotted_at ps ys l.1 h) (λ e. slotted_at ps (ys ++ p.variable ∷ []) l.1
+      (each_both Slotted ys (p.variable ∷ []) h (
+        (as_integer p.variable (whole p.parameter (is_integer (look p.variable)) (has ys p.variable) e), l.0),
+        tt,
+      ))) where
         whole : (p q r : Bool) → (p || (not q || r)) ≡ false → q ≡ true
         whole p q r h = grind arith
 
-        by_test : (c : Bool) → Each Slotted (integers_at look ps ys) → (c ≡ false → Each Slotted (integers_at look ps (ys ++ p.variable ∷ []))) → Each Slotted (cond c (integers_at look ps ys) (integers_at look ps (ys ++ p.variable ∷ [])))
+        by_test : (c : Bool) → Each Slotted (integers_at look ps ys) → (c ≡ false → Each Slotted (integers_at look ps (ys ++ p.variable ∷ [])))
+            → Each Slotted (cond c (integers_at look ps ys) (integers_at look ps (ys ++ p.variable ∷ [])))
         by_test true f g = f
         by_test false f g = g refl
 
@@ -75,7 +81,8 @@ module _ (M N n : ℕ) (look : ℕ → Term) (a : Assignment) (sees : SeesNumber
       let c = slotted (changed b k (a x)) (suc k) xs in
       (ap pos (slotted_below xs (changed b k (a x)) (suc k) k (omega arith) ∙ changed_here b k (a x)) ∙ sym (ap (worth c) q.0.0), slotted_solves xs (changed b k (a x)) (suc k) q.1)
 
-  solves_agree : (ys : List ℕ) (k : ℕ) (b c : Assignment) → Each Slotted ys → ((v : ℕ) → v < k → b v ≡ c v) → Solves b (slot_equations look k ys) → Solves c (slot_equations look k ys) → (v : ℕ) → v < k + length ys → b v ≡ c v
+  solves_agree : (ys : List ℕ) (k : ℕ) (b c : Assignment) → Each Slotted ys → ((v : ℕ) → v < k → b v ≡ c v) → Solves b (slot_equations look k ys)
+      → Solves c (slot_equations look k ys) → (v : ℕ) → v < k + length ys → b v ≡ c v
   solves_agree [] k b c q s h g v l = s v (omega arith)
   solves_agree (x ∷ xs) k b c q s h g v l =
       solves_agree xs (suc k) b c q.1
@@ -131,7 +138,11 @@ module _ (M N n : ℕ) (look : ℕ → Term) (a : Assignment) (sees : SeesNumber
   -- T is an integer
   integer_posted : (z : ℤ) (r : Range) → RangeBelow n r → params r ≡ [] →
       let ys = integers_at look (range_occurrences r) [] in
-      IsPosted M N (Int z) r n (suc n + length ys) (record { target = slot (suc n) ys n; range = rename_range (slot (suc n) ys) (fill_range (λ y. integer_of (look y)) r) }) (record { left = Var n; right = Int z } ∷ slot_equations look (suc n) ys) a
+      IsPosted M N (Int z) r n (suc n + length ys) (record {
+        target = slot (suc n) ys n;
+        range = rename_range (slot (suc n) ys) (fill_range (λ y. integer_of (look y)) r);
+      })
+      (record { left = Var n; right = Int z } ∷ slot_equations look (suc n) ys) a
   integer_posted z r below none =
       let ys = integers_at look (range_occurrences r) [] in
       let q : ℕ → ℤ = λ y. integer_of (look y) in
@@ -160,7 +171,12 @@ module _ (M N n : ℕ) (look : ℕ → Term) (a : Assignment) (sees : SeesNumber
             };
         satisfied = λ b x f.
             let sets = posted_set b ys (suc n) r q below none s f.solves.1 x.same in
-            record { number = b n; within = x.within n; is = sym f.solves.0; inside = subst (λ k. has (set_of M (singles a) r) k ≡ true) (ap b target) (subst (λ xs. has xs (b (slot (suc n) ys n)) ≡ true) sets f.inside) };
+            record {
+              number = b n;
+              within = x.within n;
+              is = sym f.solves.0;
+              inside = subst (λ k. has (set_of M (singles a) r) k ≡ true) (ap b target) (subst (λ xs. has xs (b (slot (suc n) ys n)) ≡ true) sets f.inside);
+            };
       } where
         less : (w n : ℕ) → (w == n) ≡ false → w < suc n → w < n
         less w n k l = grind (arith, eq-eqb)
@@ -169,7 +185,8 @@ posts_parts : (o : Option QueryFault) (q p : Indexical) (k m : ℕ) (ds es : Lis
 posts_parts (Some f) q p k m ds es h = absurd (cc)
 posts_parts None q p k m ds es h = (cc, cc, cc)
 
-replaced : (M N : ℕ) (t : Term) (r : Range) (n : ℕ) (q p : Indexical) (k m : ℕ) (ds es : List Equation) (a : Assignment) → (q ≡ p) × (k ≡ m) × (ds ≡ es) → IsPosted M N t r n k q ds a → IsPosted M N t r n m p es a
+replaced : (M N : ℕ) (t : Term) (r : Range) (n : ℕ) (q p : Indexical) (k m : ℕ) (ds es : List Equation) (a : Assignment) → (q ≡ p) × (k ≡ m) × (ds ≡ es)
+    → IsPosted M N t r n k q ds a → IsPosted M N t r n m p es a
 replaced M N t r n q p k m ds es a e h = subst (λ w. IsPosted M N t r n m w es a) e.0 (subst (λ w. IsPosted M N t r n w q es a) e.1 (subst (λ w. IsPosted M N t r n k q w a) e.2 h))
 
 pub posted_range : PostedRange

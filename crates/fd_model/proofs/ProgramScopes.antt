@@ -1,5 +1,6 @@
 -- The program of accepted sentences names no variable beyond those of each sentence.
-use Rattle.std.proofs.Common.{◌≡◌, ℕ, suc, ◌+◌, ◌<◌, ◌≤◌, Bool, true, false, cond, ◌==◌, List, [], ◌∷◌, ◌++◌, map, length, Option, Some, None, pos, refl, sym, subst, inl, inr, arith, eq-eqb}
+use Rattle.std.proofs.Common.{◌≡◌, ℕ, suc, ◌+◌, ◌<◌, ◌≤◌, Bool, true, false, cond, ◌==◌, List, [], ◌∷◌, ◌++◌, map, length, Option, Some, None, pos, refl, sym}
+use Rattle.std.proofs.Common.{subst, inl, inr, arith, eq-eqb}
 use Rattle.std.proofs.lemmas.Bool.{or_left}
 use Rattle.std.specs.Str.{bytes_eq}
 use Rattle.std.specs.Prelude.{codes}
@@ -8,16 +9,19 @@ use Rattle.fd_language.specs.PlacedTerm.{PlacedTerm, var, int, atom, comp, no_pa
 use Rattle.fd_language.specs.Family.{has}
 use Rattle.fd_language.specs.Range.{Range, One, Outside, Over, Expr, Number, Infinity, Val, DivUp}
 use Rattle.fd_language.specs.Occurrences.{expr_occurrences, range_occurrences}
-use Rattle.fd_language.specs.Spelling.{Parsed, read, offends, expr_operator, expr_feature, read_feature, read_operator, read_expr, RangeForm, of_terms, of_ranges, pointwise, no_form, range_form, empty_range, read_form, read_dom, read_one, read_range}
+use Rattle.fd_language.specs.Spelling.{Parsed, read, offends, expr_operator, expr_feature, read_feature, read_operator, read_expr, RangeForm, of_terms}
+use Rattle.fd_language.specs.Spelling.{of_ranges, pointwise, no_form, range_form, empty_range, read_form, read_dom, read_one, read_range}
 use Rattle.fd_language.specs.Variables.{variables_of, variables_of_all}
 use Rattle.fd_language.specs.Reading.{Sentence, sentences}
 use Rattle.fd_language.specs.Reading as reading
 use Rattle.fd_model.specs.Forms.{GoalForm, truth, failure, unification, posting, cutting, constraint, labelling, optimum, builtin}
-use Rattle.fd_model.specs.Refusals.{Form, query, clause, directive, fact, form_of, functor_of, second_part, Refusal, first_refusal}
-use Rattle.fd_model.specs.Queries.{either_way, best_of, first_part, goal_by_form, goal_named, form_of_functor, goal_of, followed, body_goals, is_shown, shown_from, queries_by, queries_of, clauses_by, clauses_of, program_of}
+use Rattle.fd_model.specs.Refusals.{SentenceKind, query, clause, directive, fact, form_of, functor_of, second_part, Refusal, first_refusal}
+use Rattle.fd_model.specs.Queries.{either_way, best_of, first_part, goal_by_form, goal_named, form_of_functor, goal_of, followed, body_goals, is_shown}
+use Rattle.fd_model.specs.Queries.{shown_from, queries_by, queries_of, clauses_by, clauses_of, program_of}
 use Rattle.fd_model.specs.Goal.{Goals, no_goals, goal, listed, If, Not, Clause, Query, Program}
 use Rattle.fd_language.specs.Variables.{TermBelow, TermsBelow}
-use Rattle.fd_model.specs.Sound.{OccurrencesBelow, RangeBelow, GoalBelow, GoalsBelow, EachBelow, NumbersBelow, ClausesScoped, QueriesScoped, IsScoped}
+use Rattle.fd_model.specs.RunnablePrograms.{OccurrencesBelow, RangeBelow, GoalBelow, GoalsBelow, EachBelow, NumbersBelow, ClausesScoped, QueriesScoped}
+use Rattle.fd_model.specs.RunnablePrograms.{IsScoped}
 use Rattle.fd_model.specs.Verdict.{accepted, refused, sentences_verdict, reading_verdict}
 use Rattle.fd_model.specs.ProgramLaws.{ScopedProgram}
 use Rattle.fd_language.specs.Lists.{Each}
@@ -89,7 +93,8 @@ module _ (n : ℕ) where
   expr_scoped N features (var x p) h = (h, tt)
   expr_scoped N features (atom a p) h = either ScopedRead (bytes_eq a (codes "infinity")) (read (Number (pos N)) p) (offends Infinity p) tt tt
   expr_scoped N features (comp f p (part (var y q) no_parts)) h = read_feature_scoped (expr_feature f) features p y (feature_is f) h.0
-  expr_scoped N features (comp f p (part a (part b no_parts))) h = read_operator_scoped (expr_operator f) p (read_expr N features a) (read_expr N features b) (operator_is f) (expr_scoped N features a h.0) (expr_scoped N features b h.1.0)
+  expr_scoped N features (comp f p (part a (part b no_parts))) h = read_operator_scoped (expr_operator f) p (read_expr N features a) (read_expr N features b)
+      (operator_is f) (expr_scoped N features a h.0) (expr_scoped N features b h.1.0)
   expr_scoped N features _ h = tt
 
   abbrev IsForm : RangeForm → Type 0
@@ -113,7 +118,8 @@ module _ (n : ℕ) where
       (either IsForm (bytes_eq f (codes "-")) _ _ point_scoped
       (either IsForm (bytes_eq f (codes "*")) _ _ point_scoped (either IsForm (bytes_eq f (codes "/")) (pointwise Over) no_form point_scoped tt))))))
 
-  read_form_scoped : (o : RangeForm) (p : ℕ) (r q : Parsed Range) (a b c : Parsed Expr) → IsForm o → RangeRead r → RangeRead q → ScopedRead a → ScopedRead b → ScopedRead c → RangeRead (read_form o p r q a b c)
+  read_form_scoped : (o : RangeForm) (p : ℕ) (r q : Parsed Range) (a b c : Parsed Expr) → IsForm o → RangeRead r → RangeRead q → ScopedRead a → ScopedRead b
+      → ScopedRead c → RangeRead (read_form o p r q a b c)
   read_form_scoped (of_terms make) p r q a b c h i j k l m = h a.tree b.tree k l
   read_form_scoped (of_ranges make) p r q a b c h i j k l m = h r.tree q.tree i j
   read_form_scoped (pointwise make) p r q a b c h i j k l m = h r.tree c.tree i m
@@ -214,7 +220,7 @@ module _ (n : ℕ) where
 
   -- ---- sentences
 
-  abbrev IsFormBelow : Form → Type 0
+  abbrev IsFormBelow : SentenceKind → Type 0
   IsFormBelow (query b) = IsBelow b
   IsFormBelow (clause h b) = IsBelow h × IsBelow b
   IsFormBelow directive = Unit {0}
@@ -232,7 +238,7 @@ module _ (n : ℕ) where
       let later = shown_below (suc k) names (omega arith) in
       either (NumbersBelow n) (is_shown name) (k ∷ shown_from (suc k) names) (shown_from (suc k) names) (omega arith, later) later
 
-query_scoped : (N : ℕ) (names : List Name) (form : Form) (later : List Query) → IsFormBelow (length names) form → QueriesScoped later → QueriesScoped (queries_by N names form later)
+query_scoped : (N : ℕ) (names : List Name) (form : SentenceKind) (later : List Query) → IsFormBelow (length names) form → QueriesScoped later → QueriesScoped (queries_by N names form later)
 query_scoped N names (query b) later h g = ((shown_below (length names) 0 names (omega arith), listed_scoped (length names) (body_goals N b) (body_scoped (length names) N b h)), g)
 query_scoped N names _ later h g = g
 
@@ -241,7 +247,7 @@ pub queries_scoped : (N : ℕ) (ss : List Sentence) → Each (λ s. TermBelow (l
 queries_scoped N [] h = tt
 queries_scoped N (s ∷ ss) h = query_scoped N s.names (form_of s.term) (queries_of N ss) (form_below (length s.names) s.term h.0) (queries_scoped N ss h.1)
 
-clause_scoped : (N : ℕ) (names : List Name) (form : Form) (later : List Clause) → IsFormBelow (length names) form → ClausesScoped later → ClausesScoped (clauses_by N names form later)
+clause_scoped : (N : ℕ) (names : List Name) (form : SentenceKind) (later : List Clause) → IsFormBelow (length names) form → ClausesScoped later → ClausesScoped (clauses_by N names form later)
 clause_scoped N names (query b) later h g = g
 clause_scoped N names (clause t b) later h g = ((h.0, listed_scoped (length names) (body_goals N b) (body_scoped (length names) N b h.1)), g)
 clause_scoped N names directive later h g = g
@@ -262,7 +268,11 @@ accepted_scoped N ss (Some r) prog e h = absurd (cc)
 
 read_scoped : (M N : ℕ) (text : List ℕ) (prog : Program) (r : reading.Reading) → reading.IsReading text r → accepted prog ≡ reading_verdict M N r → IsScoped prog
 read_scoped M N text prog (sentences ss) h e =
-    accepted_scoped N ss (first_refusal M N (map (λ s. s.term) ss) (map (λ s. s.term) ss)) prog e (record { clauses = clauses_scoped N ss (terms_below_names ss (each_below text ss h)); queries = queries_scoped N ss (terms_below_names ss (each_below text ss h)) })
+    accepted_scoped N ss (first_refusal M N (map (λ s. s.term) ss) (map (λ s. s.term) ss)) prog e
+    (record {
+      clauses = clauses_scoped N ss (terms_below_names ss (each_below text ss h));
+      queries = queries_scoped N ss (terms_below_names ss (each_below text ss h));
+    })
 read_scoped _ _ text prog _ h e = absurd (cc)
 
 not_accepted : (p : ℕ) (reason : List ℕ) (prog : Program) → accepted prog ≡ refused p reason → ⊥

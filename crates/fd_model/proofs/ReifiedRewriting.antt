@@ -1,5 +1,6 @@
 -- A comparison that is told: exactly one extension fits where it is told rightly.
-use Rattle.std.proofs.Common.{◌≡◌, ℕ, suc, ◌+◌, ◌≤◌, ◌<◌, Bool, true, false, not, ◌&&◌, ◌==◌, ℤ, pos, negsuc, ◌*ℤ◌, neg_ℤ, ◌≤ℤ◌, int_le, List, [], ◌∷◌, ◌++◌, refl, ap, sym, ◌∙◌, subst, inl, inr, arith, eqb-true, eq-eqb, Ok, ◌↔◌}
+use Rattle.std.proofs.Common.{◌≡◌, ℕ, suc, ◌+◌, ◌≤◌, ◌<◌, Bool, true, false, not, ◌&&◌, ◌==◌, ℤ, pos, negsuc, ◌*ℤ◌, neg_ℤ, ◌≤ℤ◌, int_le, List, [], ◌∷◌, ◌++◌}
+use Rattle.std.proofs.Common.{refl, ap, sym, ◌∙◌, subst, inl, inr, arith, eqb-true, eq-eqb, Ok, ◌↔◌}
 use Rattle.std.specs.Ordering.{int_eq}
 use Rattle.std.specs.Cmp.{both_ways}
 use Rattle.std.proofs.lemmas.Int.{ints}
@@ -15,14 +16,15 @@ use Rattle.fd_model.specs.Members.{Member, Open, Known, place_of, after}
 use Rattle.fd_model.specs.BooleanRows.{bit, not_ranges}
 use Rattle.fd_model.specs.ReifiedRows.{reach, reified_sums, equal_ranges, reified_ranges, reified_end}
 use Rattle.fd_model.specs.Splitting.{Split, joined, sum_rows, reified}
-use Rattle.fd_model.specs.Satisfies.{Assignment, worth, Holds, Tells, TellsRelation, TellsTerm, AreNumbers}
+use Rattle.fd_model.specs.Satisfaction.{Assignment, worth, Holds, Tells, TellsRelation, TellsTerm, AreNumbers}
 use Rattle.fd_model.specs.ConstraintLaws.{total, IsRewritten}
 use Rattle.fd_model.proofs.Integers.{turned_once}
 use Rattle.fd_model.proofs.Sums.{total-scaled}
-use Rattle.fd_model.proofs.Collecting.{collect_is}
+use Rattle.fd_model.proofs.CollectedSums.{collect_is}
 use Rattle.fd_model.proofs.NormalForms.{normal_is}
 use Rattle.fd_model.proofs.Singles.{up_to, Inside, inside_append, inside_left, inside_right}
-use Rattle.fd_model.proofs.Placing.{MemberBelow, MembersBelow, member_read, member_worth, known_numbers, placed_worths, changed, changed_here, changed_other, changed_small, filled, filled_below, filled_small, filled_equated, equated_agree, fresh_grows}
+use Rattle.fd_model.proofs.FreshVariables.{MemberBelow, MembersBelow, member_read, member_worth, known_numbers, placed_worths, changed, changed_here}
+use Rattle.fd_model.proofs.FreshVariables.{changed_other, changed_small, filled, filled_below, filled_small, filled_equated, equated_agree, fresh_grows}
 use Rattle.fd_model.proofs.Counters.{equated_same}
 use Rattle.fd_model.proofs.RowNames.{EachVariable, AllVars, each_below, collect_vars, normal_vars}
 use Rattle.fd_model.proofs.Splits.{rows_joined, told_ok, AreBothTold, both_told_ok, IsComparison, reified_ok}
@@ -80,7 +82,8 @@ AllTold IsOther b x m t c = (b m ≡ truth (int_eq t c)) × (b (suc m) ≡ truth
 
 module _ (M : ℕ) (b : Assignment) (small : (v : ℕ) → b v ≤ M) (positive : 0 < M) (l : Linear) where
   -- both parts of an equality
-  parts_inside : (f g : ℕ) (ls : List Linear) → AreBothTold f g (pos (reach M l)) l ls → b f ≡ truth (int_le (total b l.products) l.constant) → b g ≡ truth (int_le l.constant (total b l.products)) → Inside M b (sum_rows ls)
+  parts_inside : (f g : ℕ) (ls : List Linear) → AreBothTold f g (pos (reach M l)) l ls → b f ≡ truth (int_le (total b l.products) l.constant)
+      → b g ≡ truth (int_le l.constant (total b l.products)) → Inside M b (sum_rows ls)
   parts_inside f g ls i h k =
       let turn = ap truth (ap (λ s. int_le s (neg_ℤ l.constant)) (total-scaled b (negsuc 0) l.products) ∙ turned_le (total b l.products) l.constant) in
       subst (λ ms. Inside M b (sum_rows ms)) i.are (both_inside i.first i.second
@@ -98,16 +101,20 @@ module _ (M : ℕ) (b : Assignment) (small : (v : ℕ) → b v ≤ M) (positive 
         inside_told M b small positive g (reach M l) (turned l) (reach_turned M l) i.second i.from_second two (inside_right M b (sum_rows i.first) (sum_rows i.second) e) ∙ turn,
       )
 
-  equal_inside : (x f g : ℕ) → b f ≡ truth (int_le (total b l.products) l.constant) → b g ≡ truth (int_le l.constant (total b l.products)) → b x ≡ truth (int_eq (total b l.products) l.constant) → Inside M b (equal_ranges x f g)
+  equal_inside : (x f g : ℕ) → b f ≡ truth (int_le (total b l.products) l.constant) → b g ≡ truth (int_le l.constant (total b l.products))
+      → b x ≡ truth (int_eq (total b l.products) l.constant) → Inside M b (equal_ranges x f g)
   equal_inside x f g h k e =
       let p = int_le (total b l.products) l.constant in
       let q = int_le l.constant (total b l.products) in
       let one : b f ≤ 1 = subst (λ v. v ≤ 1) (sym h) (truth_bit p) in
       let two : b g ≤ 1 = subst (λ v. v ≤ 1) (sym k) (truth_bit q) in
-      let all : IsAnd (b f) (b g) (b x) = subst (λ v. IsAnd v (b g) (b x)) (sym h) (subst (λ v. IsAnd (truth p) v (b x)) (sym k) (subst (λ v. IsAnd (truth p) (truth q) v) (sym (e ∙ ap truth (sym (both_le (total b l.products) l.constant)))) (truth_and p q))) in
+      let all : IsAnd (b f) (b g) (b x) = subst (λ v. IsAnd v (b g) (b x)) (sym h)
+      (subst (λ v. IsAnd (truth p) v (b x)) (sym k) (subst (λ v. IsAnd (truth p) (truth q) v)
+      (sym (e ∙ ap truth (sym (both_le (total b l.products) l.constant)))) (truth_and p q))) in
       (bit_inside M b small f one, (bit_inside M b small g two, and_inside M b small f g x all))
 
-  inside_equal : (x f g : ℕ) → b f ≡ truth (int_le (total b l.products) l.constant) → b g ≡ truth (int_le l.constant (total b l.products)) → Inside M b (equal_ranges x f g) → b x ≡ truth (int_eq (total b l.products) l.constant)
+  inside_equal : (x f g : ℕ) → b f ≡ truth (int_le (total b l.products) l.constant) → b g ≡ truth (int_le l.constant (total b l.products))
+      → Inside M b (equal_ranges x f g) → b x ≡ truth (int_eq (total b l.products) l.constant)
   inside_equal x f g h k i =
       let p = int_le (total b l.products) l.constant in
       let q = int_le l.constant (total b l.products) in
@@ -116,7 +123,8 @@ module _ (M : ℕ) (b : Assignment) (small : (v : ℕ) → b v ≤ M) (positive 
 
   pub all_inside : (c : Comparison) (x m : ℕ) (ls : List Linear) → reified_sums M c x m l ≡ Ok ls → AllTold c b x m (total b l.products) l.constant → Inside M b (reified_ranges c x m ++ sum_rows ls)
   all_inside IsAtMost x m ls e h =
-      inside_append M b (bit x ∷ []) (sum_rows ls) (bit_inside M b small x (subst (λ v. v ≤ 1) (sym h) (truth_bit _)), tt) (told_inside M b small positive x (reach M l) l (reach_far M l) ls (told_ok x (pos (reach M l)) l ls e) h)
+      inside_append M b (bit x ∷ []) (sum_rows ls) (bit_inside M b small x (subst (λ v. v ≤ 1) (sym h) (truth_bit _)), tt)
+      (told_inside M b small positive x (reach M l) l (reach_far M l) ls (told_ok x (pos (reach M l)) l ls e) h)
   all_inside IsEqual x m ls e h =
       inside_append M b (equal_ranges x m (suc m)) (sum_rows ls) (equal_inside x m (suc m) h.0 h.1 h.2) (parts_inside m (suc m) ls (both_told_ok m (suc m) (pos (reach M l)) l ls e) h.0 h.1)
   all_inside IsOther x m ls e h =
@@ -126,10 +134,12 @@ module _ (M : ℕ) (b : Assignment) (small : (v : ℕ) → b v ≤ M) (positive 
       (parts_inside (suc m) (suc (suc m)) ls (both_told_ok (suc m) (suc (suc m)) (pos (reach M l)) l ls e) h.1 h.2)
 
   pub inside_all : (c : Comparison) (x m : ℕ) (ls : List Linear) → reified_sums M c x m l ≡ Ok ls → Inside M b (reified_ranges c x m ++ sum_rows ls) → AllTold c b x m (total b l.products) l.constant
-  inside_all IsAtMost x m ls e h = inside_told M b small positive x (reach M l) l (reach_far M l) ls (told_ok x (pos (reach M l)) l ls e) (inside_bit M b small x h.0) (inside_right M b (bit x ∷ []) (sum_rows ls) h)
+  inside_all IsAtMost x m ls e h = inside_told M b small positive x (reach M l) l (reach_far M l) ls (told_ok x (pos (reach M l)) l ls e)
+      (inside_bit M b small x h.0) (inside_right M b (bit x ∷ []) (sum_rows ls) h)
   inside_all IsEqual x m ls e h =
       let i = inside_left M b (equal_ranges x m (suc m)) (sum_rows ls) h in
-      let p = inside_parts m (suc m) ls (both_told_ok m (suc m) (pos (reach M l)) l ls e) (inside_bit M b small m i.0) (inside_bit M b small (suc m) i.1.0) (inside_right M b (equal_ranges x m (suc m)) (sum_rows ls) h) in
+      let p = inside_parts m (suc m) ls (both_told_ok m (suc m) (pos (reach M l)) l ls e) (inside_bit M b small m i.0) (inside_bit M b small (suc m) i.1.0)
+      (inside_right M b (equal_ranges x m (suc m)) (sum_rows ls) h) in
       (p.0, p.1, inside_equal x m (suc m) p.0 p.1 i)
   inside_all IsOther x m ls e h =
       let f = suc m in
@@ -155,14 +165,16 @@ telling IsOther a m t k = changed (changed (changed a m (truth (int_eq t k))) (s
 
 telling_below : (c : Comparison) (a : Assignment) (m : ℕ) (t k : ℤ) (v : ℕ) → v < m → telling c a m t k v ≡ a v
 telling_below IsAtMost a m t k v l = refl
-telling_below IsEqual a m t k v l = changed_other (changed a m (truth (int_le t k))) (suc m) (truth (int_le k t)) v (λ e. absurd (omega arith)) ∙ changed_other a m (truth (int_le t k)) v (λ e. absurd (omega arith))
+telling_below IsEqual a m t k v l = changed_other (changed a m (truth (int_le t k))) (suc m) (truth (int_le k t)) v (λ e. absurd (omega arith))
+    ∙ changed_other a m (truth (int_le t k)) v (λ e. absurd (omega arith))
 telling_below IsOther a m t k v l =
     changed_other (changed (changed a m (truth (int_eq t k))) (suc m) (truth (int_le t k))) (suc (suc m)) (truth (int_le k t)) v (λ e. absurd (omega arith))
     ∙ (changed_other (changed a m (truth (int_eq t k))) (suc m) (truth (int_le t k)) v (λ e. absurd (omega arith)) ∙ changed_other a m (truth (int_eq t k)) v (λ e. absurd (omega arith)))
 
 telling_small : (N : ℕ) → 0 < N → (c : Comparison) (a : Assignment) (m : ℕ) (t k : ℤ) → ((v : ℕ) → a v ≤ N) → (v : ℕ) → telling c a m t k v ≤ N
 telling_small N p IsAtMost a m t k s v = s v
-telling_small N p IsEqual a m t k s v = changed_small N (changed a m (truth (int_le t k))) (suc m) (truth (int_le k t)) (bit_small N p _) (changed_small N a m (truth (int_le t k)) (bit_small N p _) s) v
+telling_small N p IsEqual a m t k s v = changed_small N (changed a m (truth (int_le t k))) (suc m) (truth (int_le k t)) (bit_small N p _)
+    (changed_small N a m (truth (int_le t k)) (bit_small N p _) s) v
 telling_small N p IsOther a m t k s v =
     changed_small N (changed (changed a m (truth (int_eq t k))) (suc m) (truth (int_le t k))) (suc (suc m)) (truth (int_le k t)) (bit_small N p _)
     (changed_small N (changed a m (truth (int_eq t k))) (suc m) (truth (int_le t k)) (bit_small N p _) (changed_small N a m (truth (int_eq t k)) (bit_small N p _) s)) v
@@ -177,7 +189,8 @@ telling_told IsEqual a x m t k l h = (
 telling_told IsOther a x m t k l h =
     let one = changed a m (truth (int_eq t k)) in
     let two = changed one (suc m) (truth (int_le t k)) in (
-      changed_other two (suc (suc m)) (truth (int_le k t)) m (λ e. absurd (omega arith)) ∙ (changed_other one (suc m) (truth (int_le t k)) m (λ e. absurd (omega arith)) ∙ changed_here a m (truth (int_eq t k))),
+      changed_other two (suc (suc m)) (truth (int_le k t)) m (λ e. absurd (omega arith))
+          ∙ (changed_other one (suc m) (truth (int_le t k)) m (λ e. absurd (omega arith)) ∙ changed_here a m (truth (int_eq t k))),
       changed_other two (suc (suc m)) (truth (int_le k t)) (suc m) (λ e. absurd (omega arith)) ∙ changed_here one (suc m) (truth (int_le t k)),
       changed_here two (suc (suc m)) (truth (int_le k t)),
       telling_below IsOther a m t k x l ∙ h,
@@ -222,7 +235,8 @@ pub form_vars : (P : ℕ → Type 0) (k : Term) (c : Comparison) (l : Linear) �
 form_vars P k c l i h =
     let e : EachVariable P (Comp i.name (term i.left (term i.right no_terms))) = subst (EachVariable P) (sym i.term_is) h in
     subst (λ (m : Linear). AllVars P m.products) i.normal_is
-    (normal_vars P i.relation i.linear (collect_vars P i.left i.right i.linear (λ v g. e v (in_left (variables_of i.left) (variables_of i.right ++ []) v g)) (λ v g. e v (in_right (variables_of i.left) (variables_of i.right ++ []) v (in_left (variables_of i.right) [] v g))) i.collected))
+    (normal_vars P i.relation i.linear (collect_vars P i.left i.right i.linear (λ v g. e v (in_left (variables_of i.left) (variables_of i.right ++ []) v g))
+    (λ v g. e v (in_right (variables_of i.left) (variables_of i.right ++ []) v (in_left (variables_of i.right) [] v g))) i.collected))
 
 abbrev head_of : List ℤ → ℤ
 head_of [] = pos 0
@@ -266,15 +280,18 @@ module _ (M N : ℕ) (up : N ≤ M) (positive : 0 < N) (n : ℕ) (a : Assignment
               extends = record { within = d_small; same = same };
               fits = record {
                 equated = equated_same ms n e d (λ v j. sym (telling_below c e end t l.constant v j)) equated;
-                inside = all_inside M d (up_to M N up d d_small) (omega arith) l c x end g.sums g.sums_are (subst (λ z. AllTold c d x end z l.constant) (sym (total_same n a d same l.products vars)) all);
+                inside = all_inside M d (up_to M N up d d_small) (omega arith) l c x end g.sums g.sums_are
+                    (subst (λ z. AllTold c d x end z l.constant) (sym (total_same n a d same l.products vars)) all);
               };
               only = λ o r f v j.
                   told_agree c o d x end t l.constant
                   (λ w u. equated_agree ms n o e (λ y z. r.same y z ∙ sym (filled_below ms a n y z)) f.equated equated w u ∙ sym (telling_below c e end t l.constant w u))
-                  (subst (λ z. AllTold c o x end z l.constant) (total_same n a o r.same l.products vars) (inside_all M o (up_to M N up o r.within) (omega arith) l c x end g.sums g.sums_are f.inside)) all v j;
+                  (subst (λ z. AllTold c o x end z l.constant) (total_same n a o r.same l.products vars)
+                  (inside_all M o (up_to M N up o r.within) (omega arith) l c x end g.sums g.sums_are f.inside)) all v j;
             };
         satisfied = λ d e f.
-            let all = subst (λ z. AllTold c d x end z l.constant) (total_same n a d e.same l.products vars) (inside_all M d (up_to M N up d e.within) (omega arith) l c x end g.sums g.sums_are f.inside) in
+            let all = subst (λ z. AllTold c d x end z l.constant) (total_same n a d e.same l.products vars)
+            (inside_all M d (up_to M N up d e.within) (omega arith) l c x end g.sums g.sums_are f.inside) in
             let here : pos (d x) ≡ member_worth a m = ap head_of (placed_worths n a d e.same ms n low f.equated) in
             tells.1 (i.worth ∙ (sym here ∙ ap pos (told_truth c d x end t l.constant all)));
       })

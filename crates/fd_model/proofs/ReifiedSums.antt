@@ -1,11 +1,12 @@
 -- What a variable tells by sums that are at most their constants.
-use Rattle.std.proofs.Common.{◌≡◌, ℕ, zero, suc, ◌+◌, ◌*◌, ◌≤◌, ◌<◌, Bool, true, false, cond, ◌==◌, ℤ, pos, negsuc, ◌+ℤ◌, ◌-ℤ◌, ◌*ℤ◌, neg_ℤ, ◌≤ℤ◌, ◌<ℤ◌, int_le, nat_abs, List, [], ◌∷◌, refl, ap, sym, ◌∙◌, subst, inl, inr, ◌⊎◌, arith, mul-le-mul, mul-le-mul_left}
+use Rattle.std.proofs.Common.{◌≡◌, ℕ, zero, suc, ◌+◌, ◌*◌, ◌≤◌, ◌<◌, Bool, true, false, cond, ◌==◌, ℤ, pos, negsuc, ◌+ℤ◌, ◌-ℤ◌, ◌*ℤ◌, neg_ℤ, ◌≤ℤ◌, ◌<ℤ◌, int_le}
+use Rattle.std.proofs.Common.{nat_abs, List, [], ◌∷◌, refl, ap, sym, ◌∙◌, subst, inl, inr, ◌⊎◌, arith, mul-le-mul, mul-le-mul_left}
 use Rattle.std.specs.Ordering.{int_eq}
 use Rattle.std.proofs.lemmas.Int.{ints}
 use Rattle.fd_language.proofs.Lemmas.{int_le_true, abs_add, abs_mul}
 use Rattle.fd_model.specs.Linear.{Linear, IsAtMost, with_product, scaled, nonzero, turned}
 use Rattle.fd_model.specs.LinearRows.{rows_behind}
-use Rattle.fd_model.specs.Satisfies.{Assignment}
+use Rattle.fd_model.specs.Satisfaction.{Assignment}
 use Rattle.fd_model.specs.ReifiedRows.{magnitudes, reach}
 use Rattle.fd_model.specs.Splitting.{sum_rows}
 use Rattle.fd_model.specs.ConstraintLaws.{total}
@@ -74,13 +75,16 @@ module _ (M : ℕ) (b : Assignment) (small : (v : ℕ) → b v ≤ M) where
 
   -- the rows of a sum
   sum_inside : (ts : List (ℕ × ℤ)) (c : ℤ) (l : Linear) → IsAgain ts c l → int_le (total b ts) c ≡ true → Inside M b (rows_behind IsAtMost l.constant [] l.products)
-  sum_inside ts c l i h = subst (λ (m : Linear). Inside M b (rows_behind IsAtMost m.constant [] m.products)) i.is (rows_inside M b small IsAtMost c [] (nonzero ts) (nonzero_left ts) (subst (λ s. int_le s c ≡ true) (sym (total-nonzero b ts)) h))
+  sum_inside ts c l i h = subst (λ (m : Linear). Inside M b (rows_behind IsAtMost m.constant [] m.products)) i.is
+      (rows_inside M b small IsAtMost c [] (nonzero ts) (nonzero_left ts) (subst (λ s. int_le s c ≡ true) (sym (total-nonzero b ts)) h))
 
   inside_sum : (ts : List (ℕ × ℤ)) (c : ℤ) (l : Linear) → IsAgain ts c l → HasNonzero ts → Inside M b (rows_behind IsAtMost l.constant [] l.products) → int_le (total b ts) c ≡ true
-  inside_sum ts c l i some h = subst (λ s. int_le s c ≡ true) (total-nonzero b ts) (back (nonzero ts) (some_left ts some) (nonzero_left ts) (subst (λ (m : Linear). Inside M b (rows_behind IsAtMost m.constant [] m.products)) (sym i.is) h)) where
-    back : (us : List (ℕ × ℤ)) → (t : ℕ × ℤ) × (vs : List (ℕ × ℤ)) × (us ≡ t ∷ vs) → NoneZero us → Inside M b (rows_behind IsAtMost c [] us) → int_le (total b us) c ≡ true
-    back [] e z h = absurd (let f = e.2 in cc)
-    back (u ∷ us) e z h = rows_back M b small IsAtMost c u us z h
+  inside_sum ts c l i some h = subst (λ s. int_le s c ≡ true) (total-nonzero b ts)
+      (back (nonzero ts) (some_left ts some) (nonzero_left ts)
+      (subst (λ (m : Linear). Inside M b (rows_behind IsAtMost m.constant [] m.products)) (sym i.is) h)) where
+        back : (us : List (ℕ × ℤ)) → (t : ℕ × ℤ) × (vs : List (ℕ × ℤ)) × (us ≡ t ∷ vs) → NoneZero us → Inside M b (rows_behind IsAtMost c [] us) → int_le (total b us) c ≡ true
+        back [] e z h = absurd (let f = e.2 in cc)
+        back (u ∷ us) e z h = rows_back M b small IsAtMost c u us z h
 
 from_le : (x y : ℤ) → x ≤ℤ y → int_le x y ≡ true
 from_le x y h = grind (arith, ints)
@@ -156,7 +160,8 @@ module _ (M : ℕ) (b : Assignment) (small : (v : ℕ) → b v ≤ M) (positive 
   pub told_inside : (ls : List Linear) → IsTold f (pos w) l ls → b f ≡ truth (int_le (total b l.products) l.constant) → Inside M b (sum_rows ls)
   told_inside ls i h = subst (λ ms. Inside M b (sum_rows ms)) i.are
       (inside_append M b (rows_behind IsAtMost i.over.constant [] i.over.products) (sum_rows (i.under ∷ []))
-      (sum_inside M b small (with_product l.products f (pos w)) (l.constant +ℤ pos w) i.over i.from_over (ap (λ s. int_le s (l.constant +ℤ pos w)) over_total ∙ over_is (total b l.products) l.constant w (b f) far_total h))
+      (sum_inside M b small (with_product l.products f (pos w)) (l.constant +ℤ pos w) i.over i.from_over
+      (ap (λ s. int_le s (l.constant +ℤ pos w)) over_total ∙ over_is (total b l.products) l.constant w (b f) far_total h))
       (inside_append M b (rows_behind IsAtMost i.under.constant [] i.under.products) []
       (sum_inside M b small (scaled (negsuc 0) (with_product l.products f (pos w))) (neg_ℤ l.constant -ℤ pos 1) i.under i.from_under
       (ap (λ s. int_le s (neg_ℤ l.constant -ℤ pos 1)) under_total ∙ under_is (total b l.products) l.constant w (b f) far_total h)) tt))
@@ -165,10 +170,12 @@ module _ (M : ℕ) (b : Assignment) (small : (v : ℕ) → b v ≤ M) (positive 
   inside_told ls i one h =
       let g : Inside M b (sum_rows (i.over ∷ i.under ∷ [])) = subst (λ ms. Inside M b (sum_rows ms)) (sym i.are) h in
       let later = inside_right M b (rows_behind IsAtMost i.over.constant [] i.over.products) (sum_rows (i.under ∷ [])) g in
-      let o = inside_sum M b small (with_product l.products f (pos w)) (l.constant +ℤ pos w) i.over i.from_over some (inside_left M b (rows_behind IsAtMost i.over.constant [] i.over.products) (sum_rows (i.under ∷ [])) g) in
+      let o = inside_sum M b small (with_product l.products f (pos w)) (l.constant +ℤ pos w) i.over i.from_over some
+      (inside_left M b (rows_behind IsAtMost i.over.constant [] i.over.products) (sum_rows (i.under ∷ [])) g) in
       let u = inside_sum M b small (scaled (negsuc 0) (with_product l.products f (pos w))) (neg_ℤ l.constant -ℤ pos 1) i.under i.from_under (turned_left (with_product l.products f (pos w)) some)
       (inside_left M b (rows_behind IsAtMost i.under.constant [] i.under.products) [] later) in
-      told_is (total b l.products) l.constant w (b f) far_total one (ap (λ s. int_le s (l.constant +ℤ pos w)) (sym over_total) ∙ o) (ap (λ s. int_le s (neg_ℤ l.constant -ℤ pos 1)) (sym under_total) ∙ u)
+      told_is (total b l.products) l.constant w (b f) far_total one (ap (λ s. int_le s (l.constant +ℤ pos w)) (sym over_total) ∙ o)
+      (ap (λ s. int_le s (neg_ℤ l.constant -ℤ pos 1)) (sym under_total) ∙ u)
 
 -- what W is over, for a form and turned
 pub reach_far : (M : ℕ) (l : Linear) → weight M l.products + nat_abs l.constant < reach M l

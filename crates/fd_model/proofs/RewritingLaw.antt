@@ -7,12 +7,12 @@ use Rattle.fd_language.specs.Variables.{TermsBelow}
 use Rattle.fd_model.specs.LinearRows.{Expansion}
 use Rattle.fd_model.specs.ProductRows.{product_form}
 use Rattle.fd_model.specs.Splitting.{Split, joined, split}
-use Rattle.fd_model.specs.Constraining.{basic}
-use Rattle.fd_model.specs.Satisfies.{Assignment}
+use Rattle.fd_model.specs.ConstraintExpansion.{basic}
+use Rattle.fd_model.specs.Satisfaction.{Assignment}
 use Rattle.fd_model.specs.ConstraintLaws.{IsRewritten, Rewriting}
-use Rattle.fd_model.proofs.Comparing.{compared}
-use Rattle.fd_model.proofs.Differing.{differing}
-use Rattle.fd_model.proofs.Choosing.{choosing}
+use Rattle.fd_model.proofs.ComparisonRows.{compared}
+use Rattle.fd_model.proofs.AllDifferentRows.{differing}
+use Rattle.fd_model.proofs.ElementRows.{choosing}
 use Rattle.fd_model.proofs.Counters.{at_most}
 use Rattle.fd_model.proofs.Splits.{expand_ok, of_some, unsplit, product_ok}
 use Rattle.fd_model.proofs.MemberRewriting.{product_rewritten, and_rewritten, or_rewritten, not_rewritten}

@@ -6,18 +6,19 @@ use Rattle.fd_model.specs.declared.kinds.ConstraintKind.{ConstraintKind}
 use Rattle.fd_model.specs.declared.kinds.ConstraintKind.TheVariants.{Compare, AllDifferent, Element, Atmost}
 use Rattle.fd_language.specs.Term.{Term, Terms, no_terms, term}
 use Rattle.fd_language.specs.Range.{Range, Span, Union, Outside, Expr, Number, Min, Max, Val, Sub, Mul, DivDown, DivUp, Indexical}
-use Rattle.fd_model.specs.Closed.{AllPosted}
+use Rattle.fd_model.specs.ClosedFamilies.{AllPosted}
 use Rattle.fd_language.specs.Check.{Wish, Rising, Falling, Constant, turn, expr_fits, range_fits}
 use Rattle.fd_language.specs.Range.{expr_params, params}
 use Rattle.fd_model.specs.Linear.{scaled, Comparison, IsEqual, IsOther, IsAtMost, comparison, normal}
 use Rattle.fd_model.specs.LinearRows.{Expansion, by_sign, minus_products, low, high, exact, row, row_by_sign, rows_behind, linear_rows, compares, no_number}
 use Rattle.fd_model.specs.Members.{as_member, walk, placed}
-use Rattle.fd_model.specs.ListRows.{against, pairwise, different_ranges, different_rows, union_onto, union_of, elements_at, index_ranges, element_ranges, counts, units}
-use Rattle.fd_model.specs.Constraining.{compare, basic, all_different}
-use Rattle.fd_model.proofs.Collecting.{one_ok}
+use Rattle.fd_model.specs.ListRows.{against, pairwise, different_ranges, different_rows, union_onto, union_of, elements_at, index_ranges, element_ranges}
+use Rattle.fd_model.specs.ListRows.{counts, units}
+use Rattle.fd_model.specs.ConstraintExpansion.{compare, basic, all_different}
+use Rattle.fd_model.proofs.CollectedSums.{one_ok}
 use Rattle.fd_model.proofs.LinearForms.{NoneZero}
-use Rattle.fd_model.proofs.Comparing.{form_of, collect_nonzero, normal_nonzero}
-use Rattle.fd_model.proofs.Choosing.{element_ok}
+use Rattle.fd_model.proofs.ComparisonRows.{form_of, collect_nonzero, normal_nonzero}
+use Rattle.fd_model.proofs.ElementRows.{element_ok}
 use Rattle.fd_model.proofs.Counters.{atmost_ok, units_nonzero}
 
 module _ (M : ℕ) where
@@ -91,7 +92,8 @@ module _ (M : ℕ) where
   rows_fitting k c before [] z = tt
   rows_fitting k c before (t ∷ ts) z = (signed_fitting k c (before ++ ts) t.1 z.0, rows_fitting k c (before ++ t ∷ []) ts z.1)
 
-  none_fitting : (c : Bool) (n : ℕ) → let x : Expansion = cond c (record { equated = []; ranges = []; fresh = n }) (record { equated = []; ranges = record { target = n; range = no_number } ∷ []; fresh = suc n }) in Fitting x.ranges
+  none_fitting : (c : Bool) (n : ℕ) → let x : Expansion = cond c (record { equated = []; ranges = []; fresh = n })
+      (record { equated = []; ranges = record { target = n; range = no_number } ∷ []; fresh = suc n }) in Fitting x.ranges
   none_fitting true n = tt
   none_fitting false n = (record { fits = refl; params = refl }, tt)
 
@@ -147,7 +149,8 @@ module _ (M : ℕ) where
   compare_fitting : (r : _) (s t : Term) (n : ℕ) (x : Expansion) → compare r s t n ≡ Ok x → Fitting x.ranges
   compare_fitting r s t n x h =
       let f = form_of r s t n x h in
-      subst (λ y. Fitting y.ranges) f.rows (form_fitting (comparison r) (normal r f.linear).products (normal r f.linear).constant n (normal_nonzero r f.linear (collect_nonzero s t f.linear f.collected)))
+      subst (λ y. Fitting y.ranges) f.rows (form_fitting (comparison r) (normal r f.linear).products (normal r f.linear).constant n
+      (normal_nonzero r f.linear (collect_nonzero s t f.linear f.collected)))
 
   all_different_fitting : (l : Term) (n : ℕ) (x : Expansion) → all_different l n ≡ Ok x → Fitting x.ranges
   all_different_fitting l n x h =
@@ -161,5 +164,6 @@ module _ (M : ℕ) where
   basic_fitting Element (term i (term l (term v no_terms))) n x h = let k = element_ok i l v n x h in subst (λ y. Fitting y.ranges) k.rows (element_fitting _ _ k.elements)
   basic_fitting Atmost (term m (term l (term v no_terms))) n x h =
       let k = atmost_ok m l v n x h in
-      subst (λ y. Fitting y.ranges) k.rows (append_fitting (counts k.value (placed n k.members) _) _ (counts_fitting k.value (placed n k.members) _) (form_fitting IsAtMost (units (placed n k.members) _) k.limit _ (units_nonzero (placed n k.members) _)))
+      subst (λ y. Fitting y.ranges) k.rows (append_fitting (counts k.value (placed n k.members) _) _ (counts_fitting k.value (placed n k.members) _)
+      (form_fitting IsAtMost (units (placed n k.members) _) k.limit _ (units_nonzero (placed n k.members) _)))
   basic_fitting _ _ n x h = absurd (cc)

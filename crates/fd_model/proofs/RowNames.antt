@@ -1,5 +1,6 @@
 -- The variables that linear rows name.
-use Rattle.std.proofs.Common.{◌≡◌, ℕ, suc, ◌<◌, Bool, true, false, cond, ◌==◌, ℤ, pos, negsuc, neg_ℤ, List, [], ◌∷◌, ◌++◌, refl, sym, subst, inl, inr, eqb-true, eq-eqb, Result, Ok, Err}
+use Rattle.std.proofs.Common.{◌≡◌, ℕ, suc, ◌<◌, Bool, true, false, cond, ◌==◌, ℤ, pos, negsuc, neg_ℤ, List, [], ◌∷◌, ◌++◌, refl, sym, subst, inl, inr, eqb-true}
+use Rattle.std.proofs.Common.{eq-eqb, Result, Ok, Err}
 use Rattle.std.specs.Str.{bytes_eq}
 use Rattle.std.specs.Prelude.{codes}
 use Rattle.std.specs.Ordering.{int_eq}
@@ -14,10 +15,11 @@ use Rattle.fd_language.specs.Term.{Term, Terms, Var, Int, Atom, Comp, no_terms, 
 use Rattle.fd_language.specs.Variables.{TermBelow, TermsBelow}
 use Rattle.fd_language.specs.Family.{has}
 use Rattle.fd_language.specs.Range.{reads, Expr, expr_reads, Number, Min, Max, Val, Sub, Mul}
-use Rattle.fd_model.specs.Linear.{Sum, with_product, with_products, scaled, nonzero, plus, times, is_constant, checked, of_both, of_one, sum_of, difference_of, product_of, collect_term, Linear, linear_of, collect, normal, Comparison, IsEqual, IsOther, IsAtMost}
+use Rattle.fd_model.specs.Linear.{Sum, with_product, with_products, scaled, nonzero, plus, times, is_constant, checked, of_both, of_one, sum_of, difference_of}
+use Rattle.fd_model.specs.Linear.{product_of, collect_term, Linear, linear_of, collect, normal, Comparison, IsEqual, IsOther, IsAtMost}
 use Rattle.fd_model.specs.LinearRows.{by_sign, minus_products, low, high, exact, row, row_by_sign, rows_behind}
-use Rattle.fd_model.proofs.Collecting.{both_ok, one_ok, test_ok, checked_ok}
-use Rattle.fd_model.proofs.Determining.{NamesIn, names_one}
+use Rattle.fd_model.proofs.CollectedSums.{both_ok, one_ok, test_ok, checked_ok}
+use Rattle.fd_model.proofs.DeterminedValues.{NamesIn, names_one}
 
 -- what holds of each variable of a term
 abbrev pub EachVariable : (ℕ → Type 0) → Term → Type 0
@@ -79,10 +81,13 @@ module _ (P : ℕ → Type 0) where
 
   vars_operator : (p q r : Bool) (s t : Result Sum QueryFault) (u : Sum) → ((v : Sum) → s ≡ Ok v → Vars v) → ((v : Sum) → t ≡ Ok v → Vars v)
       → cond p (of_both sum_of s t) (cond q (of_both difference_of s t) (cond r (of_both product_of s t) (Err BadType))) ≡ Ok u → Vars u
-  vars_operator true q r s t u f g h = let k = both_ok sum_of s t u h in vars_checked (plus k.left k.right) u (vars_products k.left.products k.right.products (f k.left k.from_left) (g k.right k.from_right)) k.both
+  vars_operator true q r s t u f g h = let k = both_ok sum_of s t u h in
+      vars_checked (plus k.left k.right) u (vars_products k.left.products k.right.products (f k.left k.from_left) (g k.right k.from_right)) k.both
   vars_operator false true r s t u f g h =
       let k = both_ok difference_of s t u h in
-      vars_checked (plus k.left (times (negsuc 0) k.right)) u (vars_products k.left.products (scaled (negsuc 0) k.right.products) (f k.left k.from_left) (vars_scaled (negsuc 0) k.right.products (g k.right k.from_right))) k.both
+      vars_checked (plus k.left (times (negsuc 0) k.right)) u
+      (vars_products k.left.products (scaled (negsuc 0) k.right.products) (f k.left k.from_left)
+      (vars_scaled (negsuc 0) k.right.products (g k.right k.from_right))) k.both
   vars_operator false false true s t u f g h = let k = both_ok product_of s t u h in vars_product_of k.left k.right u (f k.left k.from_left) (g k.right k.from_right) k.both
   vars_operator false false false s t u f g h = absurd (cc)
 
@@ -91,10 +96,14 @@ module _ (P : ℕ → Type 0) where
   collected_vars (Int z) s l h = vars_checked (record { products = []; constant = z }) s tt h
   collected_vars (Comp f (term a no_terms)) s l h =
       test_ok (bytes_eq f (codes "-")) (of_one (λ s. checked (times (negsuc 0) s)) (collect_term a)) (Err BadType) s (Vars s) h
-      (λ c e. let k = one_ok (λ s. checked (times (negsuc 0) s)) (collect_term a) s e in vars_checked (times (negsuc 0) k.0) s (vars_scaled (negsuc 0) k.0.products (collected_vars a k.0 (λ v g. l v (in_left (variables_of a) [] v g)) k.1)) k.2)
+      (λ c e. let k = one_ok (λ s. checked (times (negsuc 0) s)) (collect_term a) s e in
+      vars_checked (times (negsuc 0) k.0) s (vars_scaled (negsuc 0) k.0.products
+      (collected_vars a k.0 (λ v g. l v (in_left (variables_of a) [] v g)) k.1)) k.2)
       (λ c e. absurd (cc))
   collected_vars (Comp f (term a (term c no_terms))) s l h =
-      vars_operator (bytes_eq f (codes "+")) (bytes_eq f (codes "-")) (bytes_eq f (codes "*")) (collect_term a) (collect_term c) s (λ v e. collected_vars a v (λ w g. l w (in_left (variables_of a) (variables_of c ++ []) w g)) e) (λ v e. collected_vars c v (λ w g. l w (in_right (variables_of a) (variables_of c ++ []) w (in_left (variables_of c) [] w g))) e) h
+      vars_operator (bytes_eq f (codes "+")) (bytes_eq f (codes "-")) (bytes_eq f (codes "*")) (collect_term a) (collect_term c) s
+      (λ v e. collected_vars a v (λ w g. l w (in_left (variables_of a) (variables_of c ++ []) w g)) e)
+      (λ v e. collected_vars c v (λ w g. l w (in_right (variables_of a) (variables_of c ++ []) w (in_left (variables_of c) [] w g))) e) h
   collected_vars _ s l h = absurd (cc)
 
   pub collect_vars : (s t : Term) (l : Linear) → EachVariable P s → EachVariable P t → collect s t ≡ Ok l → AllVars l.products
@@ -103,7 +112,9 @@ module _ (P : ℕ → Type 0) where
       let g : record { products = nonzero j.0.products; constant = neg_ℤ j.0.constant } ≡ l = cc (j.2) in
       let b = both_ok difference_of (collect_term s) (collect_term t) j.0 j.1 in
       subst (λ w. AllVars w.products) g (vars_nonzero j.0.products
-      (vars_checked (plus b.left (times (negsuc 0) b.right)) j.0 (vars_products b.left.products (scaled (negsuc 0) b.right.products) (collected_vars s b.left h b.from_left) (vars_scaled (negsuc 0) b.right.products (collected_vars t b.right k b.from_right))) b.both))
+      (vars_checked (plus b.left (times (negsuc 0) b.right)) j.0
+      (vars_products b.left.products (scaled (negsuc 0) b.right.products) (collected_vars s b.left h b.from_left)
+      (vars_scaled (negsuc 0) b.right.products (collected_vars t b.right k b.from_right))) b.both))
 
   pub normal_vars : (r : Relation) (l : Linear) → AllVars l.products → AllVars (normal r l).products
   normal_vars Greater l h = vars_scaled (negsuc 0) l.products h

@@ -1,5 +1,6 @@
 -- The variables that an expansion names.
-use Rattle.std.proofs.Common.{◌≡◌, ℕ, suc, ◌+◌, ◌≤◌, ◌<◌, Bool, true, false, cond, ◌==◌, ℤ, pos, List, [], ◌∷◌, ◌++◌, length, refl, sym, subst, inl, inr, ◌⊎◌, arith, eqb-true, eq-eqb, Ok, Err}
+use Rattle.std.proofs.Common.{◌≡◌, ℕ, suc, ◌+◌, ◌≤◌, ◌<◌, Bool, true, false, cond, ◌==◌, ℤ, pos, List, [], ◌∷◌, ◌++◌, length, refl, sym, subst, inl, inr, ◌⊎◌}
+use Rattle.std.proofs.Common.{arith, eqb-true, eq-eqb, Ok, Err}
 use Rattle.std.specs.Str.{bytes_eq}
 use Rattle.std.specs.Prelude.{codes}
 use Rattle.std.proofs.lemmas.Bool.{or_cases, or_left, true≢false}
@@ -16,28 +17,41 @@ use Rattle.fd_model.specs.Linear.{Comparison, IsAtMost, comparison, normal}
 use Rattle.fd_model.specs.LinearRows.{Expansion, linear_rows, compares, no_number}
 use Rattle.fd_model.specs.Members.{Member, Open, Known, as_member, prepend, walk, place_of, after, placed, fresh_after, equated_from}
 use Rattle.fd_model.specs.ListRows.{different_ranges, different_rows, element_ranges, counts, units}
-use Rattle.fd_model.specs.Constraining.{compare, all_different, element, atmost, basic}
+use Rattle.fd_model.specs.ConstraintExpansion.{compare, all_different, element, atmost, basic}
 use Rattle.fd_model.specs.ConstraintLaws.{AllFresh, IsScoped}
-use Rattle.fd_model.proofs.Collecting.{one_ok, both_ok, test_ok}
-use Rattle.fd_model.proofs.Comparing.{form_of}
-use Rattle.fd_model.proofs.Choosing.{element_ok}
+use Rattle.fd_model.proofs.CollectedSums.{one_ok, both_ok, test_ok}
+use Rattle.fd_model.proofs.ComparisonRows.{form_of}
+use Rattle.fd_model.proofs.ElementRows.{element_ok}
 use Rattle.fd_model.proofs.Counters.{atmost_ok}
-use Rattle.fd_model.proofs.Placing.{fresh_grows}
-use Rattle.fd_model.proofs.Determining.{NamesIn, AllNamed}
+use Rattle.fd_model.proofs.FreshVariables.{fresh_grows}
+use Rattle.fd_model.proofs.DeterminedValues.{NamesIn, AllNamed}
 use Rattle.fd_model.proofs.RowNames.{EachVariable, AllVars, rows_names, collect_vars, normal_vars}
-use Rattle.fd_model.proofs.ListNames.{names_append, named_left, different_names, named_different, element_names, named_element, AllAdded, counts_names, named_counts, units_vars, equated_named}
+use Rattle.fd_model.proofs.ListNames.{names_append, named_left, different_names, named_different, element_names, named_element, AllAdded, counts_names}
+use Rattle.fd_model.proofs.ListNames.{named_counts, units_vars, equated_named}
 
 pub all_vars : (Q P : ℕ → Type 0) → ((v : ℕ) → Q v → P v) → (ts : List (ℕ × ℤ)) → AllVars Q ts → AllVars P ts
 all_vars Q P f [] h = tt
 all_vars Q P f (t ∷ ts) h = (f t.0 h.0, all_vars Q P f ts h.1)
 
 module _ (Q : ℕ → Type 0) where
-  none_scoped : (c : Bool) (n : ℕ) → let x : Expansion = cond c (record { equated = []; ranges = []; fresh = n }) (record { equated = []; ranges = record { target = n; range = no_number } ∷ []; fresh = suc n }) in
+  none_scoped : (c : Bool) (n : ℕ) → let x : Expansion = cond c (record { equated = []; ranges = []; fresh = n })
+      (record { equated = []; ranges = record { target = n; range = no_number } ∷ []; fresh = suc n }) in
       NamesIn (λ v. Q v ⊎ ((n ≤ v) × (v < x.fresh))) x.ranges × (n ≤ x.fresh)
   none_scoped true n = ((λ v h. absurd (true≢false (sym h))), omega arith)
-  none_scoped false n = ((λ v h. elim (or_cases (n == v) false h) [ inl e ↦ inr (let k = eqb-true n v e in omega arith, let k = eqb-true n v e in omega arith) | inr e ↦ absurd (true≢false (sym e)) ]), omega arith)
+  none_scoped false n = (
+    (λ v h. elim (or_cases (n == v) false h) [
+      | inl e ↦ inr (
+        let k = eqb-true n v e in omega arith,
+        let k = eqb-true n v e in
+            omega arith,
+      )
+      | inr e ↦ absurd (true≢false (sym e))
+    ]),
+    omega arith,
+  )
 
-  form_scoped : (k : Comparison) (ts : List (ℕ × ℤ)) (c : ℤ) (n : ℕ) → AllVars Q ts → NamesIn (λ v. Q v ⊎ ((n ≤ v) × (v < (linear_rows k ts c n).fresh))) (linear_rows k ts c n).ranges × (n ≤ (linear_rows k ts c n).fresh)
+  form_scoped : (k : Comparison) (ts : List (ℕ × ℤ)) (c : ℤ) (n : ℕ) → AllVars Q ts
+      → NamesIn (λ v. Q v ⊎ ((n ≤ v) × (v < (linear_rows k ts c n).fresh))) (linear_rows k ts c n).ranges × (n ≤ (linear_rows k ts c n).fresh)
   form_scoped k [] c n h = none_scoped (compares k (pos 0) c) n
   form_scoped k (t ∷ ts) c n h = (rows_names (λ v. Q v ⊎ ((n ≤ v) × (v < n))) k c [] (t ∷ ts) tt (all_vars Q (λ v. Q v ⊎ ((n ≤ v) × (v < n))) (λ v q. inl q) (t ∷ ts) h), omega arith)
 
@@ -84,7 +98,8 @@ wider Q n m k h v (inr l) = inr (l.0, omega (arith, l.1))
 
 no_equated : (k : Comparison) (ts : List (ℕ × ℤ)) (c : ℤ) (n m : ℕ) (ps : List Indexical) → AllFresh n m ps (linear_rows k ts c n).equated
 no_equated k [] c n m ps = by_test (compares k (pos 0) c) where
-  by_test : (d : Bool) → let x : Expansion = cond d (record { equated = []; ranges = []; fresh = n }) (record { equated = []; ranges = record { target = n; range = no_number } ∷ []; fresh = suc n }) in AllFresh n m ps x.equated
+  by_test : (d : Bool) → let x : Expansion = cond d (record { equated = []; ranges = []; fresh = n })
+      (record { equated = []; ranges = record { target = n; range = no_number } ∷ []; fresh = suc n }) in AllFresh n m ps x.equated
   by_test true = tt
   by_test false = tt
 no_equated k (t ∷ ts) c n m ps = tt
@@ -94,7 +109,8 @@ compare_scoped r s t n x h =
     let f = form_of r s t n x h in
     let m = normal r f.linear in
     let Q : ℕ → Type 0 = λ v. has (variables_of s ++ (variables_of t ++ [])) v ≡ true in
-    let vars = normal_vars Q r f.linear (collect_vars Q s t f.linear (λ v e. in_left (variables_of s) (variables_of t ++ []) v e) (λ v e. in_right (variables_of s) (variables_of t ++ []) v (in_left (variables_of t) [] v e)) f.collected) in
+    let vars = normal_vars Q r f.linear (collect_vars Q s t f.linear (λ v e. in_left (variables_of s) (variables_of t ++ []) v e)
+    (λ v e. in_right (variables_of s) (variables_of t ++ []) v (in_left (variables_of t) [] v e)) f.collected) in
     let g = form_scoped Q (comparison r) m.products m.constant n vars in
     subst (IsScoped (term s (term t no_terms)) n) f.rows
     (record { named = g.0; equated = no_equated (comparison r) m.products m.constant n _ _; grows = g.1 })
@@ -108,7 +124,8 @@ different_scoped l n x h =
     let p = placed_scoped Q n ms n (omega arith) (members_in Q l ms (λ v i. in_left (variables_of l) [] v i) k.1) in
     subst (IsScoped (term l no_terms) n) e (record {
       named = different_names (λ v. Q v ⊎ ((n ≤ v) × (v < fresh_after n ms))) (placed n ms) p;
-      equated = equated_scoped n (fresh_after n ms) (different_ranges (placed n ms)) ms n (omega arith) (omega arith) (equated_named (different_ranges (placed n ms)) ms n (named_different (placed n ms)));
+      equated = equated_scoped n (fresh_after n ms) (different_ranges (placed n ms)) ms n (omega arith) (omega arith)
+          (equated_named (different_ranges (placed n ms)) ms n (named_different (placed n ms)));
       grows = fresh_grows ms n;
     })
 
@@ -118,13 +135,15 @@ element_scoped i l y n x h =
     let ms : List Member = k.index ∷ k.value ∷ [] in
     let Q : ℕ → Type 0 = λ v. has (variables_of i ++ (variables_of l ++ (variables_of y ++ []))) v ≡ true in
     let here = member_in Q i k.index (k.value ∷ []) (λ v e. in_left (variables_of i) (variables_of l ++ (variables_of y ++ [])) v e) k.from_index
-    (member_in Q y k.value [] (λ v e. in_right (variables_of i) (variables_of l ++ (variables_of y ++ [])) v (in_right (variables_of l) (variables_of y ++ []) v (in_left (variables_of y) [] v e))) k.from_value tt) in
+    (member_in Q y k.value [] (λ v e. in_right (variables_of i) (variables_of l ++ (variables_of y ++ [])) v
+    (in_right (variables_of l) (variables_of y ++ []) v (in_left (variables_of y) [] v e))) k.from_value tt) in
     let p = placed_scoped Q n ms n (omega arith) here in
     let a = place_of n k.index in
     let b = place_of (after n k.index) k.value in
     subst (IsScoped (term i (term l (term y no_terms))) n) k.rows (record {
       named = element_names (λ v. Q v ⊎ ((n ≤ v) × (v < fresh_after n ms))) a b k.elements p.0 p.1.0;
-      equated = equated_scoped n (fresh_after n ms) (element_ranges a k.elements b) ms n (omega arith) (omega arith) (equated_named (element_ranges a k.elements b) ms n (named_element a b k.elements));
+      equated = equated_scoped n (fresh_after n ms) (element_ranges a k.elements b) ms n (omega arith) (omega arith)
+          (equated_named (element_ranges a k.elements b) ms n (named_element a b k.elements));
       grows = fresh_grows ms n;
     })
 
@@ -146,7 +165,8 @@ atmost_scoped m l v n x h =
     let Q : ℕ → Type 0 = λ w. has (variables_of m ++ (variables_of l ++ (variables_of v ++ []))) w ≡ true in
     let R : ℕ → Type 0 = λ w. Q w ⊎ ((n ≤ w) × (w < j)) in
     let low = fresh_grows ms n in
-    let p = placed_scoped Q n ms n (omega arith) (members_in Q l ms (λ w i. in_right (variables_of m) (variables_of l ++ (variables_of v ++ [])) w (in_left (variables_of l) (variables_of v ++ []) w i)) g.from_list) in
+    let p = placed_scoped Q n ms n (omega arith) (members_in Q l ms
+    (λ w i. in_right (variables_of m) (variables_of l ++ (variables_of v ++ [])) w (in_left (variables_of l) (variables_of v ++ []) w i)) g.from_list) in
     let wide : Each R xs = each_map (λ w. Q w ⊎ ((n ≤ w) × (w < k))) R (wider Q n k j (omega arith)) xs p in
     let added = added_scoped Q n j xs k low (omega arith) in
     let s = form_scoped R IsAtMost (units xs k) g.limit j (units_vars R xs k added) in

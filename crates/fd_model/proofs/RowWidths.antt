@@ -1,11 +1,12 @@
 -- The linear rows keep the limit of width.
-use Rattle.std.proofs.Common.{◌≡◌, ℕ, zero, suc, ◌+◌, ◌*◌, ◌^◌, ◌≤◌, ◌<◌, max, Bool, true, false, cond, not, ◌==◌, ℤ, pos, negsuc, ◌+ℤ◌, ◌*ℤ◌, neg_ℤ, nat_abs, List, [], ◌∷◌, ◌++◌, refl, ap, arith, mul-le-mul}
+use Rattle.std.proofs.Common.{◌≡◌, ℕ, zero, suc, ◌+◌, ◌*◌, ◌^◌, ◌≤◌, ◌<◌, max, Bool, true, false, cond, not, ◌==◌, ℤ, pos, negsuc, ◌+ℤ◌, ◌*ℤ◌, neg_ℤ, nat_abs}
+use Rattle.std.proofs.Common.{List, [], ◌∷◌, ◌++◌, refl, ap, arith, mul-le-mul}
 use Rattle.std.proofs.lemmas.Bool.{and_from}
 use Rattle.std.specs.Ordering.{int_eq}
 use Rattle.std.proofs.lemmas.Int.{ints}
 use Rattle.fd_language.proofs.Lemmas.{abs_add}
 use Rattle.fd_language.specs.Range.{Expr, Number, Min, Max, Val, Sub, Mul, DivDown, DivUp}
-use Rattle.fd_model.specs.Closed.{AllPosted}
+use Rattle.fd_model.specs.ClosedFamilies.{AllPosted}
 use Rattle.fd_language.specs.RangeVerdict.{bound, over_limit, expr_within, range_within}
 use Rattle.fd_model.specs.Linear.{with_product, scaled, nonzero, Comparison, IsEqual, IsOther, IsAtMost}
 use Rattle.fd_model.specs.LinearRows.{by_sign, minus_products, low, high, exact, row, row_by_sign, rows_behind}
@@ -111,12 +112,15 @@ module _ (M : ℕ) (m : M < 2 ^ 126) where
     by_kind IsAtMost false = and_from _ _ refl (down_within (high c ts) a j.0 j.1 l)
     by_kind IsAtMost true = and_from _ _ (up_within (low c ts) a i.0 i.1 l) (under M m)
 
-  signed_within : (k : Comparison) (c : ℤ) (ts : List (ℕ × ℤ)) (z : ℤ) → (z ≡ pos 0 → ⊥) → nat_abs c + weight M ts < 2 ^ 126 → AreNarrow ts → nat_abs z < 2 ^ 126 → range_within M (row_by_sign k c ts z) ≡ true
+  signed_within : (k : Comparison) (c : ℤ) (ts : List (ℕ × ℤ)) (z : ℤ) → (z ≡ pos 0 → ⊥) → nat_abs c + weight M ts < 2 ^ 126 → AreNarrow ts
+      → nat_abs z < 2 ^ 126 → range_within M (row_by_sign k c ts z) ≡ true
   signed_within k c ts (pos zero) f s n l = absurd (f refl)
   signed_within k c ts (pos (suc a)) f s n l = row_within k false c ts a s n l
-  signed_within k c ts (negsuc a) f s n l = row_within k true (neg_ℤ c) (scaled (negsuc 0) ts) a (let e = weight-scaled M ts in let g = turned_size c in let h = turned_once c in omega (arith, ints)) (narrow_scaled ts n) l
+  signed_within k c ts (negsuc a) f s n l = row_within k true (neg_ℤ c) (scaled (negsuc 0) ts) a (let e = weight-scaled M ts in let g = turned_size c in
+      let h = turned_once c in omega (arith, ints)) (narrow_scaled ts n) l
 
-  pub rows_within : (k : Comparison) (c : ℤ) (before ts : List (ℕ × ℤ)) → NoneZero ts → AreNarrow before → AreNarrow ts → nat_abs c + weight M (before ++ ts) < 2 ^ 126 → AllPosted (λ p. range_within M p.range ≡ true) (rows_behind k c before ts)
+  pub rows_within : (k : Comparison) (c : ℤ) (before ts : List (ℕ × ℤ)) → NoneZero ts → AreNarrow before → AreNarrow ts
+      → nat_abs c + weight M (before ++ ts) < 2 ^ 126 → AllPosted (λ p. range_within M p.range ≡ true) (rows_behind k c before ts)
   rows_within k c before [] z b n s = tt
   rows_within k c before (t ∷ ts) z b n s = (
     signed_within k c (before ++ ts) t.1 z.0 (let e = weight-append M before ts in let f = weight-append M before (t ∷ ts) in omega arith) (narrow_append before ts b n.1) n.0,

@@ -1,5 +1,6 @@
 -- The linear rows where each variable has its one value.
-use Rattle.std.proofs.Common.{◌≡◌, ℕ, zero, suc, ◌*◌, ◌/◌, ◌≤◌, ◌<◌, Bool, true, false, not, ◌&&◌, ℤ, pos, negsuc, ◌+ℤ◌, ◌-ℤ◌, ◌*ℤ◌, neg_ℤ, ◌≤ℤ◌, int_le, List, [], ◌∷◌, refl, ap, ◌∙◌, arith}
+use Rattle.std.proofs.Common.{◌≡◌, ℕ, zero, suc, ◌*◌, ◌/◌, ◌≤◌, ◌<◌, Bool, true, false, not, ◌&&◌, ℤ, pos, negsuc, ◌+ℤ◌, ◌-ℤ◌, ◌*ℤ◌, neg_ℤ, ◌≤ℤ◌, int_le, List}
+use Rattle.std.proofs.Common.{[], ◌∷◌, refl, ap, ◌∙◌, arith}
 use Rattle.std.proofs.Math.Nat.{le-div_iff_mul-le, div-lt_iff_lt-mul, mul_comm}
 use Rattle.std.specs.Ordering.{int_eq}
 use Rattle.std.proofs.lemmas.Int.{ints}
@@ -8,7 +9,7 @@ use Rattle.fd_language.proofs.Lemmas.{int_le_true}
 use Rattle.fd_language.specs.Range.{Expr, Number, Min, Max, Val, Sub, Mul, value, in_range, down_by}
 use Rattle.fd_model.specs.Linear.{scaled, Comparison, IsEqual, IsOther, IsAtMost}
 use Rattle.fd_model.specs.LinearRows.{by_sign, minus_products, low, high, exact, row, row_by_sign, compares}
-use Rattle.fd_model.specs.Satisfies.{Assignment, singles}
+use Rattle.fd_model.specs.Satisfaction.{Assignment, singles}
 use Rattle.fd_model.specs.ConstraintLaws.{total}
 use Rattle.fd_model.proofs.Integers.{turned_once}
 use Rattle.fd_model.proofs.Sums.{total-scaled}
@@ -66,12 +67,14 @@ nat_up_back : (n m k : ℕ) → m < suc k * n → m / suc k < n
 nat_up_back n m k h = (div-lt_iff_lt-mul {k = suc k} {x = m} {y = n} (omega arith)).1 (omega (arith, mul_comm n (suc k)))
 
 down_test : (v : ℤ) (n k : ℕ) → int_le (pos n) (down_by v k) ≡ int_le (pos (suc k * n)) v
-down_test (pos m) n k = same_le (pos n) (pos (m / suc k)) (pos (suc k * n)) (pos m) (λ h. let e = nat_down n m k (omega (arith, ints)) in omega (arith, ints)) (λ h. let e = nat_down_back n m k (omega (arith, ints)) in omega (arith, ints))
+down_test (pos m) n k = same_le (pos n) (pos (m / suc k)) (pos (suc k * n)) (pos m) (λ h. let e = nat_down n m k (omega (arith, ints)) in
+    omega (arith, ints)) (λ h. let e = nat_down_back n m k (omega (arith, ints)) in omega (arith, ints))
 down_test (negsuc m) n k = same_le (pos n) (negsuc (m / suc k)) (pos (suc k * n)) (negsuc m) (λ h. absurd (omega (arith, ints))) (λ h. absurd (omega (arith, ints)))
 
 pub up_test : (v : ℤ) (n k : ℕ) → int_le (neg_ℤ (down_by (neg_ℤ v) k)) (pos n) ≡ int_le v (pos (suc k * n))
 up_test (pos zero) n k = same_le (neg_ℤ (pos (0 / suc k))) (pos n) (pos 0) (pos (suc k * n)) (λ h. omega (arith, ints)) (λ h. omega (arith, ints))
-up_test (pos (suc m)) n k = same_le (pos (suc (m / suc k))) (pos n) (pos (suc m)) (pos (suc k * n)) (λ h. let e = nat_up n m k (omega (arith, ints)) in omega (arith, ints)) (λ h. let e = nat_up_back n m k (omega (arith, ints)) in omega (arith, ints))
+up_test (pos (suc m)) n k = same_le (pos (suc (m / suc k))) (pos n) (pos (suc m)) (pos (suc k * n)) (λ h. let e = nat_up n m k (omega (arith, ints)) in
+    omega (arith, ints)) (λ h. let e = nat_up_back n m k (omega (arith, ints)) in omega (arith, ints))
 up_test (negsuc m) n k = same_le (neg_ℤ (pos (suc m / suc k))) (pos n) (negsuc m) (pos (suc k * n)) (λ h. omega (arith, ints)) (λ h. omega (arith, ints))
 
 both_tests : (p v : ℤ) → (int_le v p && int_le p v) ≡ int_eq p v
@@ -90,23 +93,32 @@ module _ (M : ℕ) (b : Assignment) where
   -- the row of a form that isn't turned
   plain_row : (k : Comparison) (c : ℤ) (ts : List (ℕ × ℤ)) (a n : ℕ) → in_range M (singles b) (row k false c ts (suc a)) n ≡ compares k (pos (suc a * n) +ℤ total b ts) c
   plain_row IsEqual c ts a n =
-      rw (low_value M b c ts, high_value M b c ts) (span_test (c -ℤ total b ts) n a ∙ same_eq (pos (suc a * n)) (c -ℤ total b ts) (pos (suc a * n) +ℤ total b ts) c (λ h. omega (arith, ints)) (λ h. omega (arith, ints)))
+      rw (low_value M b c ts, high_value M b c ts) (span_test (c -ℤ total b ts) n a
+      ∙ same_eq (pos (suc a * n)) (c -ℤ total b ts) (pos (suc a * n) +ℤ total b ts) c (λ h. omega (arith, ints)) (λ h. omega (arith, ints)))
   plain_row IsOther c ts a n =
-      rw (exact_value M b c ts) (ap not (span_test (c -ℤ total b ts) n a ∙ same_eq (pos (suc a * n)) (c -ℤ total b ts) (pos (suc a * n) +ℤ total b ts) c (λ h. omega (arith, ints)) (λ h. omega (arith, ints))))
+      rw (exact_value M b c ts) (ap not (span_test (c -ℤ total b ts) n a
+      ∙ same_eq (pos (suc a * n)) (c -ℤ total b ts) (pos (suc a * n) +ℤ total b ts) c (λ h. omega (arith, ints)) (λ h. omega (arith, ints))))
   plain_row IsAtMost c ts a n =
-      rw (high_value M b c ts) (natural_test n _ ∙ (down_test (c -ℤ total b ts) n a ∙ same_le (pos (suc a * n)) (c -ℤ total b ts) (pos (suc a * n) +ℤ total b ts) c (λ h. omega (arith, ints)) (λ h. omega (arith, ints))))
+      rw (high_value M b c ts) (natural_test n _ ∙ (down_test (c -ℤ total b ts) n a
+      ∙ same_le (pos (suc a * n)) (c -ℤ total b ts) (pos (suc a * n) +ℤ total b ts) c (λ h. omega (arith, ints)) (λ h. omega (arith, ints))))
 
   -- of one that is
-  turned_row : (k : Comparison) (c : ℤ) (ts : List (ℕ × ℤ)) (a n : ℕ) → n ≤ M → in_range M (singles b) (row k true (neg_ℤ c) (scaled (negsuc 0) ts) (suc a)) n ≡ compares k (neg_ℤ (pos (suc a * n)) +ℤ total b ts) c
+  turned_row : (k : Comparison) (c : ℤ) (ts : List (ℕ × ℤ)) (a n : ℕ) → n ≤ M
+      → in_range M (singles b) (row k true (neg_ℤ c) (scaled (negsuc 0) ts) (suc a)) n ≡ compares k (neg_ℤ (pos (suc a * n)) +ℤ total b ts) c
   turned_row IsEqual c ts a n h =
       let e = total-scaled b (negsuc 0) ts in let f = turned_once (total b ts) in let v = neg_ℤ c -ℤ total b (scaled (negsuc 0) ts) in
-      rw (low_value M b (neg_ℤ c) (scaled (negsuc 0) ts), high_value M b (neg_ℤ c) (scaled (negsuc 0) ts)) (span_test v n a ∙ same_eq (pos (suc a * n)) v (neg_ℤ (pos (suc a * n)) +ℤ total b ts) c (λ h. omega (arith, ints)) (λ h. omega (arith, ints)))
+      rw (low_value M b (neg_ℤ c) (scaled (negsuc 0) ts), high_value M b (neg_ℤ c) (scaled (negsuc 0) ts))
+      (span_test v n a ∙ same_eq (pos (suc a * n)) v (neg_ℤ (pos (suc a * n)) +ℤ total b ts) c (λ h. omega (arith, ints)) (λ h. omega (arith, ints)))
   turned_row IsOther c ts a n h =
       let e = total-scaled b (negsuc 0) ts in let f = turned_once (total b ts) in let v = neg_ℤ c -ℤ total b (scaled (negsuc 0) ts) in
-      rw (exact_value M b (neg_ℤ c) (scaled (negsuc 0) ts)) (ap not (span_test v n a ∙ same_eq (pos (suc a * n)) v (neg_ℤ (pos (suc a * n)) +ℤ total b ts) c (λ h. omega (arith, ints)) (λ h. omega (arith, ints))))
+      rw (exact_value M b (neg_ℤ c) (scaled (negsuc 0) ts))
+      (ap not (span_test v n a ∙ same_eq (pos (suc a * n)) v (neg_ℤ (pos (suc a * n)) +ℤ total b ts) c (λ h. omega (arith, ints))
+      (λ h. omega (arith, ints))))
   turned_row IsAtMost c ts a n h =
       let e = total-scaled b (negsuc 0) ts in let f = turned_once (total b ts) in let v = neg_ℤ c -ℤ total b (scaled (negsuc 0) ts) in
-      rw (low_value M b (neg_ℤ c) (scaled (negsuc 0) ts)) (within_test n M _ h ∙ (up_test v n a ∙ same_le v (pos (suc a * n)) (neg_ℤ (pos (suc a * n)) +ℤ total b ts) c (λ h. omega (arith, ints)) (λ h. omega (arith, ints))))
+      rw (low_value M b (neg_ℤ c) (scaled (negsuc 0) ts))
+      (within_test n M _ h ∙ (up_test v n a ∙ same_le v (pos (suc a * n)) (neg_ℤ (pos (suc a * n)) +ℤ total b ts) c (λ h. omega (arith, ints))
+      (λ h. omega (arith, ints))))
 
   pub row_is : (k : Comparison) (c : ℤ) (ts : List (ℕ × ℤ)) (z : ℤ) (n : ℕ) → (z ≡ pos 0 → ⊥) → n ≤ M → in_range M (singles b) (row_by_sign k c ts z) n ≡ compares k ((z *ℤ pos n) +ℤ total b ts) c
   row_is k c ts (pos zero) n f h = absurd (f refl)

@@ -4,7 +4,7 @@ use Rattle.std.specs.List.{list_all}
 use Rattle.fd_language.specs.declared.range_node.Need.{Need}
 use Rattle.fd_language.specs.Range.{Range, Indexical}
 use Rattle.fd_language.specs.Needs.{asks, meets, once, strongest}
-use Rattle.fd_model.specs.Closed.{AllPosted}
+use Rattle.fd_model.specs.ClosedFamilies.{AllPosted}
 use Rattle.fd_language.specs.Monotonicity.{IsMonotone}
 use Rattle.fd_language.proofs.Lemmas.{accepted_is_monotone, filled_as_is, nothing_asked}
 use Rattle.fd_model.specs.ConstraintLaws.{MonotoneRows}

@@ -4,9 +4,9 @@ use Rattle.std.specs.List.{list_any}
 use Rattle.std.specs.Cmp.{both_ways}
 use Rattle.fd_language.specs.Family.{has, universe}
 use Rattle.fd_language.specs.Range.{Range, Indexical, in_range, in_set, set_of, reads, vals, is_none_left, is_several}
-use Rattle.fd_model.specs.Closed.{AllPosted}
+use Rattle.fd_model.specs.ClosedFamilies.{AllPosted}
 use Rattle.fd_language.proofs.Lemmas.{has-filter, has-filter_back, in_universe}
-use Rattle.fd_model.specs.Satisfies.{Assignment, singles}
+use Rattle.fd_model.specs.Satisfaction.{Assignment, singles}
 
 -- numbers up to N are in the universe
 pub up_to : (M N : ℕ) → N ≤ M → (b : Assignment) → ((v : ℕ) → b v ≤ N) → (v : ℕ) → b v ≤ M

@@ -1,5 +1,6 @@
 -- The fresh variables that stand for integers in a posted range.
-use Rattle.std.proofs.Common.{◌≡◌, ℕ, suc, ◌+◌, ◌<◌, ◌≤◌, Bool, true, false, not, cond, ◌||◌, ◌==◌, ℤ, pos, List, [], ◌∷◌, ◌++◌, length, ◌⊎◌, refl, ap, sym, ◌∙◌, subst, inl, inr, arith, eqb-true, eq-eqb}
+use Rattle.std.proofs.Common.{◌≡◌, ℕ, suc, ◌+◌, ◌<◌, ◌≤◌, Bool, true, false, not, cond, ◌||◌, ◌==◌, ℤ, pos, List, [], ◌∷◌, ◌++◌, length, ◌⊎◌, refl, ap, sym}
+use Rattle.std.proofs.Common.{◌∙◌, subst, inl, inr, arith, eqb-true, eq-eqb}
 use Rattle.std.proofs.lemmas.Bool.{or_cases, or_left, or_right, cases_Bool, true≢false}
 use Rattle.fd_language.specs.Term.{Int, Substitution, apply}
 use Rattle.fd_language.specs.Unifier.{Unifies}
@@ -7,12 +8,12 @@ use Rattle.fd_language.specs.Family.{has}
 use Rattle.fd_language.specs.Occurrences.{Occurrence}
 use Rattle.fd_model.specs.Posting.{is_integer, integers_at, slot, slot_equations}
 use Rattle.fd_language.proofs.Lemmas.{has_either}
-use Rattle.fd_model.specs.Satisfies.{Assignment}
+use Rattle.fd_model.specs.Satisfaction.{Assignment}
 use Rattle.fd_language.specs.Lists.{Each}
 use Rattle.fd_model.specs.Answers.{Somewhere}
 use Rattle.fd_model.proofs.GoalRows.{numbers, Gives}
 use Rattle.fd_model.proofs.Lists.{each_map}
-use Rattle.fd_model.proofs.Heeding.{first_member, only_member}
+use Rattle.fd_model.proofs.ModelSubstitutions.{first_member, only_member}
 use Rattle.fd_model.proofs.FlatPosting.{Free, variables}
 
 -- each once
@@ -22,7 +23,10 @@ Apart (y ∷ ys) = (has ys y ≡ false) × Apart ys
 
 not_in_both : (xs : List ℕ) (y x : ℕ) → has xs x ≡ false → (y ≡ x → ⊥) → has (xs ++ y ∷ []) x ≡ false
 not_in_both xs y x h e = elim (cases_Bool (has (xs ++ y ∷ []) x)) [
-  | inl i ↦ elim (has_either xs (y ∷ []) x i) [ inl j ↦ absurd (true≢false (sym j ∙ h)) | inr j ↦ elim (or_cases (y == x) false j) [ inl k ↦ absurd (e (eqb-true y x k)) | inr k ↦ absurd (true≢false (sym k)) ] ]
+  | inl i ↦ elim (has_either xs (y ∷ []) x i) [
+    | inl j ↦ absurd (true≢false (sym j ∙ h))
+    | inr j ↦ elim (or_cases (y == x) false j) [ inl k ↦ absurd (e (eqb-true y x k)) | inr k ↦ absurd (true≢false (sym k)) ]
+  ]
   | inr i ↦ i
 ]
 
@@ -73,7 +77,8 @@ module _ (look : Substitution) where
   ]
   from_new x xs ys y i (inr k) = inr (or_right (x == y) (has xs y) k.0, k.1)
 
-  from_test : (x : ℕ) (xs ys : List ℕ) (y : ℕ) (b : Bool) → (not (is_integer (look x)) || has ys x) ≡ b → (has (integers look xs ys) y ≡ true → From xs ys y) → (has (integers look xs (ys ++ x ∷ [])) y ≡ true → From xs (ys ++ x ∷ []) y)
+  from_test : (x : ℕ) (xs ys : List ℕ) (y : ℕ) (b : Bool) → (not (is_integer (look x)) || has ys x) ≡ b → (has (integers look xs ys) y ≡ true → From xs ys y)
+      → (has (integers look xs (ys ++ x ∷ [])) y ≡ true → From xs (ys ++ x ∷ []) y)
       → has (cond b (integers look xs ys) (integers look xs (ys ++ x ∷ []))) y ≡ true → From (x ∷ xs) ys y
   from_test x xs ys y true e f g k = from_more x xs ys y (f k)
   from_test x xs ys y false e f g k = from_new x xs ys y (not_or (is_integer (look x)) (has ys x) e).0 (g k)
@@ -153,23 +158,35 @@ slots_each look n [] h i = tt
 slots_each look n (x ∷ ys) h i = (
   (n, (refl, i x (first_member x ys)), (x, first_member x ys, slot_head n x ys)),
   each_map (λ e. (w : ℕ) × Gives w e × ((y : ℕ) × (has ys y ≡ true) × (slot (suc n) ys y ≡ w))) (λ e. (w : ℕ) × Gives w e × ((y : ℕ) × (has (x ∷ ys) y ≡ true) × (slot n (x ∷ ys) y ≡ w)))
-      (λ e g. (g.0, g.1, (g.2.0, or_right (x == g.2.0) (has ys g.2.0) g.2.1, slot_tail n x g.2.0 ys (elim (cases_Bool (x == g.2.0)) [ inl k ↦ absurd (true≢false (sym g.2.1 ∙ subst (λ z. has ys z ≡ false) (eqb-true x g.2.0 k) h.0)) | inr k ↦ k ]) ∙ g.2.2)))
+      (λ e g. (
+        g.0,
+        g.1,
+        (
+          g.2.0,
+          or_right (x == g.2.0) (has ys g.2.0) g.2.1,
+          slot_tail n x g.2.0 ys (elim (cases_Bool (x == g.2.0))
+              [ inl k ↦ absurd (true≢false (sym g.2.1 ∙ subst (λ z. has ys z ≡ false) (eqb-true x g.2.0 k) h.0)) | inr k ↦ k ]) ∙ g.2.2,
+        ),
+      ))
       (slot_equations look (suc n) ys) (slots_each look (suc n) ys h.1 (λ y k. i y (or_right (x == y) (has ys y) k))),
 )
 
 -- the equations under numbers
-pub slots_unify : (look : Substitution) (n : ℕ) (ys : List ℕ) (a e : Assignment) → Apart ys → ((y : ℕ) → has ys y ≡ true → look y ≡ Int (pos (a y))) → ((y : ℕ) → has ys y ≡ true → e (slot n ys y) ≡ a y) → Unifies (numbers e) (slot_equations look n ys)
+pub slots_unify : (look : Substitution) (n : ℕ) (ys : List ℕ) (a e : Assignment) → Apart ys → ((y : ℕ) → has ys y ≡ true → look y ≡ Int (pos (a y)))
+    → ((y : ℕ) → has ys y ≡ true → e (slot n ys y) ≡ a y) → Unifies (numbers e) (slot_equations look n ys)
 slots_unify look n [] a e h i k = tt
 slots_unify look n (x ∷ ys) a e h i k = (
   ap (λ m. Int (pos m)) (sym (ap e (slot_head n x ys)) ∙ k x (first_member x ys)) ∙ sym (ap (apply (numbers e)) (i x (first_member x ys))),
   slots_unify look (suc n) ys a e h.1 (λ y g. i y (or_right (x == y) (has ys y) g))
-      (λ y g. sym (ap e (slot_tail n x y ys (elim (cases_Bool (x == y)) [ inl j ↦ absurd (true≢false (sym g ∙ subst (λ z. has ys z ≡ false) (eqb-true x y j) h.0)) | inr j ↦ j ]))) ∙ k y (or_right (x == y) (has ys y) g)),
+      (λ y g. sym (ap e (slot_tail n x y ys (elim (cases_Bool (x == y))
+      [ inl j ↦ absurd (true≢false (sym g ∙ subst (λ z. has ys z ≡ false) (eqb-true x y j) h.0)) | inr j ↦ j ]))) ∙ k y (or_right (x == y) (has ys y) g)),
 )
 
 pub int_number : (n m : ℕ) → Int (pos n) ≡ Int (pos m) → n ≡ m
 int_number n m e = cc
 
-pub slots_back : (look : Substitution) (n : ℕ) (ys : List ℕ) (a e : Assignment) → ((y : ℕ) → has ys y ≡ true → look y ≡ Int (pos (a y))) → Unifies (numbers e) (slot_equations look n ys) → (y : ℕ) → has ys y ≡ true → e (slot n ys y) ≡ a y
+pub slots_back : (look : Substitution) (n : ℕ) (ys : List ℕ) (a e : Assignment) → ((y : ℕ) → has ys y ≡ true → look y ≡ Int (pos (a y)))
+    → Unifies (numbers e) (slot_equations look n ys) → (y : ℕ) → has ys y ≡ true → e (slot n ys y) ≡ a y
 slots_back look n [] a e i u y h = absurd (true≢false (sym h))
 slots_back look n (x ∷ ys) a e i u y h = elim (cases_Bool (x == y)) [
   | inl k ↦ rw k (int_number (e n) (a y) (u.0 ∙ ap (apply (numbers e)) (i x (first_member x ys)) ∙ ap (λ z. Int (pos (a z))) (eqb-true x y k)))

@@ -1,5 +1,6 @@
 -- What is found: that there is one answer, and that its cost is the best of all assignments that keep the posted ranges.
-use Rattle.std.proofs.Common.{◌≡◌, ℕ, Bool, true, false, ◌==◌, ℤ, List, [], ◌∷◌, ◌++◌, map, Option, Some, None, ◌⊎◌, refl, ap, sym, ◌∙◌, subst, inl, inr, arith, eqb-true, append_assoc, append-nil}
+use Rattle.std.proofs.Common.{◌≡◌, ℕ, Bool, true, false, ◌==◌, ℤ, List, [], ◌∷◌, ◌++◌, map, Option, Some, None, ◌⊎◌, refl, ap, sym, ◌∙◌, subst, inl, inr, arith}
+use Rattle.std.proofs.Common.{eqb-true, append_assoc, append-nil}
 use Rattle.std.specs.Prelude.{int_le}
 use Rattle.std.proofs.lemmas.Bool.{or_cases, cases_Bool, true≢false}
 use Rattle.std.proofs.lemmas.Int.{ints}
@@ -16,7 +17,7 @@ use Rattle.fd_model.specs.PostedLeaves.{AreLeft, open_unless, seen_in, picked_in
 use Rattle.fd_model.specs.Leaves.{IsBetter, IsAsGood}
 use Rattle.fd_model.specs.BestPosted.{IsCostOf, Costs, HaveValues, IsBestPosted, EachCosts, BestValues}
 use Rattle.fd_model.specs.PostedLaws.{Keeps, IsWhole, cost_by, IsBestKept, BestCost, OneSought}
-use Rattle.fd_model.specs.Satisfies.{Assignment}
+use Rattle.fd_model.specs.Satisfaction.{Assignment}
 use Rattle.fd_model.proofs.Lists.{each_at}
 use Rattle.fd_model.proofs.PostedSets.{left_once}
 use Rattle.fd_model.proofs.PostedLeaves.{each_leaf, leaves_there, leaves_once}
@@ -92,18 +93,22 @@ module _ (M : ℕ) (ms : List Member) (c : Member) (wanted : Bool) (is_cost : Is
   Has b k = HaveValues M (open_ones ms) k (map b (open_ones ms))
 
   -- no leaf has a better cost than the best
-  best_of_all : (ls : List (List Indexical)) (l : List Indexical) (z : ℤ) → IsBestPosted M wanted c ls l z → (b : Assignment) → Somewhere (λ k. HaveValues M (open_ones ms) k (map b (open_ones ms))) ls → IsAsGood wanted z (cost_by b c)
+  best_of_all : (ls : List (List Indexical)) (l : List Indexical) (z : ℤ) → IsBestPosted M wanted c ls l z → (b : Assignment)
+      → Somewhere (λ k. HaveValues M (open_ones ms) k (map b (open_ones ms))) ls → IsAsGood wanted z (cost_by b c)
   best_of_all ls l z best b s = by_place (some_split (Has b) best.before (l ∷ best.behind) (subst (Somewhere (Has b)) best.among s))
     where
       here : (k : List Indexical) (w : ℤ) → Costs M c k w → Has b k → w ≡ cost_by b c
       here k w i h = costs_once M c k w (cost_by b c) i (cost_there M ms c k b is_cost h)
 
       by_place : Somewhere (Has b) best.before ⊎ Somewhere (Has b) (l ∷ best.behind) → IsAsGood wanted z (cost_by b c)
-      by_place (inl h) = each_at (λ k. (w : ℤ) × Costs M c k w × IsBetter wanted z w) best.before (Has b) (IsAsGood wanted z (cost_by b c)) best.earlier h (λ k i j. subst (IsAsGood wanted z) (here k i.0 i.1 j) (better_as_good wanted z i.0 i.2))
+      by_place (inl h) = each_at (λ k. (w : ℤ) × Costs M c k w × IsBetter wanted z w) best.before (Has b) (IsAsGood wanted z (cost_by b c)) best.earlier h
+          (λ k i j. subst (IsAsGood wanted z) (here k i.0 i.1 j) (better_as_good wanted z i.0 i.2))
       by_place (inr (inl h)) = subst (IsAsGood wanted z) (here l z best.costs h) (good_itself wanted z)
-      by_place (inr (inr h)) = each_at (λ k. (w : ℤ) × Costs M c k w × IsAsGood wanted z w) best.behind (Has b) (IsAsGood wanted z (cost_by b c)) best.later h (λ k i j. subst (IsAsGood wanted z) (here k i.0 i.1 j) i.2)
+      by_place (inr (inr h)) = each_at (λ k. (w : ℤ) × Costs M c k w × IsAsGood wanted z w) best.behind (Has b) (IsAsGood wanted z (cost_by b c)) best.later h
+          (λ k i j. subst (IsAsGood wanted z) (here k i.0 i.1 j) i.2)
 
-  best_kept : (o : Order) (ps : List Indexical) (ws : List ℕ) (ls : List (List Indexical)) (found : Option (List ℕ)) → IsWhole M ms ps ws → PostedLeaves M o ms (ps ∷ []) ls → BestValues M wanted c (open_ones ms) ls found → IsBestKept M wanted c (open_ones ms) ps found
+  best_kept : (o : Order) (ps : List Indexical) (ws : List ℕ) (ls : List (List Indexical)) (found : Option (List ℕ)) → IsWhole M ms ps ws
+      → PostedLeaves M o ms (ps ∷ []) ls → BestValues M wanted c (open_ones ms) ls found → IsBestKept M wanted c (open_ones ms) ps found
   best_kept o ps ws ls None whole all e = λ a k. subst (Somewhere (λ l. HaveValues M (open_ones ms) l (map a (open_ones ms)))) e (kept_are_leaves M o ms ps ls all a k)
   best_kept o ps ws ls (Some ns) whole all b =
       let l = b.0 in
@@ -148,7 +153,9 @@ module _ (M : ℕ) (o : Order) (ms : List Member) (c : Member) (wanted : Bool) (
   best_there (l ∷ ls) h = further ls (l ∷ []) l h.0.0 h.0.1 h.1 (first_alone M wanted c l h.0.0 h.0.2) h.0.3
 
   -- and one only
-  same_best : (before before' behind behind' : List (List Indexical)) (l k : List Indexical) (z w : ℤ) → before ++ l ∷ behind ≡ before' ++ k ∷ behind' → Costs M c l z → Costs M c k w → EachCosts M c (IsBetter wanted z) before → EachCosts M c (IsAsGood wanted z) behind → EachCosts M c (IsBetter wanted w) before' → EachCosts M c (IsAsGood wanted w) behind' → l ≡ k
+  same_best : (before before' behind behind' : List (List Indexical)) (l k : List Indexical) (z w : ℤ) → before ++ l ∷ behind ≡ before' ++ k ∷ behind'
+      → Costs M c l z → Costs M c k w → EachCosts M c (IsBetter wanted z) before → EachCosts M c (IsAsGood wanted z) behind
+      → EachCosts M c (IsBetter wanted w) before' → EachCosts M c (IsAsGood wanted w) behind' → l ≡ k
   same_best [] [] behind behind' l k z w e i j a b f g = let h : l ≡ k = cc in h
   same_best [] (x ∷ before') behind behind' l k z w e i j a b f g =
       let first : l ≡ x = cc in

@@ -5,7 +5,7 @@ use Rattle.fd_model.specs.declared.kinds.ConstraintKind.TheVariants.{Compare, An
 use Rattle.fd_language.specs.Term.{Term, Terms, no_terms, term}
 use Rattle.fd_language.specs.Range.{Indexical}
 use Rattle.fd_language.specs.Check.{range_fits}
-use Rattle.fd_model.specs.Closed.{AllPosted}
+use Rattle.fd_model.specs.ClosedFamilies.{AllPosted}
 use Rattle.fd_model.specs.Linear.{Linear, Comparison, IsEqual, IsOther, IsAtMost, scaled, with_product}
 use Rattle.fd_model.specs.LinearRows.{Expansion}
 use Rattle.fd_model.specs.Members.{place_of, after}
@@ -13,7 +13,7 @@ use Rattle.fd_model.specs.ProductRows.{product_form, product_ranges}
 use Rattle.fd_model.specs.BooleanRows.{and_ranges, or_ranges, not_ranges}
 use Rattle.fd_model.specs.ReifiedRows.{reach, equal_ranges, reified_sums, reified_ranges}
 use Rattle.fd_model.specs.Splitting.{Split, sum_rows, joined, of_two, of_three, reified, split}
-use Rattle.fd_model.specs.Constraining.{expand}
+use Rattle.fd_model.specs.ConstraintExpansion.{expand}
 use Rattle.fd_model.specs.ConstraintLaws.{FittingRows}
 use Rattle.fd_model.proofs.LinearForms.{NoneZero, nonzero_left}
 use Rattle.fd_model.proofs.Splits.{expand_ok, of_some, three_ok, two_ok, product_ok, IsAgain, reified_ok}
@@ -28,12 +28,22 @@ module _ (M : ℕ) where
   product_fitting x y z = (record { fits = refl; params = refl }, (record { fits = refl; params = refl }, (record { fits = refl; params = refl }, tt)))
 
   and_fitting : (x y z : ℕ) → Fitting M (and_ranges x y z)
-  and_fitting x y z =
-      (record { fits = refl; params = refl }, (record { fits = refl; params = refl }, (record { fits = refl; params = refl }, (record { fits = refl; params = refl }, (record { fits = refl; params = refl }, tt)))))
+  and_fitting x y z = (
+    record { fits = refl; params = refl },
+    (
+      record { fits = refl; params = refl },
+      (record { fits = refl; params = refl }, (record { fits = refl; params = refl }, (record { fits = refl; params = refl }, tt))),
+    ),
+  )
 
   or_fitting : (x y z : ℕ) → Fitting M (or_ranges x y z)
-  or_fitting x y z =
-      (record { fits = refl; params = refl }, (record { fits = refl; params = refl }, (record { fits = refl; params = refl }, (record { fits = refl; params = refl }, (record { fits = refl; params = refl }, tt)))))
+  or_fitting x y z = (
+    record { fits = refl; params = refl },
+    (
+      record { fits = refl; params = refl },
+      (record { fits = refl; params = refl }, (record { fits = refl; params = refl }, (record { fits = refl; params = refl }, tt))),
+    ),
+  )
 
   not_fitting : (x y : ℕ) → Fitting M (not_ranges x y)
   not_fitting x y = (record { fits = refl; params = refl }, (record { fits = refl; params = refl }, tt))
@@ -49,7 +59,11 @@ module _ (M : ℕ) where
   sums_fitting : (c : Comparison) (x m : ℕ) (l : Linear) (ls : List Linear) → reified_sums M c x m l ≡ Ok ls → Fitting M (sum_rows ls)
   sums_fitting c x m l ls e =
       sums_posted (λ p. IsFitting M p.range) (λ u. NoneZero u.products) (λ u z. rows_fitting M IsAtMost u.constant [] u.products z) ls
-      (sums_each (λ u. NoneZero u.products) M x m l c ls e (λ f k t o w. ((λ u i. again_nonzero (with_product k.products f (pos (reach M l))) (k.constant +ℤ pos (reach M l)) u i), (λ u i. again_nonzero (scaled (negsuc 0) (with_product k.products f (pos (reach M l)))) (neg_ℤ k.constant -ℤ pos 1) u i))))
+      (sums_each (λ u. NoneZero u.products) M x m l c ls e
+      (λ f k t o w. (
+        (λ u i. again_nonzero (with_product k.products f (pos (reach M l))) (k.constant +ℤ pos (reach M l)) u i),
+        (λ u i. again_nonzero (scaled (negsuc 0) (with_product k.products f (pos (reach M l)))) (neg_ℤ k.constant -ℤ pos 1) u i),
+      )))
 
   three_fitting : (rows : ℕ → ℕ → ℕ → List Indexical) → ((x y z : ℕ) → Fitting M (rows x y z)) → (x y z : Term) (n : ℕ) (s : Split) → of_three rows x y z n ≡ Ok s → Fitting M (joined s).ranges
   three_fitting rows fit x y z n s e =

@@ -1,17 +1,18 @@
 -- The variables that the ranges of products and Boolean constraints name.
-use Rattle.std.proofs.Common.{◌≡◌, ℕ, suc, true, ◌==◌, ℤ, pos, negsuc, ◌+ℤ◌, ◌-ℤ◌, neg_ℤ, List, [], ◌∷◌, ◌++◌, refl, sym, subst, inl, inr, ◌⊎◌, arith, eqb-true, eq-eqb, Ok}
+use Rattle.std.proofs.Common.{◌≡◌, ℕ, suc, true, ◌==◌, ℤ, pos, negsuc, ◌+ℤ◌, ◌-ℤ◌, neg_ℤ, List, [], ◌∷◌, ◌++◌, refl, sym, subst, inl, inr, ◌⊎◌, arith, eqb-true}
+use Rattle.std.proofs.Common.{eq-eqb, Ok}
 use Rattle.std.proofs.lemmas.Bool.{or_cases, or_left, true≢false}
 use Rattle.fd_language.specs.Lists.{Each}
 use Rattle.fd_language.specs.Family.{has}
 use Rattle.fd_language.specs.Range.{Indexical, reads}
-use Rattle.fd_model.specs.Closed.{constrained}
+use Rattle.fd_model.specs.ClosedFamilies.{constrained}
 use Rattle.fd_model.specs.Linear.{Linear, Comparison, IsEqual, IsOther, IsAtMost, scaled, turned, with_product}
 use Rattle.fd_model.specs.LinearRows.{rows_behind}
 use Rattle.fd_model.specs.ProductRows.{product, quotient, product_ranges}
 use Rattle.fd_model.specs.BooleanRows.{bit, and_ranges, or_ranges, not_ranges, conjunct, disjunction, disjunct, negation}
 use Rattle.fd_model.specs.ReifiedRows.{reach, equal_ranges, reified_sums, reified_ranges}
 use Rattle.fd_model.specs.Splitting.{sum_rows}
-use Rattle.fd_model.proofs.Determining.{NamesIn, names_one}
+use Rattle.fd_model.proofs.DeterminedValues.{NamesIn, names_one}
 use Rattle.fd_model.proofs.RowNames.{AllVars, vars_product, vars_scaled, vars_nonzero, rows_names}
 use Rattle.fd_model.proofs.ListNames.{names_append, named_right, none_named}
 use Rattle.fd_model.proofs.Splits.{IsAgain}
@@ -76,7 +77,8 @@ module _ (P : ℕ → Type 0) where
   range_names IsEqual x m h = equal_names x m (suc m) (h x (inl refl)) (h m (inr (omega arith, omega arith))) (h (suc m) (inr (omega arith, omega arith)))
   range_names IsOther x m h =
       let one = h m (inr (omega arith, omega arith)) in
-      names_append P (equal_ranges m (suc m) (suc (suc m))) (not_ranges m x) (equal_names m (suc m) (suc (suc m)) one (h (suc m) (inr (omega arith, omega arith))) (h (suc (suc m)) (inr (omega arith, omega arith))))
+      names_append P (equal_ranges m (suc m) (suc (suc m))) (not_ranges m x)
+      (equal_names m (suc m) (suc (suc m)) one (h (suc m) (inr (omega arith, omega arith))) (h (suc (suc m)) (inr (omega arith, omega arith))))
       (not_names m x (one, (h x (inl refl), tt)))
 
   sums_names : (ls : List Linear) → AllSums (λ u. AllVars P u.products) ls → NamesIn P (sum_rows ls)
@@ -91,11 +93,15 @@ module _ (P : ℕ → Type 0) where
   either_vars k l h (inr e) = subst (λ (m : Linear). AllVars P m.products) (sym e) (vars_scaled P (negsuc 0) l.products h)
 
   -- all that the ranges name
-  pub reified_names : (M : ℕ) (c : Comparison) (x m : ℕ) (l : Linear) (ls : List Linear) → reified_sums M c x m l ≡ Ok ls → AllVars P l.products → ((f : ℕ) → IsTeller c x m f → P f) → NamesIn P (reified_ranges c x m ++ sum_rows ls)
+  pub reified_names : (M : ℕ) (c : Comparison) (x m : ℕ) (l : Linear) (ls : List Linear) → reified_sums M c x m l ≡ Ok ls → AllVars P l.products
+      → ((f : ℕ) → IsTeller c x m f → P f) → NamesIn P (reified_ranges c x m ++ sum_rows ls)
   reified_names M c x m l ls e vars h = names_append P (reified_ranges c x m) (sum_rows ls) (range_names c x m h) (sums_names ls
       (sums_each (λ u. AllVars P u.products) M x m l c ls e (λ f k t o w.
-      let v = vars_product P k.products f (pos (reach M l)) (either_vars k l vars o) (h f t) in
-      ((λ u i. again_vars (with_product k.products f (pos (reach M l))) (k.constant +ℤ pos (reach M l)) u i v), (λ u i. again_vars (scaled (negsuc 0) (with_product k.products f (pos (reach M l)))) (neg_ℤ k.constant -ℤ pos 1) u i (vars_scaled P (negsuc 0) (with_product k.products f (pos (reach M l))) v))))))
+      let v = vars_product P k.products f (pos (reach M l)) (either_vars k l vars o) (h f t) in (
+        (λ u i. again_vars (with_product k.products f (pos (reach M l))) (k.constant +ℤ pos (reach M l)) u i v),
+        (λ u i. again_vars (scaled (negsuc 0) (with_product k.products f (pos (reach M l)))) (neg_ℤ k.constant -ℤ pos 1) u i
+            (vars_scaled P (negsuc 0) (with_product k.products f (pos (reach M l))) v)),
+      ))))
 
 -- and what they do name
 abbrev pub AreThere : List Indexical → List ℕ → Type 0

@@ -17,8 +17,8 @@ use Rattle.fd_model.specs.BooleanRows.{and_ranges, or_ranges, not_ranges}
 use Rattle.fd_model.specs.ReifiedRows.{reified_ranges, reified_end}
 use Rattle.fd_model.specs.Splitting.{Split, sum_rows, joined, on_members, of_three, of_two, reified, split}
 use Rattle.fd_model.specs.ConstraintLaws.{IsScoped, ScopedRows}
-use Rattle.fd_model.proofs.Placing.{fresh_grows}
-use Rattle.fd_model.proofs.Determining.{NamesIn}
+use Rattle.fd_model.proofs.FreshVariables.{fresh_grows}
+use Rattle.fd_model.proofs.DeterminedValues.{NamesIn}
 use Rattle.fd_model.proofs.RowNames.{EachVariable}
 use Rattle.fd_model.proofs.ListNames.{names_append, named_left, none_named, equated_named}
 use Rattle.fd_model.proofs.RowScopes.{all_vars, MembersIn, member_in, placed_scoped, equated_scoped, wider, basic_scoped}
@@ -26,7 +26,8 @@ use Rattle.fd_model.proofs.Splits.{expand_ok, of_some, three_ok, two_ok, product
 use Rattle.fd_model.proofs.SplitSums.{IsTeller}
 use Rattle.fd_model.proofs.MemberRewriting.{member_term, HasForm, IsProductForm, product_form_ok, factor_members}
 use Rattle.fd_model.proofs.ReifiedRewriting.{form_vars}
-use Rattle.fd_model.proofs.SplitNames.{each_there, AreThere, product_names, and_names, or_names, not_names, reified_names, product_there, and_there, or_there, not_there, teller_there}
+use Rattle.fd_model.proofs.SplitNames.{each_there, AreThere, product_names, and_names, or_names, not_names, reified_names, product_there, and_there, or_there}
+use Rattle.fd_model.proofs.SplitNames.{not_there, teller_there}
 
 -- ranges on members
 members_scoped : (ts : Terms) (n : ℕ) (ms : List Member) (ps : List Indexical) → MembersIn (λ v. has (variables_of_all ts) v ≡ true) ms
@@ -65,7 +66,8 @@ three_scoped rows names there x y z n s h =
     let Q : ℕ → Type 0 = λ v. has (variables_of x ++ (variables_of y ++ (variables_of z ++ []))) v ≡ true in
     let inside = member_in Q x k.first (k.second ∷ k.third ∷ []) (λ v e. in_left (variables_of x) (variables_of y ++ (variables_of z ++ [])) v e) k.from_first
     (member_in Q y k.second (k.third ∷ []) (λ v e. in_right (variables_of x) (variables_of y ++ (variables_of z ++ [])) v (in_left (variables_of y) (variables_of z ++ []) v e)) k.from_second
-    (member_in Q z k.third [] (λ v e. in_right (variables_of x) (variables_of y ++ (variables_of z ++ [])) v (in_right (variables_of y) (variables_of z ++ []) v (in_left (variables_of z) [] v e))) k.from_third tt)) in
+    (member_in Q z k.third [] (λ v e. in_right (variables_of x) (variables_of y ++ (variables_of z ++ [])) v
+    (in_right (variables_of y) (variables_of z ++ []) v (in_left (variables_of z) [] v e))) k.from_third tt)) in
     subst (λ q. IsScoped (term x (term y (term z no_terms))) n (joined q)) k.is
     (members_scoped (term x (term y (term z no_terms))) n ms (rows u v w) inside (λ P e. names P u v w e) (there u v w))
 
@@ -80,11 +82,13 @@ two_scoped x y n s h =
     (members_scoped (term x (term y no_terms)) n ms (not_ranges (place_of n k.first) (place_of (after n k.first) k.second)) inside
     (λ P e. not_names P (place_of n k.first) (place_of (after n k.first) k.second) e) (not_there (place_of n k.first) (place_of (after n k.first) k.second)))
 
-product_scoped : (r : Relation) (s t : Term) (n : ℕ) (p : Product) → product_form r s t ≡ Some p → IsScoped (term s (term t no_terms)) n (joined (on_members n (factor_members p) (product_ranges p.left p.right (place_of n p.result))))
+product_scoped : (r : Relation) (s t : Term) (n : ℕ) (p : Product) → product_form r s t ≡ Some p
+    → IsScoped (term s (term t no_terms)) n (joined (on_members n (factor_members p) (product_ranges p.left p.right (place_of n p.result))))
 product_scoped r s t n p e =
     let Q : ℕ → Type 0 = λ v. has (variables_of s ++ (variables_of t ++ [])) v ≡ true in
     members_scoped (term s (term t no_terms)) n (factor_members p) (product_ranges p.left p.right (place_of n p.result))
-    (product_in Q r s t p (product_form_ok r s t p e) (λ v h. in_left (variables_of s) (variables_of t ++ []) v h) (λ v h. in_right (variables_of s) (variables_of t ++ []) v (in_left (variables_of t) [] v h)))
+    (product_in Q r s t p (product_form_ok r s t p e) (λ v h. in_left (variables_of s) (variables_of t ++ []) v h)
+    (λ v h. in_right (variables_of s) (variables_of t ++ []) v (in_left (variables_of t) [] v h)))
     (λ P h. product_names P p.left p.right (place_of n p.result) h) (product_there p.left p.right (place_of n p.result))
 
 end_grows : (c : Comparison) (m : ℕ) → m ≤ reified_end c m

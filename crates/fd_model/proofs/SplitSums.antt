@@ -1,7 +1,7 @@
 -- The sums of a comparison that is told, one by one.
 use Rattle.std.proofs.Common.{◌≡◌, ℕ, suc, ◌≤◌, ◌<◌, true, ℤ, pos, negsuc, ◌+ℤ◌, ◌-ℤ◌, neg_ℤ, List, [], ◌∷◌, ◌++◌, refl, subst, inl, inr, ◌⊎◌, arith, Ok}
 use Rattle.fd_language.specs.Range.{Indexical}
-use Rattle.fd_model.specs.Closed.{AllPosted}
+use Rattle.fd_model.specs.ClosedFamilies.{AllPosted}
 use Rattle.fd_model.specs.Linear.{Linear, Comparison, IsEqual, IsOther, IsAtMost, turned, scaled, with_product, in_integers}
 use Rattle.fd_model.specs.LinearRows.{rows_behind}
 use Rattle.fd_model.specs.ReifiedRows.{reach, reified_sums, reified_end}
@@ -40,7 +40,8 @@ module _ (G : Linear → Type 0) (M : ℕ) (x m : ℕ) (l : Linear) where
       let i = both_told_ok m (suc m) (pos (reach M l)) l ls e in
       let g = each m l (inr (omega arith, omega arith)) (inl refl) i.from_first.within in
       let h = each (suc m) (turned l) (inr (omega arith, omega arith)) (inr refl) i.from_second.within in
-      subst (AllSums G) i.are (sums_append G i.first i.second (told_each G m (pos (reach M l)) l i.first i.from_first g.0 g.1) (told_each G (suc m) (pos (reach M l)) (turned l) i.second i.from_second h.0 h.1))
+      subst (AllSums G) i.are (sums_append G i.first i.second (told_each G m (pos (reach M l)) l i.first i.from_first g.0 g.1)
+      (told_each G (suc m) (pos (reach M l)) (turned l) i.second i.from_second h.0 h.1))
   sums_each IsOther ls e each =
       let i = both_told_ok (suc m) (suc (suc m)) (pos (reach M l)) l ls e in
       let g = each (suc m) l (inr (omega arith, omega arith)) (inl refl) i.from_first.within in
@@ -53,6 +54,7 @@ posted_append H [] qs h g = g
 posted_append H (p ∷ ps) qs h g = (h.0, posted_append H ps qs h.1 g)
 
 -- what holds of the rows of each
-pub sums_posted : (H : Indexical → Type 0) (G : Linear → Type 0) → ((l : Linear) → G l → AllPosted H (rows_behind IsAtMost l.constant [] l.products)) → (ls : List Linear) → AllSums G ls → AllPosted H (sum_rows ls)
+pub sums_posted : (H : Indexical → Type 0) (G : Linear → Type 0) → ((l : Linear) → G l → AllPosted H (rows_behind IsAtMost l.constant [] l.products))
+    → (ls : List Linear) → AllSums G ls → AllPosted H (sum_rows ls)
 sums_posted H G f [] h = tt
 sums_posted H G f (l ∷ ls) h = posted_append H (rows_behind IsAtMost l.constant [] l.products) (sum_rows ls) (f l h.0) (sums_posted H G f ls h.1)

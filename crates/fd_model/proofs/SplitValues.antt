@@ -1,5 +1,6 @@
 -- Where what is not added has one value, so have all the variables that the ranges of a product or a Boolean constraint name.
-use Rattle.std.proofs.Common.{◌≡◌, ℕ, suc, ◌+◌, ◌*◌, ◌≤◌, ◌<◌, Bool, true, false, cond, ◌==◌, ℤ, pos, negsuc, ◌+ℤ◌, ◌-ℤ◌, ◌*ℤ◌, neg_ℤ, int_le, nat_abs, List, [], ◌∷◌, ◌++◌, Some, append_assoc, refl, ap, sym, ◌∙◌, subst, inl, inr, ◌⊎◌, arith, eqb-true, eq-eqb, Ok}
+use Rattle.std.proofs.Common.{◌≡◌, ℕ, suc, ◌+◌, ◌*◌, ◌≤◌, ◌<◌, Bool, true, false, cond, ◌==◌, ℤ, pos, negsuc, ◌+ℤ◌, ◌-ℤ◌, ◌*ℤ◌, neg_ℤ, int_le, nat_abs, List}
+use Rattle.std.proofs.Common.{[], ◌∷◌, ◌++◌, Some, append_assoc, refl, ap, sym, ◌∙◌, subst, inl, inr, ◌⊎◌, arith, eqb-true, eq-eqb, Ok}
 use Rattle.std.specs.Ordering.{int_eq}
 use Rattle.std.proofs.lemmas.Int.{ints}
 use Rattle.std.proofs.lemmas.Bool.{or_cases, or_left, true≢false, cases_Bool}
@@ -11,7 +12,7 @@ use Rattle.fd_language.specs.Variables.{TermBelow, TermsBelow}
 use Rattle.fd_language.specs.Lists.{Each}
 use Rattle.fd_language.specs.Family.{Family, has, IsFamily, IsSubset}
 use Rattle.fd_language.specs.Range.{Range, Indexical, set_of, reads, least}
-use Rattle.fd_model.specs.Closed.{constrained, AllPosted}
+use Rattle.fd_model.specs.ClosedFamilies.{constrained, AllPosted}
 use Rattle.fd_model.specs.Linear.{Linear, Comparison, IsEqual, IsOther, IsAtMost, scaled, turned, with_product, nonzero}
 use Rattle.fd_model.specs.LinearRows.{Expansion, row_by_sign, rows_behind}
 use Rattle.fd_model.specs.Members.{Member, place_of, after, placed}
@@ -19,22 +20,23 @@ use Rattle.fd_model.specs.ProductRows.{Product, product, product_form, product_r
 use Rattle.fd_model.specs.BooleanRows.{bit, and_ranges, or_ranges, not_ranges}
 use Rattle.fd_model.specs.ReifiedRows.{reach, equal_ranges, reified_sums, reified_ranges}
 use Rattle.fd_model.specs.Splitting.{Split, sum_rows, joined, on_members, product_split, of_three, of_two, reified, split}
-use Rattle.fd_model.specs.Constraining.{expand}
-use Rattle.fd_model.specs.Satisfies.{Assignment, singles}
+use Rattle.fd_model.specs.ConstraintExpansion.{expand}
+use Rattle.fd_model.specs.Satisfaction.{Assignment, singles}
 use Rattle.fd_model.specs.Ways.{is_equated}
 use Rattle.fd_model.specs.ConstraintLaws.{total, AllEquatedIn, AllFresh, Determined}
 use Rattle.fd_language.proofs.Lemmas.{has_high, set_agree, least_small}
 use Rattle.fd_model.proofs.Sums.{total-with_product, total-scaled}
-use Rattle.fd_model.proofs.Comparing.{collect_nonzero, normal_nonzero}
+use Rattle.fd_model.proofs.ComparisonRows.{collect_nonzero, normal_nonzero}
 use Rattle.fd_model.proofs.LinearForms.{NoneZero, nonzero_scaled, one_row}
 use Rattle.fd_model.proofs.RowWidths.{weight}
-use Rattle.fd_model.proofs.Placing.{MembersBelow, member_read, changed, changed_here, changed_other, changed_small, fresh_grows}
-use Rattle.fd_model.proofs.Determining.{NamesIn, single_from, IsOne, AllNamed, determined_by}
+use Rattle.fd_model.proofs.FreshVariables.{MembersBelow, member_read, changed, changed_here, changed_other, changed_small, fresh_grows}
+use Rattle.fd_model.proofs.DeterminedValues.{NamesIn, single_from, IsOne, AllNamed, determined_by}
 use Rattle.fd_model.proofs.RowNames.{AllVars, each_below, signed_names, vars_scaled}
 use Rattle.fd_model.proofs.ListNames.{posted_left, posted_right, named_left, named_right, names_append, none_named, one_named, named_either}
 use Rattle.fd_model.proofs.RowScopes.{all_vars}
 use Rattle.fd_model.proofs.OneValues.{IsOld, HasOne, IfNamed, names_all, placed_one, one_integer, basic_one}
-use Rattle.fd_model.proofs.Splits.{expand_ok, of_some, three_ok, two_ok, product_ok, rows_joined, IsTold, AreBothTold, both_told_ok, IsComparison, reified_ok, told_split}
+use Rattle.fd_model.proofs.Splits.{expand_ok, of_some, three_ok, two_ok, product_ok, rows_joined, IsTold, AreBothTold, both_told_ok, IsComparison, reified_ok}
+use Rattle.fd_model.proofs.Splits.{told_split}
 use Rattle.fd_model.proofs.BooleanRows.{inside_bit, from_between, at}
 use Rattle.fd_model.proofs.ReifiedSums.{truth, told_is, total_size, reach_far, reach_turned}
 use Rattle.fd_model.proofs.MemberRewriting.{product_form_ok, factor_members, product_below}
@@ -114,7 +116,8 @@ module _ (M : ℕ) (S : Family) (family : IsFamily M S) where
       subst (λ k. has (set_of M (singles b) r) k ≡ true) (sym (changed_here (λ v. least (S v)) f j)) (subst (λ xs. has xs j ≡ true) same (sub.each j h))
 
   -- the last row of a sum
-  last_told : (c : ℤ) (f : ℕ) (w : ℤ) → (w ≡ pos 0 → ⊥) → (j : ℕ) → has (S f) j ≡ true → (before ts : List (ℕ × ℤ)) → AllVars (λ v. (v ≡ f → ⊥) × IsOne S v) before → AllVars (λ v. (v ≡ f → ⊥) × IsOne S v) ts
+  last_told : (c : ℤ) (f : ℕ) (w : ℤ) → (w ≡ pos 0 → ⊥) → (j : ℕ) → has (S f) j ≡ true → (before ts : List (ℕ × ℤ))
+      → AllVars (λ v. (v ≡ f → ⊥) × IsOne S v) before → AllVars (λ v. (v ≡ f → ⊥) × IsOne S v) ts
       → Inside (rows_behind IsAtMost c before (ts ++ (f, w) ∷ [])) → int_le (total (changed (λ v. least (S v)) f j) (before ++ (ts ++ (f, w) ∷ []))) c ≡ true
   last_told c f w some j h before [] hb ht i =
       let b : Assignment = changed (λ v. least (S v)) f j in
@@ -131,7 +134,8 @@ module _ (M : ℕ) (S : Family) (family : IsFamily M S) where
       let e = range_told f j (bit f).range (λ v e. absurd (cc)) sub h in
       subst (λ k. k ≤ 1) (changed_here (λ v. least (S v)) f j) (inside_bit M (changed (λ v. least (S v)) f j) (valued_small f j h) f e)
 
-  module _ (n f : ℕ) (high : n ≤ f) (w : ℕ) (l : Linear) (far : weight M l.products + nat_abs l.constant < w) (none : NoneZero l.products) (vars : AllVars (λ v. v < n) l.products) (ones : AllVars (IsOne S) l.products) (ls : List Linear)
+  module _ (n f : ℕ) (high : n ≤ f) (w : ℕ) (l : Linear) (far : weight M l.products + nat_abs l.constant < w) (none : NoneZero l.products)
+      (vars : AllVars (λ v. v < n) l.products) (ones : AllVars (IsOne S) l.products) (ls : List Linear)
       (told : IsTold f (pos w) l ls) (posted : Inside (sum_rows ls)) where
     others : (ts : List (ℕ × ℤ)) → AllVars (λ v. v < n) ts → AllVars (IsOne S) ts → AllVars (λ v. (v ≡ f → ⊥) × IsOne S v) ts
     others [] h g = tt
@@ -156,7 +160,9 @@ module _ (M : ℕ) (S : Family) (family : IsFamily M S) where
     under_is : nonzero (scaled (negsuc 0) (with_product l.products f (pos w))) ≡ scaled (negsuc 0) l.products ++ (f, negsuc 0 *ℤ pos w) ∷ []
     under_is =
         ap (λ us. nonzero (scaled (negsuc 0) us)) behind
-        ∙ (ap nonzero (scaled_last (negsuc 0) l.products (f, pos w)) ∙ none_dropped (scaled (negsuc 0) l.products ++ (f, negsuc 0 *ℤ pos w) ∷ []) (none_zero_last (scaled (negsuc 0) l.products) (f, negsuc 0 *ℤ pos w) (nonzero_scaled l.products none) turned_some))
+        ∙ (ap nonzero (scaled_last (negsuc 0) l.products (f, pos w))
+        ∙ none_dropped (scaled (negsuc 0) l.products ++ (f, negsuc 0 *ℤ pos w) ∷ [])
+        (none_zero_last (scaled (negsuc 0) l.products) (f, negsuc 0 *ℤ pos w) (nonzero_scaled l.products none) turned_some))
 
     both_rows : Inside (sum_rows (told.over ∷ told.under ∷ []))
     both_rows = subst (λ ms. Inside (sum_rows ms)) (sym told.are) posted
@@ -224,7 +230,8 @@ module _ (M n : ℕ) (S : Family) (family : IsFamily M S) where
 
   product_one : (r : Relation) (s t : Term) (p : Product) → TermBelow n s → TermBelow n t → product_form r s t ≡ Some p → HasOne M n S family (joined (product_split n p))
   product_one r s t p bs bt e =
-      members_one (factor_members p) (product_ranges p.left p.right (place_of n p.result)) (λ P h. product_names P p.left p.right (place_of n p.result) h) (product_below n r s t p (product_form_ok r s t p e) bs bt)
+      members_one (factor_members p) (product_ranges p.left p.right (place_of n p.result)) (λ P h. product_names P p.left p.right (place_of n p.result) h)
+      (product_below n r s t p (product_form_ok r s t p e) bs bt)
 
   three_one : (rows : ℕ → ℕ → ℕ → List Indexical) → ((P : ℕ → Type 0) (x y z : ℕ) → Each P (x ∷ y ∷ z ∷ []) → NamesIn P (rows x y z))
       → (x y z : Term) (s : Split) → TermBelow n x → TermBelow n y → TermBelow n z → of_three rows x y z n ≡ Ok s → HasOne M n S family (joined s)
@@ -232,7 +239,8 @@ module _ (M n : ℕ) (S : Family) (family : IsFamily M S) where
       let k = three_ok rows x y z n s h in
       let ms : List Member = k.first ∷ k.second ∷ k.third ∷ [] in
       subst (λ q. HasOne M n S family (joined q)) k.is
-      (members_one ms (rows (place_of n k.first) (place_of (after n k.first) k.second) (place_of (after (after n k.first) k.second) k.third)) (λ P e. names P (place_of n k.first) (place_of (after n k.first) k.second) (place_of (after (after n k.first) k.second) k.third) e)
+      (members_one ms (rows (place_of n k.first) (place_of (after n k.first) k.second) (place_of (after (after n k.first) k.second) k.third))
+      (λ P e. names P (place_of n k.first) (place_of (after n k.first) k.second) (place_of (after (after n k.first) k.second) k.third) e)
       ((member_read n (λ v. 0) x k.first k.from_first).below bx, ((member_read n (λ v. 0) y k.second k.from_second).below by, ((member_read n (λ v. 0) z k.third k.from_third).below bz, tt))))
 
   two_one : (x y : Term) (s : Split) → TermBelow n x → TermBelow n y → of_two not_ranges x y n ≡ Ok s → HasOne M n S family (joined s)
@@ -244,29 +252,34 @@ module _ (M n : ℕ) (S : Family) (family : IsFamily M S) where
       ((member_read n (λ v. 0) x k.first k.from_first).below bx, ((member_read n (λ v. 0) y k.second k.from_second).below by, tt)))
 
   -- both parts of an equality, told by f and g
-  parts_one : (f g : ℕ) → n ≤ f → n ≤ g → (l : Linear) → NoneZero l.products → AllVars (λ v. v < n) l.products → AllVars (IsOne S) l.products → (ls : List Linear) → AreBothTold f g (pos (reach M l)) l ls
+  parts_one : (f g : ℕ) → n ≤ f → n ≤ g → (l : Linear) → NoneZero l.products → AllVars (λ v. v < n) l.products → AllVars (IsOne S) l.products
+      → (ls : List Linear) → AreBothTold f g (pos (reach M l)) l ls
       → AllPosted (λ p. IsSubset (S p.target) (set_of M S p.range)) (sum_rows ls) → IsSubset (S f) (set_of M S (bit f).range) → IsSubset (S g) (set_of M S (bit g).range)
       → (i j : ℕ) → has (S f) i ≡ true → has (S g) j ≡ true → IsOne S f × IsOne S g
   parts_one f g lf lg l none vars ones ls i posted bf bg u v hu hv =
       let H : Indexical → Type 0 = λ p. IsSubset (S p.target) (set_of M S p.range) in
       let all : AllPosted H (sum_rows i.first ++ sum_rows i.second) = subst (AllPosted H) (rows_joined i.first i.second) (subst (λ ms. AllPosted H (sum_rows ms)) (sym i.are) posted) in (
         teller_one M S family n f lf (reach M l) l (reach_far M l) none vars ones i.first i.from_first (posted_left H (sum_rows i.first) (sum_rows i.second) all) bf u hu,
-        teller_one M S family n g lg (reach M l) (turned l) (reach_turned M l) (nonzero_scaled l.products none) (vars_scaled (λ v. v < n) (negsuc 0) l.products vars) (vars_scaled (IsOne S) (negsuc 0) l.products ones) i.second i.from_second
+        teller_one M S family n g lg (reach M l) (turned l) (reach_turned M l) (nonzero_scaled l.products none)
+            (vars_scaled (λ v. v < n) (negsuc 0) l.products vars) (vars_scaled (IsOne S) (negsuc 0) l.products ones) i.second i.from_second
             (posted_right H (sum_rows i.first) (sum_rows i.second) all) bg v hv,
       )
 
   -- the variables of the form are named by the sums
-  vars_there : (f g : ℕ) → n ≤ f → (w : ℤ) → (w ≡ pos 0 → ⊥) → (l : Linear) → NoneZero l.products → AllVars (λ v. v < n) l.products → (ls : List Linear) → AreBothTold f g w l ls → AllVars (λ v. has (constrained (sum_rows ls)) v ≡ true) l.products
+  vars_there : (f g : ℕ) → n ≤ f → (w : ℤ) → (w ≡ pos 0 → ⊥) → (l : Linear) → NoneZero l.products → AllVars (λ v. v < n) l.products → (ls : List Linear)
+      → AreBothTold f g w l ls → AllVars (λ v. has (constrained (sum_rows ls)) v ≡ true) l.products
   vars_there f g lf w some l none vars ls i =
       let k = i.from_first in
       let over = rows_behind IsAtMost k.over.constant [] k.over.products in
       let e : nonzero (with_product l.products f w) ≡ l.products ++ (f, w) ∷ [] =
       ap nonzero (added_last l.products f w (not_it l.products vars)) ∙ none_dropped (l.products ++ (f, w) ∷ []) (none_zero_last l.products (f, w) none some) in
       let p : k.over.products ≡ l.products ++ (f, w) ∷ [] = ap (λ (m : Linear). m.products) (sym k.from_over.is) ∙ e in
-      let h = vars_front (λ v. has (constrained over) v ≡ true) l.products ((f, w) ∷ []) (subst (AllVars (λ v. has (constrained over) v ≡ true)) p (rows_there IsAtMost k.over.constant [] k.over.products)) in
+      let h = vars_front (λ v. has (constrained over) v ≡ true) l.products ((f, w) ∷ [])
+      (subst (AllVars (λ v. has (constrained over) v ≡ true)) p (rows_there IsAtMost k.over.constant [] k.over.products)) in
       subst (λ ms. AllVars (λ v. has (constrained (sum_rows ms)) v ≡ true) l.products) i.are
       (subst (λ ms. AllVars (λ v. has (constrained (sum_rows (ms ++ i.second))) v ≡ true) l.products) k.are
-      (all_vars (λ v. has (constrained over) v ≡ true) (λ v. has (constrained (sum_rows (k.over ∷ k.under ∷ i.second))) v ≡ true) (λ v e. named_left over (sum_rows (k.under ∷ i.second)) v e) l.products h)) where
+      (all_vars (λ v. has (constrained over) v ≡ true) (λ v. has (constrained (sum_rows (k.over ∷ k.under ∷ i.second))) v ≡ true)
+      (λ v e. named_left over (sum_rows (k.under ∷ i.second)) v e) l.products h)) where
         not_it : (ts : List (ℕ × ℤ)) → AllVars (λ v. v < n) ts → AllVars (λ v. v ≡ f → ⊥) ts
         not_it [] h = tt
         not_it (t ∷ ts) h = ((λ e. absurd (let k = h.0 in omega arith)), not_it ts h.1)
@@ -295,11 +308,13 @@ module _ (M n : ℕ) (S : Family) (family : IsFamily M S) where
     grows = fresh_grows (m ∷ []) n
 
     named : (c : Comparison) → ((v : ℕ) → has (constrained (rows_of c).ranges) v ≡ true → IsOld n (rows_of c).equated v → IsOne S v) → IsOne S (place_of n m)
-    named c old = (placed_one M n S family (m ∷ []) (rows_of c) refl low old).0 (named_left (reified_ranges c (place_of n m) (after n m)) (sum_rows ls) (place_of n m) (teller_there c (place_of n m) (after n m)))
+    named c old = (placed_one M n S family (m ∷ []) (rows_of c) refl low old).0
+        (named_left (reified_ranges c (place_of n m) (after n m)) (sum_rows ls) (place_of n m) (teller_there c (place_of n m) (after n m)))
 
     ones_of : (c : Comparison) → ((v : ℕ) → has (constrained (rows_of c).ranges) v ≡ true → IsOld n (rows_of c).equated v → IsOne S v)
         → AllVars (λ v. has (constrained (sum_rows ls)) v ≡ true) l.products → AllVars (IsOne S) l.products
-    ones_of c old h = vars_both (λ v. v < n) (λ v. has (constrained (sum_rows ls)) v ≡ true) (IsOne S) (λ v i e. old v (named_right (reified_ranges c (place_of n m) (after n m)) (sum_rows ls) v e) (inl i)) l.products vars h
+    ones_of c old h = vars_both (λ v. v < n) (λ v. has (constrained (sum_rows ls)) v ≡ true) (IsOne S)
+        (λ v i e. old v (named_right (reified_ranges c (place_of n m) (after n m)) (sum_rows ls) v e) (inl i)) l.products vars h
 
     told_one : (c : Comparison) → reified_sums M c (place_of n m) (after n m) l ≡ Ok ls → HasOne M n S family (rows_of c)
     told_one IsAtMost e posted some old =
@@ -362,7 +377,8 @@ module _ (M n : ℕ) (S : Family) (family : IsFamily M S) where
   reified_one b k s bb bk h =
       let g = reified_ok M b k n s h in
       subst (λ q. HasOne M n S family (joined q)) g.is
-      (told_one g.teller ((member_read n (λ v. 0) b g.teller g.from_teller).below bb, tt) g.form (form_nonzero k (g.kind, g.form) g.from_term) (form_vars (λ v. v < n) k g.kind g.form g.from_term (each_below n k bk)) g.sums g.kind g.sums_are)
+      (told_one g.teller ((member_read n (λ v. 0) b g.teller g.from_teller).below bb, tt) g.form (form_nonzero k (g.kind, g.form) g.from_term)
+      (form_vars (λ v. v < n) k g.kind g.form g.from_term (each_below n k bk)) g.sums g.kind g.sums_are)
 
   split_one : (kind : ConstraintKind) (ts : Terms) (s : Split) → TermsBelow n ts → split M kind ts n ≡ Some (Ok s) → HasOne M n S family (joined s)
   split_one (Compare r) (term t (term u no_terms)) s b e =

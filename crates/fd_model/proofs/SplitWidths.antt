@@ -1,5 +1,6 @@
 -- The rows of products and Boolean constraints keep the limit of width, and all rows are accepted.
-use Rattle.std.proofs.Common.{◌≡◌, ℕ, suc, ◌+◌, ◌*◌, ◌^◌, ◌≤◌, ◌<◌, max, true, not, ℤ, pos, negsuc, ◌+ℤ◌, ◌-ℤ◌, neg_ℤ, nat_abs, List, [], length, Some, refl, sym, subst, inl, inr, ◌⊎◌, arith, Ok, mul-le-mul}
+use Rattle.std.proofs.Common.{◌≡◌, ℕ, suc, ◌+◌, ◌*◌, ◌^◌, ◌≤◌, ◌<◌, max, true, not, ℤ, pos, negsuc, ◌+ℤ◌, ◌-ℤ◌, neg_ℤ, nat_abs, List, [], length, Some, refl}
+use Rattle.std.proofs.Common.{sym, subst, inl, inr, ◌⊎◌, arith, Ok, mul-le-mul}
 use Rattle.fd_model.specs.declared.kinds.ConstraintKind.{ConstraintKind}
 use Rattle.fd_model.specs.declared.kinds.ConstraintKind.TheVariants.{Compare, And, Or, Not, Reified}
 use Rattle.fd_language.specs.Term.{Term, Terms, no_terms, term}
@@ -12,11 +13,12 @@ use Rattle.fd_model.specs.ProductRows.{product, quotient, product_form, product_
 use Rattle.fd_model.specs.BooleanRows.{and_ranges, or_ranges, not_ranges, conjunct, disjunction, disjunct, negation}
 use Rattle.fd_model.specs.ReifiedRows.{reach, equal_ranges, reified_sums, reified_ranges}
 use Rattle.fd_model.specs.Splitting.{Split, sum_rows, joined, of_two, of_three, reified, split}
-use Rattle.fd_model.specs.Constraining.{expand}
+use Rattle.fd_model.specs.ConstraintExpansion.{expand}
 use Rattle.fd_model.specs.ConstraintLaws.{HaveIntegers, HasShortLists, AcceptedRows}
 use Rattle.fd_model.proofs.LinearForms.{NoneZero, nonzero_left}
 use Rattle.fd_model.proofs.RowWidths.{under, weight, weight_product, weight_nonzero, weight-scaled, AreNarrow, rows_within}
-use Rattle.fd_model.proofs.CompareWidths.{integer_size, nonzero_integers, integers_narrow, weight_most, most, AreRows, collect_sizes, normal_sizes, within, Within}
+use Rattle.fd_model.proofs.CompareWidths.{integer_size, nonzero_integers, integers_narrow, weight_most, most, AreRows, collect_sizes, normal_sizes, within}
+use Rattle.fd_model.proofs.CompareWidths.{Within}
 use Rattle.fd_model.proofs.ListWidths.{limit, append_within, basic_within, all_accepted}
 use Rattle.fd_model.proofs.Splits.{expand_ok, of_some, three_ok, two_ok, product_ok, IsAgain, IsComparison, reified_ok}
 use Rattle.fd_model.proofs.SplitSums.{sums_each, sums_posted}
@@ -111,10 +113,14 @@ module _ (M : ℕ) (small : M < 2 ^ 28) where
   sums_within c x m l ls r e =
       sums_posted (λ p. range_within M p.range ≡ true) IsNarrowSum (λ u i. rows_within M (within M small) IsAtMost u.constant [] u.products i.nonzero tt i.narrow i.size) ls
       (sums_each IsNarrowSum M x m l c ls e (λ f k t o w.
-      let v = told_weight k.products f (pos (reach M l)) w (either_weight k l r o) in
-      ((λ u i. again_narrow (with_product k.products f (pos (reach M l))) (k.constant +ℤ pos (reach M l)) u i v), (λ u i. again_narrow (scaled (negsuc 0) (with_product k.products f (pos (reach M l)))) (neg_ℤ k.constant -ℤ pos 1) u i (let s = weight-scaled M (with_product k.products f (pos (reach M l))) in omega arith)))))
+      let v = told_weight k.products f (pos (reach M l)) w (either_weight k l r o) in (
+        (λ u i. again_narrow (with_product k.products f (pos (reach M l))) (k.constant +ℤ pos (reach M l)) u i v),
+        (λ u i. again_narrow (scaled (negsuc 0) (with_product k.products f (pos (reach M l)))) (neg_ℤ k.constant -ℤ pos 1) u i
+            (let s = weight-scaled M (with_product k.products f (pos (reach M l))) in omega arith)),
+      )))
 
-  three_within : (rows : ℕ → ℕ → ℕ → List Indexical) → ((x y z : ℕ) → Within M small (rows x y z)) → (x y z : Term) (n : ℕ) (s : Split) → of_three rows x y z n ≡ Ok s → Within M small (joined s).ranges
+  three_within : (rows : ℕ → ℕ → ℕ → List Indexical) → ((x y z : ℕ) → Within M small (rows x y z)) → (x y z : Term) (n : ℕ) (s : Split)
+      → of_three rows x y z n ≡ Ok s → Within M small (joined s).ranges
   three_within rows narrow x y z n s e =
       let k = three_ok rows x y z n s e in
       let u = place_of n k.first in
@@ -143,7 +149,8 @@ module _ (M : ℕ) (small : M < 2 ^ 28) where
       let x = place_of n k.teller in
       let end = after n k.teller in
       subst (λ q. Within M small (joined q).ranges) k.is
-      (append_within M small (reified_ranges k.kind x end) (sum_rows k.sums) (ranges_within k.kind x end) (sums_within k.kind x end k.form k.sums (form_sizes t (k.kind, k.form) k.from_term) k.sums_are))
+      (append_within M small (reified_ranges k.kind x end) (sum_rows k.sums) (ranges_within k.kind x end)
+      (sums_within k.kind x end k.form k.sums (form_sizes t (k.kind, k.form) k.from_term) k.sums_are))
   split_within _ _ n s e = absurd (cc)
 
   expand_within : (kind : ConstraintKind) (ts : Terms) (n : ℕ) (x : Expansion) → HaveIntegers ts → HasShortLists kind ts → expand M kind ts n ≡ Ok x → Within M small x.ranges

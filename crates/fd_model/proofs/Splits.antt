@@ -1,5 +1,6 @@
 -- How a constraint is split, and what its parts are.
-use Rattle.std.proofs.Common.{◌≡◌, ℕ, Bool, true, ◌&&◌, ℤ, pos, negsuc, ◌+ℤ◌, ◌-ℤ◌, neg_ℤ, List, [], ◌∷◌, ◌++◌, Option, Some, None, append_assoc, refl, ap, sym, ◌∙◌, subst, inl, inr, ◌⊎◌, arith, Result, Ok, Err}
+use Rattle.std.proofs.Common.{◌≡◌, ℕ, Bool, true, ◌&&◌, ℤ, pos, negsuc, ◌+ℤ◌, ◌-ℤ◌, neg_ℤ, List, [], ◌∷◌, ◌++◌, Option, Some, None, append_assoc, refl, ap, sym}
+use Rattle.std.proofs.Common.{◌∙◌, subst, inl, inr, ◌⊎◌, arith, Result, Ok, Err}
 use Rattle.std.specs.List.{list_all}
 use Rattle.fd_model.specs.declared.kinds.QueryFault.{QueryFault}
 use Rattle.fd_model.specs.declared.kinds.QueryFault.TheVariants.{Evaluation}
@@ -7,14 +8,16 @@ use Rattle.fd_model.specs.declared.kinds.Relation.{Relation}
 use Rattle.fd_model.specs.declared.kinds.ConstraintKind.{ConstraintKind}
 use Rattle.fd_language.specs.Term.{Term, Terms, Var, Int, Atom, Comp, no_terms, term, Name}
 use Rattle.fd_language.specs.Range.{Indexical}
-use Rattle.fd_model.specs.Linear.{Linear, Comparison, IsAtMost, comparison, normal, normal_form, scaled, turned, with_product, nonzero, in_integers, of_one, of_both, collect}
+use Rattle.fd_model.specs.Linear.{Linear, Comparison, IsAtMost, comparison, normal, normal_form, scaled, turned, with_product, nonzero, in_integers, of_one}
+use Rattle.fd_model.specs.Linear.{of_both, collect}
 use Rattle.fd_model.specs.LinearRows.{Expansion, rows_behind}
 use Rattle.fd_model.specs.Members.{Member, as_member, place_of, after, equated_from}
-use Rattle.fd_model.specs.ReifiedRows.{relation_named, formed, read_sides, read_comparison, collected_again, two, told_by, both_sums, reified_sums, reified_ranges, reified_end}
+use Rattle.fd_model.specs.ReifiedRows.{relation_named, formed, read_sides, read_comparison, collected_again, two, told_by, both_sums, reified_sums}
+use Rattle.fd_model.specs.ReifiedRows.{reified_ranges, reified_end}
 use Rattle.fd_model.specs.ProductRows.{Product}
 use Rattle.fd_model.specs.Splitting.{Split, sum_rows, joined, product_split, product_of, pair_of, on_two, on_three, of_two, of_three, told, reified, split}
-use Rattle.fd_model.specs.Constraining.{basic, by_split, expand}
-use Rattle.fd_model.proofs.Collecting.{one_ok, both_ok, test_ok}
+use Rattle.fd_model.specs.ConstraintExpansion.{basic, by_split, expand}
+use Rattle.fd_model.proofs.CollectedSums.{one_ok, both_ok, test_ok}
 use Rattle.fd_model.proofs.NormalForms.{normal_ok}
 
 -- a constraint is split, or it is none that is
@@ -184,7 +187,14 @@ told_ok b w l ls h =
     (λ e k.
     let j = both_ok two r q ls k in
     let f : j.left ∷ j.right ∷ [] ≡ ls = cc (j.both) in
-    record { over = j.left; under = j.right; within = e; from_over = again_ok ts (l.constant +ℤ w) j.left j.from_left; from_under = again_ok (scaled (negsuc 0) ts) (neg_ℤ l.constant -ℤ pos 1) j.right j.from_right; are = f })
+    record {
+      over = j.left;
+      under = j.right;
+      within = e;
+      from_over = again_ok ts (l.constant +ℤ w) j.left j.from_left;
+      from_under = again_ok (scaled (negsuc 0) ts) (neg_ℤ l.constant -ℤ pos 1) j.right j.from_right;
+      are = f;
+    })
     (λ e k. absurd (cc))
 
 -- those of an equality, told by f and g
@@ -209,7 +219,8 @@ unsplit n (Some p) h = absurd (cc)
 -- the rows of the sums of two lists
 pub rows_joined : (ls ms : List Linear) → sum_rows (ls ++ ms) ≡ sum_rows ls ++ sum_rows ms
 rows_joined [] ms = refl
-rows_joined (l ∷ ls) ms = ap (λ ps. rows_behind IsAtMost l.constant [] l.products ++ ps) (rows_joined ls ms) ∙ sym (append_assoc (rows_behind IsAtMost l.constant [] l.products) (sum_rows ls) (sum_rows ms))
+rows_joined (l ∷ ls) ms = ap (λ ps. rows_behind IsAtMost l.constant [] l.products ++ ps) (rows_joined ls ms)
+    ∙ sym (append_assoc (rows_behind IsAtMost l.constant [] l.products) (sum_rows ls) (sum_rows ms))
 
 -- and what is one
 pub record IsProductSplit (n : ℕ) (o : Option Product) (s : Split) : Type 0 where

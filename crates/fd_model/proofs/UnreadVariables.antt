@@ -1,5 +1,6 @@
 -- A change of a set that a range doesn't read leaves the range's set.
-use Rattle.std.proofs.Common.{◌≡◌, ℕ, ◌≤◌, Bool, true, false, cond, ◌||◌, ◌&&◌, not, ◌==◌, List, [], ◌∷◌, ◌++◌, filter, length, refl, ap, sym, ◌∙◌, subst, inl, inr, arith, eqb-true, eq-eqb, pos, ℤ, ◌+ℤ◌, ◌-ℤ◌, ◌*ℤ◌}
+use Rattle.std.proofs.Common.{◌≡◌, ℕ, ◌≤◌, Bool, true, false, cond, ◌||◌, ◌&&◌, not, ◌==◌, List, [], ◌∷◌, ◌++◌, filter, length, refl, ap, sym, ◌∙◌, subst, inl}
+use Rattle.std.proofs.Common.{inr, arith, eqb-true, eq-eqb, pos, ℤ, ◌+ℤ◌, ◌-ℤ◌, ◌*ℤ◌}
 use Rattle.std.proofs.lemmas.Bool.{or_cases, or_left, or_right, cases_Bool, eqb-false, true≢false, or_parts, not-false}
 use mathlib.Core.Path.{fun_ext}
 use Rattle.std.specs.List.{list_any}
@@ -8,7 +9,8 @@ use Rattle.fd_language.specs.declared.range_node.Feature.{Feature}
 use Rattle.fd_language.specs.declared.range_node.Feature.TheVariants as feature
 use Rattle.fd_language.specs.Family.{Family, has, universe}
 use Rattle.fd_language.specs.Features.{expr_features, range_features}
-use Rattle.fd_language.specs.Range.{Range, Span, One, Dom, Union, Inter, Outside, Plus, Minus, Times, Over, Expr, Number, Infinity, Param, Min, Max, Val, Add, Sub, Mul, DivDown, DivUp, least, greatest, some_number, value, in_range, set_of, reads, vals, is_none_left, is_several}
+use Rattle.fd_language.specs.Range.{Range, Span, One, Dom, Union, Inter, Outside, Plus, Minus, Times, Over, Expr, Number, Infinity, Param, Min, Max, Val, Add}
+use Rattle.fd_language.specs.Range.{Sub, Mul, DivDown, DivUp, least, greatest, some_number, value, in_range, set_of, reads, vals, is_none_left, is_several}
 use Rattle.fd_language.specs.Lists.{Each}
 use Rattle.fd_language.proofs.Lemmas.{each_before, each_after, vals_of, vals_of_features}
 use Rattle.fd_model.specs.Changes.{is_changed, sees_change}
@@ -50,10 +52,18 @@ module _ (M : ℕ) (S T : Family) where
   same_range (Union r q) n h = let k = split (range_features r) (range_features q) h in let i = same_range r n k.0 in let j = same_range q n k.1 in cc
   same_range (Inter r q) n h = let k = split (range_features r) (range_features q) h in let i = same_range r n k.0 in let j = same_range q n k.1 in cc
   same_range (Outside r) n h = ap not (same_range r n h)
-  same_range (Plus r c) n h = let k = split (range_features r) (expr_features c) h in moved M (λ v e. int_eq (pos e +ℤ v) (pos n)) (in_range M S r) (in_range M T r) (value M S c) (value M T c) (fun_ext (λ e. same_range r e k.0)) (same_value c k.1)
-  same_range (Minus r c) n h = let k = split (range_features r) (expr_features c) h in moved M (λ v e. int_eq (pos e -ℤ v) (pos n)) (in_range M S r) (in_range M T r) (value M S c) (value M T c) (fun_ext (λ e. same_range r e k.0)) (same_value c k.1)
-  same_range (Times r c) n h = let k = split (range_features r) (expr_features c) h in moved M (λ v e. int_eq (pos e *ℤ v) (pos n)) (in_range M S r) (in_range M T r) (value M S c) (value M T c) (fun_ext (λ e. same_range r e k.0)) (same_value c k.1)
-  same_range (Over r c) n h = let k = split (range_features r) (expr_features c) h in moved M (λ v e. int_eq (pos n *ℤ v) (pos e)) (in_range M S r) (in_range M T r) (value M S c) (value M T c) (fun_ext (λ e. same_range r e k.0)) (same_value c k.1)
+  same_range (Plus r c) n h = let k = split (range_features r) (expr_features c) h in
+      moved M (λ v e. int_eq (pos e +ℤ v) (pos n)) (in_range M S r) (in_range M T r) (value M S c) (value M T c) (fun_ext (λ e. same_range r e k.0))
+      (same_value c k.1)
+  same_range (Minus r c) n h = let k = split (range_features r) (expr_features c) h in
+      moved M (λ v e. int_eq (pos e -ℤ v) (pos n)) (in_range M S r) (in_range M T r) (value M S c) (value M T c) (fun_ext (λ e. same_range r e k.0))
+      (same_value c k.1)
+  same_range (Times r c) n h = let k = split (range_features r) (expr_features c) h in
+      moved M (λ v e. int_eq (pos e *ℤ v) (pos n)) (in_range M S r) (in_range M T r) (value M S c) (value M T c) (fun_ext (λ e. same_range r e k.0))
+      (same_value c k.1)
+  same_range (Over r c) n h = let k = split (range_features r) (expr_features c) h in
+      moved M (λ v e. int_eq (pos n *ℤ v) (pos e)) (in_range M S r) (in_range M T r) (value M S c) (value M T c) (fun_ext (λ e. same_range r e k.0))
+      (same_value c k.1)
 
 several_same : (S T : Family) (ds : List (ℕ × Feature)) → AllSame S T ds → list_any (λ y. is_several (S y)) (vals_of ds) ≡ list_any (λ y. is_several (T y)) (vals_of ds)
 several_same S T [] h = refl
@@ -73,13 +83,15 @@ any_at S x (y ∷ ys) h s = elim (or_cases (y == x) (has ys x) h) [
 pub same_set : (M : ℕ) (S T : Family) (r : Range) → ((y : ℕ) → is_none_left (S y) ≡ is_none_left (T y)) → AllSame S T (range_features r) → set_of M S r ≡ set_of M T r
 same_set M S T r empty h =
     let nones : list_any (λ y. is_none_left (S y)) (reads r) ≡ list_any (λ y. is_none_left (T y)) (reads r) = ap (λ (f : ℕ → Bool). list_any f (reads r)) (fun_ext empty) in
-    let opens : list_any (λ y. is_several (S y)) (vals r) ≡ list_any (λ y. is_several (T y)) (vals r) = subst (λ l. list_any (λ y. is_several (S y)) l ≡ list_any (λ y. is_several (T y)) l) (sym (vals_of_features r)) (several_same S T (range_features r) h) in
+    let opens : list_any (λ y. is_several (S y)) (vals r) ≡ list_any (λ y. is_several (T y)) (vals r) = subst
+    (λ l. list_any (λ y. is_several (S y)) l ≡ list_any (λ y. is_several (T y)) l) (sym (vals_of_features r)) (several_same S T (range_features r) h) in
     ap (λ (test : ℕ → Bool). filter test (universe M)) (fun_ext (λ n. (let inner = same_range M S T r n h in ap3 nones opens inner)))
   where
     ap3 : {a a' b b' c c' : Bool} → a ≡ a' → b ≡ b' → c ≡ c' → (cond a false (cond b true c)) ≡ (cond a' false (cond b' true c'))
     ap3 e f g = cc
 
-pub open_set : (M : ℕ) (S T : Family) (r : Range) (x : ℕ) → ((y : ℕ) → is_none_left (S y) ≡ is_none_left (T y)) → has (vals r) x ≡ true → is_several (S x) ≡ true → is_several (T x) ≡ true → set_of M S r ≡ set_of M T r
+pub open_set : (M : ℕ) (S T : Family) (r : Range) (x : ℕ) → ((y : ℕ) → is_none_left (S y) ≡ is_none_left (T y)) → has (vals r) x ≡ true
+    → is_several (S x) ≡ true → is_several (T x) ≡ true → set_of M S r ≡ set_of M T r
 open_set M S T r x empty v s t =
     let nones : list_any (λ y. is_none_left (S y)) (reads r) ≡ list_any (λ y. is_none_left (T y)) (reads r) = ap (λ (f : ℕ → Bool). list_any f (reads r)) (fun_ext empty) in
     ap (λ (test : ℕ → Bool). filter test (universe M)) (fun_ext (λ n. opened nones (in_range M S r n) (in_range M T r n) (any_at S x (vals r) v s) (any_at T x (vals r) v t)))

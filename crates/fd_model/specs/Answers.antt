@@ -6,10 +6,10 @@ use Rattle.fd_language.specs.Term.{Int, Substitution}
 use Rattle.fd_language.specs.Unifier.{Equation, Unifies}
 use Rattle.fd_language.specs.Family.{Family, has, IsFamily, IsSubset}
 use Rattle.fd_language.specs.Range.{Indexical, set_of}
-use Rattle.fd_model.specs.Closed.{AllPosted, constrained}
+use Rattle.fd_model.specs.ClosedFamilies.{AllPosted, constrained}
 use Rattle.fd_model.specs.Goal.{Branch, Program, Query, Event}
-use Rattle.fd_model.specs.Seen.{IsView}
-use Rattle.fd_model.specs.Satisfies.{Assignment, singles}
+use Rattle.fd_model.specs.BranchViews.{IsView}
+use Rattle.fd_model.specs.Satisfaction.{Assignment, singles}
 use Rattle.fd_model.specs.Children.{look_in}
 use Rattle.fd_model.specs.Run.{Run, over, last, fewer, any, spent, faulty, taken}
 use Rattle.fd_language.specs.Lists.{Each}
@@ -30,7 +30,8 @@ EndsWith e [] = ⊥
 EndsWith e (d ∷ []) = d ≡ e
 EndsWith e (d ∷ c ∷ cs) = EndsWith e (c ∷ cs)
 
--- An assignment of numbers up to N that agrees with the equations on the constrained variables and on those in vs, and puts each target inside each posted range.
+-- An assignment of numbers up to N that agrees with the equations on the constrained variables and on those in vs, and puts each target inside each posted
+-- range.
 pub record IsSolution (M N : ℕ) (es : List Equation) (ps : List Indexical) (vs : List ℕ) (a : Assignment) : Type 0 where
   pub bounded : (x : ℕ) → a x ≤ N
   pub unifier : Substitution
@@ -72,7 +73,8 @@ abbrev pub Comes : Order → List ℕ → List ℕ → Type 0
 Comes Leftmost ms ns = Precedes ms ns
 Comes FirstFail ms ns = ms ≡ ns → ⊥
 
--- What answers show of vs: only what is allowed, in order; what is allowed and not shown comes after all that is shown, and there is none where the answers are whole.
+-- What answers show of vs: only what is allowed, in order; what is allowed and not shown comes after all that is shown, and there is none where the answers are
+-- whole.
 pub record AreAnswers (M N : ℕ) (o : Order) (vs : List ℕ) (Allowed : List ℕ → Type 0) (bs : List Branch) (AreWhole : Type 0) : Type 0 where
   pub values : List (List ℕ)
   pub shown : EachShows M N vs bs values

@@ -4,9 +4,9 @@ use Rattle.fd_model.specs.declared.kinds.Order.{Order}
 use Rattle.fd_language.specs.Term.{Term, Substitution, apply}
 use Rattle.fd_language.specs.Family.{Family, has}
 use Rattle.fd_language.specs.Lists.{Each}
-use Rattle.fd_model.specs.Closed.{constrained}
+use Rattle.fd_model.specs.ClosedFamilies.{constrained}
 use Rattle.fd_model.specs.Goal.{Label, Best, Branch, Program, Query, Event, End}
-use Rattle.fd_model.specs.Seen.{IsConsistent, IsView}
+use Rattle.fd_model.specs.BranchViews.{IsConsistent, IsView}
 use Rattle.fd_model.specs.Children.{with_goals, look_in, cost_fault}
 use Rattle.fd_model.specs.Labelling.{read_list, open_ones}
 use Rattle.fd_model.specs.Leaves.{Leaves, IsBetter, IsAsGood}
@@ -26,7 +26,9 @@ abbrev pub cost_in : List ℕ → Member → List ℕ → ℤ
 cost_in vs (Open x) ns = pos (number_in vs ns x)
 cost_in vs (Known z) ns = z
 
--- One answer. It shows numbers of vs that are allowed and have the best cost, and that are the first of these in the order of the labelling of t: before are those that come earlier, of which each costs more than they do, and behind those that come later, of which none costs less (or the other way round, where the greatest cost is wanted). Together they are all that is allowed, each once, in the order of the leaves of the labelling that starts in such a branch.
+-- One answer. It shows numbers of vs that are allowed and have the best cost, and that are the first of these in the order of the labelling of t: before are
+-- those that come earlier, of which each costs more than they do, and behind those that come later, of which none costs less (or the other way round, where the
+-- greatest cost is wanted). Together they are all that is allowed, each once, in the order of the leaves of the labelling that starts in such a branch.
 pub record IsBestAnswer (M N : ℕ) (o : Order) (least : Bool) (t : Term) (vs : List ℕ) (cost : List ℕ → ℤ) (Allowed : List ℕ → Type 0) (Starts : Branch → Type 0) (bs : List Branch) : Type 0 where
   pub branch : Branch
   pub alone : bs ≡ branch ∷ []
@@ -49,7 +51,8 @@ pub record IsBestAnswer (M N : ℕ) (o : Order) (least : Bool) (t : Term) (vs : 
 abbrev pub AreBestAnswers : ℕ → ℕ → Order → Bool → Term → List ℕ → (List ℕ → ℤ) → (List ℕ → Type 0) → (Branch → Type 0) → List Branch → Type 0 → Type 0
 AreBestAnswers M N o least t vs cost Allowed Starts bs AreWhole = IsBestAnswer M N o least t vs cost Allowed Starts bs ⊎ ((bs ≡ []) × (AreWhole → (ns : List ℕ) → Allowed ns → ⊥))
 
--- A branch whose only goal asks for the best leaf of the labelling of a list that is seen as ms, by a cost that is seen as the member c, where each constrained variable, those in ws aside, is seen as an integer or as a member.
+-- A branch whose only goal asks for the best leaf of the labelling of a list that is seen as ms, by a cost that is seen as the member c, where each constrained
+-- variable, those in ws aside, is seen as an integer or as a member.
 pub record IsOptimised (M N : ℕ) (b : Branch) (o : Order) (least : Bool) (ms : List Member) (c : Member) (ws : List ℕ) : Type 0 where
   pub list : Term
   pub cost : Term
@@ -67,4 +70,5 @@ abbrev pub BestAnswers : Type 0
 BestAnswers =
     (M N : ℕ) (prog : Program) (q : Query) (n : ℕ) (k : Option ℕ) (b : Branch) (es : List Event) (r : ℕ) (o : Order) (least : Bool) (ms : List Member) (c : Member) (ws : List ℕ)
     → N ≤ M → IsConsistent M N b.equations b.posted → Settles M b.posted ws → (l : IsOptimised M N b o least ms c ws)
-    → (run : Run M N prog q n k (b ∷ []) es r) → AreBestAnswers M N o least l.list (open_ones ms) (cost_in (open_ones ms) c) (IsSolved M N (open_ones ms) b) (λ d. d ≡ with_goals b (Label o l.list ∷ [])) (answers run) (EndsWith End es)
+    → (run : Run M N prog q n k (b ∷ []) es r) → AreBestAnswers M N o least l.list (open_ones ms) (cost_in (open_ones ms) c) (IsSolved M N (open_ones ms) b)
+    (λ d. d ≡ with_goals b (Label o l.list ∷ [])) (answers run) (EndsWith End es)

@@ -3,9 +3,9 @@ use Rattle.std.specs.Prelude.{◌≡◌, ℕ, pos, List, [], ◌∷◌, ◌++◌
 use Rattle.fd_language.specs.Term.{Term, Var, Int, Substitution}
 use Rattle.fd_language.specs.Unifier.{Equation}
 use Rattle.fd_language.specs.Family.{Family}
-use Rattle.fd_model.specs.Closed.{constrained}
+use Rattle.fd_model.specs.ClosedFamilies.{constrained}
 use Rattle.fd_model.specs.Goal.{Goal, Branch}
-use Rattle.fd_model.specs.Seen.{IsConsistent, seen, set_at}
+use Rattle.fd_model.specs.BranchViews.{IsConsistent, seen, set_at}
 
 abbrev pub with_goals : Branch → List Goal → Branch
 with_goals b gs = record { goals = gs; equations = b.equations; posted = b.posted; fresh = b.fresh }

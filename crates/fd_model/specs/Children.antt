@@ -1,5 +1,6 @@
 -- What the leftmost goal of a branch gives.
-use Rattle.std.specs.Prelude.{◌≡◌, ℕ, suc, ◌+◌, ◌-◌, min, Bool, true, false, ◌&&◌, if◌then◌else◌, List, [], ◌∷◌, ◌++◌, map, drop, length, Option, Some, None, Result, Ok, Err}
+use Rattle.std.specs.Prelude.{◌≡◌, ℕ, suc, ◌+◌, ◌-◌, min, Bool, true, false, ◌&&◌, if◌then◌else◌, List, [], ◌∷◌, ◌++◌, map, drop, length, Option, Some, None}
+use Rattle.std.specs.Prelude.{Result, Ok, Err}
 use Rattle.std.specs.Str.{bytes_eq}
 use Rattle.fd_model.specs.declared.kinds.QueryFault.{QueryFault}
 use Rattle.fd_model.specs.declared.kinds.QueryFault.TheVariants.{BadType, Parameter}
@@ -11,11 +12,12 @@ use Rattle.fd_language.specs.Term.{Term, Terms, Var, Int, Atom, Comp, no_terms, 
 use Rattle.fd_language.specs.Unifier.{Equation}
 use Rattle.fd_language.specs.Family.{Family, has}
 use Rattle.fd_language.specs.Range.{Indexical}
-use Rattle.fd_model.specs.Goal.{Goal, Goals, listed, True, Fail, Unify, Post, Constrain, Label, Call, Either, Builtin, Cut, If, IfElse, Not, Best, marked_all, Clause, Program, Branch}
+use Rattle.fd_model.specs.Goal.{Goal, Goals, listed, True, Fail, Unify, Post, Constrain, Label, Call, Either, Builtin, Cut, If, IfElse, Not, Best, marked_all}
+use Rattle.fd_model.specs.Goal.{Clause, Program, Branch}
 use Rattle.fd_model.specs.Renaming.{rename_term, rename_goal}
-use Rattle.fd_model.specs.Seen.{IsView}
+use Rattle.fd_model.specs.BranchViews.{IsView}
 use Rattle.fd_model.specs.LinearRows.{Expansion}
-use Rattle.fd_model.specs.Constraining.{constrain, equations}
+use Rattle.fd_model.specs.ConstraintExpansion.{constrain, equations}
 use Rattle.fd_model.specs.Posting.{post, Found, offends, posts}
 pub use Rattle.fd_model.specs.Branches.{with_goals, with_equations, is_number, by_value, Kept, look_in, sets_in}
 use Rattle.fd_model.specs.Leaves.{SoughtLeaf}
@@ -108,7 +110,8 @@ abbrev pub by_cost : Term → Offer → Result (List Member) QueryFault → Offe
 by_cost c o (Err f) = Faults f
 by_cost c o (Ok ms) = unless_fault (cost_fault ms c) o
 
--- The children of each kind of goal, with m other branches, where look gives each variable as it is seen, and sets its set where it is constrained. M is the greatest number of the universe, N the greatest that a variable may have.
+-- The children of each kind of goal, with m other branches, where look gives each variable as it is seen, and sets its set where it is constrained. M is the
+-- greatest number of the universe, N the greatest that a variable may have.
 abbrev pub offer : ℕ → ℕ → ℕ → Program → (ℕ → Term) → (ℕ → Option (List ℕ)) → Branch → Goal → List Goal → Offer
 offer M N m prog look sets b True rest = Gives (with_goals b rest ∷ [])
 offer M N m prog look sets b Fail rest = Gives []

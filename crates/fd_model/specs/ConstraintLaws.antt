@@ -7,15 +7,15 @@ use Rattle.fd_language.specs.Term.{Term, Terms, Substitution, Var, Int, Atom, Co
 use Rattle.fd_language.specs.Unifier.{Unifies}
 use Rattle.fd_language.specs.Family.{Family, has, IsFamily, IsSubset}
 use Rattle.fd_language.specs.Range.{Indexical, set_of}
-use Rattle.fd_model.specs.Closed.{IsClosed, constrained, AllPosted}
+use Rattle.fd_model.specs.ClosedFamilies.{IsClosed, constrained, AllPosted}
 use Rattle.fd_language.specs.Monotonicity.{IsMonotone}
 use Rattle.fd_language.specs.Check.{range_fits}
 use Rattle.fd_language.specs.RangeVerdict.{is_accepted}
 use Rattle.fd_language.specs.Variables.{TermsBelow}
 use Rattle.fd_model.specs.Linear.{Linear, collect}
 use Rattle.fd_model.specs.LinearRows.{Expansion}
-use Rattle.fd_model.specs.Constraining.{expand, equations}
-use Rattle.fd_model.specs.Satisfies.{Assignment, singles, worth, Satisfies}
+use Rattle.fd_model.specs.ConstraintExpansion.{expand, equations}
+use Rattle.fd_model.specs.Satisfaction.{Assignment, singles, worth, Satisfies}
 
 -- the products added up
 abbrev pub total : Assignment → List (ℕ × ℤ) → ℤ

@@ -5,20 +5,21 @@ use Rattle.fd_language.specs.Term.{Term}
 use Rattle.fd_language.specs.Family.{has}
 use Rattle.fd_language.specs.Lists.{Each}
 use Rattle.fd_model.specs.Goal.{Goal, Label, Best, Branch, Program, Query, Event, Answer, End, start_of}
-use Rattle.fd_model.specs.Sound.{NumbersBelow, EachBelow}
+use Rattle.fd_model.specs.RunnablePrograms.{NumbersBelow, EachBelow}
 use Rattle.fd_model.specs.Children.{with_goals, cost_fault}
 use Rattle.fd_model.specs.Labelling.{read_list, open_ones}
 use Rattle.fd_model.specs.Leaves.{IsAsGood}
 use Rattle.fd_model.specs.Members.{Member, Open, Known, as_member}
 use Rattle.fd_model.specs.Run.{Run}
-use Rattle.fd_model.specs.Satisfies.{Assignment}
+use Rattle.fd_model.specs.Satisfaction.{Assignment}
 use Rattle.fd_model.specs.Answers.{answers, EndsWith}
 use Rattle.fd_model.specs.FlatQueries.{IsFlatGoal}
 use Rattle.fd_model.specs.FlatLines.{assigned_line, IsLast, IsSatisfying, ComesFirst, IsAssigned}
 use Rattle.fd_model.specs.Ways.{Way}
 use Rattle.fd_model.specs.BestAnswers.{cost_in, IsBestAnswer, AreBestAnswers}
 
--- Flat goals, and then a search for the best leaf of the labelling of a closed list of variables and integers, in which every variable of the query stands. The cost is a member of the list or an integer.
+-- Flat goals, and then a search for the best leaf of the labelling of a closed list of variables and integers, in which every variable of the query stands. The
+-- cost is a member of the list or an integer.
 pub record IsFlatBest (M N : ℕ) (q : Query) (gs : List Goal) (o : Order) (least : Bool) (ms : List Member) (c : Member) : Type 0 where
   pub list : Term
   pub cost : Term
@@ -45,7 +46,9 @@ abbrev pub cost_at : Assignment → Member → ℤ
 cost_at a (Open x) = pos (a x)
 cost_at a (Known z) = z
 
--- One line, and an end that is no fault. The line is that of an assignment that satisfies the constraints, of which none costs less than it, or none more where the greatest cost is wanted; and each that costs the same comes after it in labelling order, or gives the listed variables the same numbers. Among the leaves, in their order, it is the first of these.
+-- One line, and an end that is no fault. The line is that of an assignment that satisfies the constraints, of which none costs less than it, or none more where
+-- the greatest cost is wanted; and each that costs the same comes after it in labelling order, or gives the listed variables the same numbers. Among the
+-- leaves, in their order, it is the first of these.
 pub record IsBestLine (M N : ℕ) (prog : Program) (q : Query) (gs : List Goal) (o : Order) (least : Bool) (t r : Term) (vs : List ℕ) (c : Member) (es : List Event) : Type 0 where
   pub found : Assignment
   pub last : Event

@@ -1,5 +1,6 @@
 -- Flat constraints: those that meet no fault.
-use Rattle.std.specs.Prelude.{◌≡◌, ℕ, ◌+◌, ◌*◌, ◌-◌, ◌^◌, ◌≤◌, ◌<◌, Bool, true, false, ◌&&◌, ◌||◌, if◌then◌else◌, IsTrue, nat_lt, int_le, nat_abs, length, codes, Option, Some, None, Ok, pos, ◌⊎◌, ◌↔◌}
+use Rattle.std.specs.Prelude.{◌≡◌, ℕ, ◌+◌, ◌*◌, ◌-◌, ◌^◌, ◌≤◌, ◌<◌, Bool, true, false, ◌&&◌, ◌||◌, if◌then◌else◌, IsTrue, nat_lt, int_le, nat_abs, length}
+use Rattle.std.specs.Prelude.{codes, Option, Some, None, Ok, pos, ◌⊎◌, ◌↔◌}
 use Rattle.std.specs.Str.{bytes_eq}
 use Rattle.fd_model.specs.declared.kinds.Relation.{Relation}
 use Rattle.fd_model.specs.declared.kinds.ConstraintKind.{ConstraintKind}
@@ -12,8 +13,8 @@ use Rattle.fd_model.specs.LinearRows.{Expansion}
 use Rattle.fd_model.specs.Members.{Member, Open, Known}
 use Rattle.fd_model.specs.ProductRows.{Product, product_form}
 use Rattle.fd_model.specs.ReifiedRows.{relation_named}
-use Rattle.fd_model.specs.Constraining.{compare, expand}
-use Rattle.fd_model.specs.Satisfies.{Assignment, worth, Satisfies}
+use Rattle.fd_model.specs.ConstraintExpansion.{compare, expand}
+use Rattle.fd_model.specs.Satisfaction.{Assignment, worth, Satisfies}
 
 -- The width of a term: the greatest magnitude that it may have. A variable counts as the greatest number of the universe.
 abbrev pub width : ℕ → Term → ℕ

@@ -3,12 +3,12 @@ use Rattle.std.specs.Prelude.{◌≡◌, ℕ, ◌<◌, ◌≤◌, pos, List, [],
 use Rattle.fd_model.specs.declared.kinds.Order.{Order}
 use Rattle.fd_language.specs.Term.{Int}
 use Rattle.fd_model.specs.Goal.{Goal, Program, Query, Event, Answer, End, Budget, Limit, start_of}
-use Rattle.fd_model.specs.Sound.{NumbersBelow, EachBelow}
+use Rattle.fd_model.specs.RunnablePrograms.{NumbersBelow, EachBelow}
 use Rattle.fd_model.specs.Lines.{line_of}
 use Rattle.fd_model.specs.Labelling.{open_ones}
 use Rattle.fd_model.specs.Members.{Member}
 use Rattle.fd_model.specs.Run.{Run}
-use Rattle.fd_model.specs.Satisfies.{Assignment}
+use Rattle.fd_model.specs.Satisfaction.{Assignment}
 use Rattle.fd_language.specs.Lists.{Each}
 use Rattle.fd_model.specs.Answers.{answers, EndsWith, Somewhere, InOrder, Comes, AreAnswers}
 use Rattle.fd_model.specs.FlatQueries.{IsSatisfied, IsFlat}
@@ -30,7 +30,8 @@ pub record IsSatisfying (M N : ℕ) (gs : List Goal) (a : Assignment) : Type 0 w
 abbrev pub ComesFirst : Order → List ℕ → Assignment → Assignment → Type 0
 ComesFirst o vs a c = Comes o (map a vs) (map c vs)
 
--- The events are the lines of assignments that satisfy the constraints, each once, in order, and an end that is no fault; an assignment that satisfies them and has no line comes after all that have one, and there is none where the end is End.
+-- The events are the lines of assignments that satisfy the constraints, each once, in order, and an end that is no fault; an assignment that satisfies them and
+-- has no line comes after all that have one, and there is none where the end is End.
 pub record AreFlatEvents (M N : ℕ) (q : Query) (gs : List Goal) (o : Order) (vs : List ℕ) (es : List Event) : Type 0 where
   pub found : List Assignment
   pub last : Event

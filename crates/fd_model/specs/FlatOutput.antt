@@ -2,7 +2,7 @@
 use Rattle.std.specs.Prelude.{◌≡◌, ℕ, ◌+◌, ◌<◌, ◌≤◌, Bool, List, [], ◌∷◌, ◌++◌, map, Option, codes, decimal, ◌⊎◌}
 use Rattle.fd_model.specs.declared.kinds.Order.{Order}
 use Rattle.fd_model.specs.Goal.{Goal, Program, Query, Event, End}
-use Rattle.fd_model.specs.Sound.{QueriesScoped}
+use Rattle.fd_model.specs.RunnablePrograms.{QueriesScoped}
 use Rattle.fd_language.specs.Term.{Term}
 use Rattle.fd_model.specs.Lines.{line, event_bytes, events_bytes}
 use Rattle.fd_model.specs.Output.{Queries, VerdictOutput}
@@ -11,7 +11,7 @@ use Rattle.fd_model.specs.declared.Status.{Status}
 use Rattle.fd_model.specs.declared.Status.TheVariants.{Done, Stopped}
 use Rattle.fd_model.specs.Labelling.{open_ones}
 use Rattle.fd_model.specs.Members.{Member}
-use Rattle.fd_model.specs.Satisfies.{Assignment}
+use Rattle.fd_model.specs.Satisfaction.{Assignment}
 use Rattle.fd_language.specs.Lists.{Each}
 use Rattle.fd_model.specs.Answers.{Somewhere, InOrder}
 use Rattle.fd_model.specs.FlatQueries.{IsFlat}
@@ -23,7 +23,8 @@ abbrev pub assigned_lines : Query → List Assignment → List ℕ
 assigned_lines q [] = []
 assigned_lines q (a ∷ later) = line (assigned_line q a) ++ assigned_lines q later
 
--- The bytes of the n-th query, where it is flat: its first line; lines of assignments that satisfy its constraints, each once, in order; and the last line. What has no line comes after all that have one, and there is none where the last line is `end`.
+-- The bytes of the n-th query, where it is flat: its first line; lines of assignments that satisfy its constraints, each once, in order; and the last line.
+-- What has no line comes after all that have one, and there is none where the last line is `end`.
 pub record IsFlatPart (M N : ℕ) (n : ℕ) (q : Query) (gs : List Goal) (o : Order) (vs : List ℕ) (out : List ℕ) : Type 0 where
   pub found : List Assignment
   pub last : Event
@@ -54,7 +55,8 @@ FlatOutput =
     (M N : ℕ) (prog : Program) (budget : ℕ) (answers : Option ℕ) (n : ℕ) (qs : List Query) (out : List ℕ) (stop : Bool)
     → 0 < N → N ≤ M → QueriesScoped qs → Queries M N prog budget answers n qs out stop → FlatParts M N prog n qs out
 
--- Where a text was answered, its output is a part for each of its queries, and the parts of flat queries are as they should be: with the budget and the limit of answers, whatever they are.
+-- Where a text was answered, its output is a part for each of its queries, and the parts of flat queries are as they should be: with the budget and the limit
+-- of answers, whatever they are.
 abbrev pub FlatVerdict : Type 0
 FlatVerdict =
     (M N : ℕ) (text : List ℕ) (v : Verdict) (budget : ℕ) (answers : Option ℕ) (out : List ℕ) (st : Status) → 0 < N → N ≤ M → IsVerdict M N text v

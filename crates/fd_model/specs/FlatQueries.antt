@@ -8,8 +8,8 @@ use Rattle.fd_model.specs.Goal.{Goal, Post, Constrain, Label, Query}
 use Rattle.fd_language.specs.Variables.{variables_of_all}
 use Rattle.fd_model.specs.Labelling.{read_list, open_ones}
 use Rattle.fd_model.specs.Members.{Member}
-use Rattle.fd_model.specs.Constraining.{arguments}
-use Rattle.fd_model.specs.Satisfies.{Assignment, InRange, Satisfies}
+use Rattle.fd_model.specs.ConstraintExpansion.{arguments}
+use Rattle.fd_model.specs.Satisfaction.{Assignment, InRange, Satisfies}
 use Rattle.fd_model.specs.FlatConstraints.{is_place, is_flat_constraint}
 use Rattle.fd_language.specs.Lists.{Each}
 

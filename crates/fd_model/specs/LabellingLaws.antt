@@ -4,15 +4,15 @@ use Rattle.fd_model.specs.declared.kinds.Order.{Order}
 use Rattle.fd_model.specs.declared.kinds.Order.TheVariants.{Leftmost, FirstFail}
 use Rattle.fd_language.specs.Term.{Term, Var, Int, Atom, Comp, Substitution, apply}
 use Rattle.fd_language.specs.Family.{Family, has}
-use Rattle.fd_model.specs.Closed.{constrained}
+use Rattle.fd_model.specs.ClosedFamilies.{constrained}
 use Rattle.fd_model.specs.Goal.{Label, Branch, Program, Query, Event, End}
-use Rattle.fd_model.specs.Seen.{IsConsistent, IsView}
+use Rattle.fd_model.specs.BranchViews.{IsConsistent, IsView}
 use Rattle.fd_model.specs.Children.{look_in}
 use Rattle.fd_model.specs.Labelling.{read_list, pick, open_ones}
 use Rattle.fd_model.specs.Members.{Member}
 use Rattle.fd_model.specs.Run.{Run}
 use Rattle.fd_model.specs.Answers.{answers, EndsWith, IsSolution, Somewhere, InOrder, Precedes, Settles, AreAnswers}
-use Rattle.fd_model.specs.Satisfies.{Assignment}
+use Rattle.fd_model.specs.Satisfaction.{Assignment}
 
 -- an integer or one of the variables vs
 abbrev pub IsListed : List ℕ → Term → Type 0
@@ -21,7 +21,8 @@ IsListed vs (Int z) = Unit {0}
 IsListed vs (Atom a) = ⊥
 IsListed vs (Comp f ts) = ⊥
 
--- A branch whose only goal is a labelling of a list that is seen as ms, where each constrained variable, those in ws aside, is seen as an integer or as a member.
+-- A branch whose only goal is a labelling of a list that is seen as ms, where each constrained variable, those in ws aside, is seen as an integer or as a
+-- member.
 pub record IsLabelled (M N : ℕ) (b : Branch) (o : Order) (ms : List Member) (ws : List ℕ) : Type 0 where
   pub list : Term
   pub goals : b.goals ≡ Label o list ∷ []

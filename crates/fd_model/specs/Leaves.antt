@@ -5,17 +5,19 @@ use Rattle.fd_language.specs.Term.{Term, Int, Substitution, apply}
 use Rattle.fd_language.specs.Family.{Family}
 use Rattle.fd_language.specs.Lists.{Each}
 use Rattle.fd_model.specs.Goal.{Goal, Label, Branch}
-use Rattle.fd_model.specs.Seen.{IsView}
+use Rattle.fd_model.specs.BranchViews.{IsView}
 use Rattle.fd_model.specs.Members.{Member}
 use Rattle.fd_model.specs.Labelling.{read_list, pick, values_by}
 use Rattle.fd_model.specs.Branches.{with_goals, by_value, Kept, look_in, sets_in}
 
--- Leaves of branches under a labelling of the list t, put together in order. A branch in which all members are seen as integers is a leaf itself. Another has the leaves of its children, of which there is one for each value of the picked variable, unless it isn't consistent.
+-- Leaves of branches under a labelling of the list t, put together in order. A branch in which all members are seen as integers is a leaf itself. Another has
+-- the leaves of its children, of which there is one for each value of the picked variable, unless it isn't consistent.
 pub data Leaves (M N : ℕ) (o : Order) (t : Term) : List Branch → List Branch → Type 0 where
   no_leaves : Leaves M N o t [] []
   leaf : {b : Branch} {bs ls : List Branch} (s : Substitution) (D : Family) (ms : List Member) → IsView M N b.equations b.posted s D → read_list (apply (look_in b s D) t) ≡ Ok ms
       → pick o (λ y. values_by N (sets_in b s D y)) ms ≡ None → Leaves M N o t bs ls → Leaves M N o t (b ∷ bs) (b ∷ ls)
-  grows : {b : Branch} {bs ls : List Branch} (s : Substitution) (D : Family) (ms : List Member) (x : ℕ) (cs : List Branch) → IsView M N b.equations b.posted s D → read_list (apply (look_in b s D) t) ≡ Ok ms
+  grows : {b : Branch} {bs ls : List Branch} (s : Substitution) (D : Family) (ms : List Member) (x : ℕ) (cs : List Branch) → IsView M N b.equations b.posted s D
+      → read_list (apply (look_in b s D) t) ≡ Ok ms
       → pick o (λ y. values_by N (sets_in b s D y)) ms ≡ Some x → Kept M N (map (by_value b b.goals x) (values_by N (sets_in b s D x))) cs → Leaves M N o t (cs ++ bs) ls → Leaves M N o t (b ∷ bs) ls
 
 -- the term is seen as this integer in the branch

@@ -1,11 +1,11 @@
-pub mod Closed
+pub mod ClosedFamilies
 pub mod Models
 pub mod Domains
 pub mod Laws
 pub mod Activation
 pub mod Goal
 pub mod Renaming
-pub mod Seen
+pub mod BranchViews
 pub mod Posting
 pub mod Labelling
 pub mod Arithmetic
@@ -15,7 +15,7 @@ pub mod Branches
 pub mod Leaves
 pub mod Children
 pub mod Lines
-pub mod Sound
+pub mod RunnablePrograms
 pub mod Run
 pub mod Forms
 pub mod Refusals
@@ -31,8 +31,8 @@ pub mod ProductRows
 pub mod BooleanRows
 pub mod ReifiedRows
 pub mod Splitting
-pub mod Constraining
-pub mod Satisfies
+pub mod ConstraintExpansion
+pub mod Satisfaction
 pub mod ConstraintLaws
 pub mod FlatConstraints
 pub mod PostingLaws
@@ -64,10 +64,10 @@ pub use Rattle.fd_language.specs.Family
 pub use Rattle.fd_language.specs.SingleValues
 pub use Rattle.fd_language.specs.Range
 pub use Rattle.fd_language.specs.Needs
-pub use Rattle.fd_language.specs.Writing
+pub use Rattle.fd_language.specs.TermTexts
 pub use Rattle.fd_language.specs.Check
 pub use Rattle.fd_language.specs.RangeVerdict
-pub use Rattle.fd_language.specs.Flat
+pub use Rattle.fd_language.specs.PostfixRanges
 pub use Rattle.fd_language.specs.Counts
 pub use Rattle.fd_language.specs.EvaluatedValues
 pub use Rattle.fd_language.specs.CheckLaws

@@ -7,14 +7,14 @@ use Rattle.fd_language.specs.Monotonicity.{IsMonotone}
 use Rattle.fd_language.specs.Range.{Indexical, set_of}
 use Rattle.fd_language.specs.SingleValues.{only}
 use Rattle.fd_model.specs.Answers.{Somewhere, Settles, InOrder, Comes}
-use Rattle.fd_model.specs.Closed.{AllPosted, constrained}
+use Rattle.fd_model.specs.ClosedFamilies.{AllPosted, constrained}
 use Rattle.fd_model.specs.Labelling.{open_ones}
 use Rattle.fd_model.specs.Members.{Member, Open, Known}
 use Rattle.fd_model.specs.PostedLeaves.{AreLeft, PostedLeaves}
 use Rattle.fd_model.specs.Leaves.{IsAsGood}
 use Rattle.fd_model.specs.BestPosted.{IsCostOf, HaveValues, SoughtValues}
-use Rattle.fd_model.specs.Satisfies.{Assignment, singles}
-use Rattle.fd_model.specs.Seen.{IsConsistent}
+use Rattle.fd_model.specs.Satisfaction.{Assignment, singles}
+use Rattle.fd_model.specs.BranchViews.{IsConsistent}
 
 -- numbers up to M that put each target inside each posted range
 pub record Keeps (M : ℕ) (ps : List Indexical) (a : Assignment) : Type 0 where

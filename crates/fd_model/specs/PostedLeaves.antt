@@ -7,7 +7,7 @@ use Rattle.fd_language.specs.SingleValues.{only}
 use Rattle.fd_model.specs.Domains.{Domains}
 use Rattle.fd_model.specs.Labelling.{pick}
 use Rattle.fd_model.specs.Members.{Member, Open, Known}
-use Rattle.fd_model.specs.Seen.{IsConsistent}
+use Rattle.fd_model.specs.BranchViews.{IsConsistent}
 
 -- the sets that posted ranges leave to the variables: the family that Domains gives
 pub record AreLeft (M : ℕ) (ps : List Indexical) (D : Family) : Type 0 where

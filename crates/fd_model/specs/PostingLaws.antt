@@ -7,8 +7,8 @@ use Rattle.fd_language.specs.Range.{Range, Indexical, set_of}
 use Rattle.fd_language.specs.Range.{params}
 use Rattle.fd_model.specs.Posting.{post, posts}
 use Rattle.fd_language.specs.Variables.{TermBelow}
-use Rattle.fd_model.specs.Sound.{RangeBelow}
-use Rattle.fd_model.specs.Satisfies.{Assignment, singles, worth, InRange}
+use Rattle.fd_model.specs.RunnablePrograms.{RangeBelow}
+use Rattle.fd_model.specs.Satisfaction.{Assignment, singles, worth, InRange}
 use Rattle.fd_model.specs.FlatConstraints.{SeesNumbers, is_place}
 use Rattle.fd_model.specs.ConstraintLaws.{Extends}
 

@@ -1,5 +1,6 @@
 -- What tells by 1 and 0 whether a comparison is true: its sums and its ranges.
-use Rattle.std.specs.Prelude.{ℕ, suc, ◌+◌, ◌*◌, ◌&&◌, if◌then◌else◌, ℤ, pos, negsuc, ◌+ℤ◌, ◌-ℤ◌, neg_ℤ, nat_abs, List, [], ◌∷◌, ◌++◌, codes, Option, Some, None, Result, Ok, Err}
+use Rattle.std.specs.Prelude.{ℕ, suc, ◌+◌, ◌*◌, ◌&&◌, if◌then◌else◌, ℤ, pos, negsuc, ◌+ℤ◌, ◌-ℤ◌, neg_ℤ, nat_abs, List, [], ◌∷◌, ◌++◌, codes, Option, Some, None}
+use Rattle.std.specs.Prelude.{Result, Ok, Err}
 use Rattle.std.specs.List.{list_all}
 use Rattle.std.specs.Str.{bytes_eq}
 use Rattle.fd_model.specs.declared.kinds.QueryFault.{QueryFault}
@@ -8,7 +9,8 @@ use Rattle.fd_model.specs.declared.kinds.Relation.{Relation}
 use Rattle.fd_model.specs.declared.kinds.Relation.TheVariants.{Equal, Differ, Less, AtMost, Greater, AtLeast}
 use Rattle.fd_language.specs.Term.{Term, Var, Comp, no_terms, term, Name}
 use Rattle.fd_language.specs.Range.{Indexical}
-use Rattle.fd_model.specs.Linear.{Linear, Comparison, IsEqual, IsOther, IsAtMost, comparison, scaled, turned, with_product, nonzero, in_integers, of_one, of_both, collect, normal_form}
+use Rattle.fd_model.specs.Linear.{Linear, Comparison, IsEqual, IsOther, IsAtMost, comparison, scaled, turned, with_product, nonzero, in_integers, of_one}
+use Rattle.fd_model.specs.Linear.{of_both, collect, normal_form}
 use Rattle.fd_model.specs.BooleanRows.{bit, and_ranges, not_ranges}
 
 -- the relation that a name is

@@ -4,11 +4,11 @@ use Rattle.fd_model.specs.declared.kinds.QueryFault.{QueryFault}
 use Rattle.fd_model.specs.declared.kinds.Order.{Order}
 use Rattle.fd_language.specs.Term.{Term, Substitution}
 use Rattle.fd_language.specs.Family.{Family}
-use Rattle.fd_model.specs.Closed.{constrained}
+use Rattle.fd_model.specs.ClosedFamilies.{constrained}
 use Rattle.fd_model.specs.Goal.{Goal, Constrain, Branch, Program, Query, Event, End, start_of}
-use Rattle.fd_model.specs.Sound.{EachBelow, ClausesScoped}
+use Rattle.fd_model.specs.RunnablePrograms.{EachBelow, ClausesScoped}
 use Rattle.fd_model.specs.LinearRows.{Expansion}
-use Rattle.fd_model.specs.Constraining.{constrain}
+use Rattle.fd_model.specs.ConstraintExpansion.{constrain}
 use Rattle.fd_model.specs.Children.{Gives, look_in, Children}
 use Rattle.fd_model.specs.Labelling.{open_ones}
 use Rattle.fd_model.specs.Members.{Member}

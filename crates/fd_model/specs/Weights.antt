@@ -10,7 +10,8 @@ use Rattle.fd_language.specs.Needs.{once}
 abbrev pub reads_more : Range → ℕ → Bool
 reads_more r y = list_any (λ d. (d.0 == y) && not (is_val d.1)) (range_features r)
 
--- What the change of y's set weighs for a reader. Who reads its min, max or dom may be woken by each value that goes, and who reads its value alone once, when one value is left of several.
+-- What the change of y's set weighs for a reader. Who reads its min, max or dom may be woken by each value that goes, and who reads its value alone once, when
+-- one value is left of several.
 abbrev pub weight : Range → Family → Family → ℕ → ℕ
 weight r old new y =
     if reads_more r y then length (old y) - length (new y) else

@@ -9,10 +9,10 @@ use Rattle.heap_cells.specs.declared.Cell.TheVariants as cell
 use Rattle.heap_cells.specs.Cells.{Slot, Compound, free, linked, bound, Cells, slot_at, with_slot, with_new_slot, with_compound}
 use Rattle.heap_cells.specs.Terms.{Naming, within, depth, slot_term, term_of, Same}
 use Rattle.heap_cells.specs.Atoms.{IsAtomBelow, HasAtomsBelow}
-use Rattle.heap_cells.specs.Valid.{IsHeap}
+use Rattle.heap_cells.specs.HeapInvariant.{IsHeap}
 use Rattle.heap_cells.proofs.Ranks.{term-Atom}
-use Rattle.heap_cells.proofs.Binding.{slot_there, slot_elsewhere}
-use Rattle.heap_cells.proofs.Growing.{new_slot_at, at_part}
+use Rattle.heap_cells.proofs.Bindings.{slot_there, slot_elsewhere}
+use Rattle.heap_cells.proofs.HeapGrowth.{new_slot_at, at_part}
 
 -- a naming that tells the first n atoms from the others
 told_by : Bool → Name

@@ -10,7 +10,7 @@ use Rattle.heap_cells.specs.declared.Structure.{Structure}
 use Rattle.heap_cells.specs.declared.Saved.{Saved}
 use Rattle.heap_cells.specs.declared.Mark.{Mark}
 use Rattle.heap_cells.specs.Cells.{Slot, Compound, Cells, Heaps, with_new_slot, with_compound}
-use Rattle.heap_cells.specs.Valid.{IsHeap}
+use Rattle.heap_cells.specs.HeapInvariant.{IsHeap}
 use Rattle.heap_cells.specs.HeapFields.{slot_of, compound_of, cells_of, heaps_of, AreStored, restored, IsUpTo, Fall, lengths, marked, HasArgs}
 use Rattle.heap_cells.proofs.Marks.{map_same, up_to_itself, fall_more, each_up_to, restored-take}
 use Rattle.heap_cells.proofs.Elements.{both_of, all_push}
@@ -23,7 +23,8 @@ bare = record {
   ranked = (λ c. 0, record { slots = λ i c e. absurd cc; parts = λ j k d l. absurd (omega arith); low = λ c. omega arith });
 }
 
-pub empty_stored : (vs : List Variable) (args : List Cell) (ss : List Structure) (trail : List Saved) (marks : List Mark) → vs ≡ [] → args ≡ [] → ss ≡ [] → trail ≡ [] → marks ≡ [] → AreStored vs args ss trail marks
+pub empty_stored : (vs : List Variable) (args : List Cell) (ss : List Structure) (trail : List Saved) (marks : List Mark) → vs ≡ [] → args ≡ [] → ss ≡ []
+    → trail ≡ [] → marks ≡ [] → AreStored vs args ss trail marks
 empty_stored vs args ss trail marks a b c d e =
     let none : AreStored [] [] [] [] [] = record { now = bare; below = λ k f l. absurd (omega arith); held = λ k f l. absurd (omega arith); held_below = λ k f l. absurd (omega arith); falls = tt } in
     let f : List Variable → Type 0 = λ l. AreStored l args ss trail marks in
@@ -39,22 +40,27 @@ marked_here vs args ss trail =
     ap (λ (l : List Variable). cells_of l args (take (length ss) ss)) (ap (λ es. take (length vs) (restored es vs)) (drop-length trail) ∙ take-length vs)
     ∙ ap (cells_of vs args) (take-length ss)
 
-pub mark_stored : (vs : List Variable) (args : List Cell) (ss : List Structure) (trail : List Saved) (marks : List Mark) → AreStored vs args ss trail marks → AreStored vs args ss trail (marks ++ lengths vs args ss trail ∷ [])
+pub mark_stored : (vs : List Variable) (args : List Cell) (ss : List Structure) (trail : List Saved) (marks : List Mark) → AreStored vs args ss trail marks
+    → AreStored vs args ss trail (marks ++ lengths vs args ss trail ∷ [])
 mark_stored vs args ss trail marks k =
     let here : Mark = lengths vs args ss trail in
     let e : reverse (marks ++ here ∷ []) ≡ here ∷ reverse marks = reverse-append marks (here ∷ []) in
     record {
       now = k.now;
-      below = subst (All (λ m. IsHeap (marked vs args ss trail m))) (sym e) (both_of (λ m. IsHeap (marked vs args ss trail m)) here (reverse marks) (subst IsHeap (sym (marked_here vs args ss trail)) k.now) k.below);
+      below = subst (All (λ m. IsHeap (marked vs args ss trail m))) (sym e)
+          (both_of (λ m. IsHeap (marked vs args ss trail m)) here (reverse marks) (subst IsHeap (sym (marked_here vs args ss trail)) k.now) k.below);
       held = k.held;
-      held_below = subst (All (λ (m : Mark). All (HasArgs m.args) (take m.structures ss))) (sym e) (both_of (λ (m : Mark). All (HasArgs m.args) (take m.structures ss)) here (reverse marks) (subst (All (HasArgs (length args))) (sym (take-length ss)) k.held) k.held_below);
+      held_below = subst (All (λ (m : Mark). All (HasArgs m.args) (take m.structures ss))) (sym e)
+          (both_of (λ (m : Mark). All (HasArgs m.args) (take m.structures ss)) here (reverse marks)
+          (subst (All (HasArgs (length args))) (sym (take-length ss)) k.held) k.held_below);
       falls = subst (Fall here) (sym e) (up_to_itself here, k.falls);
     }
 
 -- one more variable
 module _ (vs : List Variable) (args : List Cell) (ss : List Structure) (trail : List Saved) (ms : List Mark) (v : Variable) (falls : Fall (lengths vs args ss trail) ms) where
   pub var_at_mark : (m : Mark) → IsUpTo (lengths vs args ss trail) m → take m.variables (restored (drop m.trail trail) (vs ++ v ∷ [])) ≡ take m.variables (restored (drop m.trail trail) vs)
-  var_at_mark m u = restored-take m.variables (drop m.trail trail) (vs ++ v ∷ []) ∙ ap (restored (drop m.trail trail)) (take-append-le m.variables vs (v ∷ []) u.variables) ∙ sym (restored-take m.variables (drop m.trail trail) vs)
+  var_at_mark m u = restored-take m.variables (drop m.trail trail) (vs ++ v ∷ [])
+      ∙ ap (restored (drop m.trail trail)) (take-append-le m.variables vs (v ∷ []) u.variables) ∙ sym (restored-take m.variables (drop m.trail trail) vs)
 
   var_marked : (m : Mark) → IsUpTo (lengths vs args ss trail) m → marked (vs ++ v ∷ []) args ss trail m ≡ marked vs args ss trail m
   var_marked m u = ap (λ (l : List Variable). cells_of l args (take m.structures ss)) (var_at_mark m u)
@@ -74,13 +80,15 @@ var_view vs args ss trail marks k =
     ap (λ (h : Cells). let r : Heaps = record { now = h; below = map (marked (vs ++ variable.Loose ∷ []) args ss trail) (reverse marks) } in r) (var_now vs args ss)
     ∙ ap (λ (l : List Cells). let r : Heaps = record { now = with_new_slot (cells_of vs args ss); below = l } in r) (var_below vs args ss trail (reverse marks) variable.Loose k.falls)
 
-pub var_stored : (vs : List Variable) (args : List Cell) (ss : List Structure) (trail : List Saved) (marks : List Mark) → AreStored vs args ss trail marks → IsHeap (with_new_slot (cells_of vs args ss)) → AreStored (vs ++ variable.Loose ∷ []) args ss trail marks
+pub var_stored : (vs : List Variable) (args : List Cell) (ss : List Structure) (trail : List Saved) (marks : List Mark) → AreStored vs args ss trail marks
+    → IsHeap (with_new_slot (cells_of vs args ss)) → AreStored (vs ++ variable.Loose ∷ []) args ss trail marks
 var_stored vs args ss trail marks k v = record {
   now = subst IsHeap (sym (var_now vs args ss)) v;
   below = λ n d l. subst IsHeap (sym (var_each vs args ss trail (reverse marks) variable.Loose k.falls n d l)) (k.below n d l);
   held = k.held;
   held_below = k.held_below;
-  falls = fall_more (lengths (vs ++ variable.Loose ∷ []) args ss trail) (lengths vs args ss trail) (reverse marks) (record { variables = omega (arith, length-append vs (variable.Loose ∷ [])); args = omega arith; structures = omega arith; trail = omega arith }) k.falls;
+  falls = fall_more (lengths (vs ++ variable.Loose ∷ []) args ss trail) (lengths vs args ss trail) (reverse marks)
+      (record { variables = omega (arith, length-append vs (variable.Loose ∷ [])); args = omega arith; structures = omega arith; trail = omega arith }) k.falls;
 }
 
 -- more arguments
@@ -88,12 +96,14 @@ args_kept : (first count : ℕ) (xs ys : List Cell) → first + count ≤ length
 args_kept first count xs ys h = rw (drop-append-le first xs ys (omega arith), take-append-le count (drop first xs) ys (omega (arith, length-drop first xs))) refl
 
 pub compounds_kept : (xs ys : List Cell) (ss : List Structure) → All (HasArgs (length xs)) ss → map (compound_of (xs ++ ys)) ss ≡ map (compound_of xs) ss
-compounds_kept xs ys ss h = map_same (HasArgs (length xs)) (compound_of (xs ++ ys)) (compound_of xs) (λ s l. ap (λ (cs : List Cell). let k : Compound = record { name = s.name; args = cs } in k) (args_kept s.first s.count xs ys l)) ss h
+compounds_kept xs ys ss h = map_same (HasArgs (length xs)) (compound_of (xs ++ ys)) (compound_of xs)
+    (λ s l. ap (λ (cs : List Cell). let k : Compound = record { name = s.name; args = cs } in k) (args_kept s.first s.count xs ys l)) ss h
 
 pub some_args : (n m : ℕ) → n ≤ m → (ss : List Structure) → All (HasArgs n) ss → All (HasArgs m) ss
 some_args n m l ss h = λ k d q. let a : HasArgs n (get_or ss k d) = h k d q in let b : HasArgs m (get_or ss k d) = omega arith in b
 
-module _ (vs : List Variable) (args more : List Cell) (ss : List Structure) (trail : List Saved) (ms : List Mark) (falls : Fall (lengths vs args ss trail) ms) (held_below : All (λ (m : Mark). All (HasArgs m.args) (take m.structures ss)) ms) where
+module _ (vs : List Variable) (args more : List Cell) (ss : List Structure) (trail : List Saved) (ms : List Mark) (falls : Fall (lengths vs args ss trail) ms)
+    (held_below : All (λ (m : Mark). All (HasArgs m.args) (take m.structures ss)) ms) where
   args_marked : (m : Mark) → IsUpTo (lengths vs args ss trail) m → All (HasArgs m.args) (take m.structures ss) → marked vs (args ++ more) ss trail m ≡ marked vs args ss trail m
   args_marked m u h = ap (λ (l : List Compound). let g : Cells = record { slots = map slot_of (take m.variables (restored (drop m.trail trail) vs)); compounds = l } in g)
       (compounds_kept args more (take m.structures ss) (some_args m.args (length args) u.args (take m.structures ss) h))
@@ -104,12 +114,17 @@ module _ (vs : List Variable) (args more : List Cell) (ss : List Structure) (tra
   pub args_below : map (marked vs (args ++ more) ss trail) ms ≡ map (marked vs args ss trail) ms
   args_below = map_same (λ m. marked vs (args ++ more) ss trail m ≡ marked vs args ss trail m) (marked vs (args ++ more) ss trail) (marked vs args ss trail) (λ m e. e) ms args_each
 
-pub args_view : (vs : List Variable) (args more : List Cell) (ss : List Structure) (trail : List Saved) (marks : List Mark) → AreStored vs args ss trail marks → heaps_of vs (args ++ more) ss trail marks ≡ heaps_of vs args ss trail marks
+pub args_view : (vs : List Variable) (args more : List Cell) (ss : List Structure) (trail : List Saved) (marks : List Mark) → AreStored vs args ss trail marks
+    → heaps_of vs (args ++ more) ss trail marks ≡ heaps_of vs args ss trail marks
 args_view vs args more ss trail marks k =
-    ap (λ (l : List Compound). let r : Heaps = record { now = record { slots = map slot_of vs; compounds = l }; below = map (marked vs (args ++ more) ss trail) (reverse marks) } in r) (compounds_kept args more ss k.held)
+    ap (λ (l : List Compound). let r : Heaps = record {
+      now = record { slots = map slot_of vs; compounds = l };
+      below = map (marked vs (args ++ more) ss trail) (reverse marks);
+    } in r) (compounds_kept args more ss k.held)
     ∙ ap (λ (l : List Cells). let r : Heaps = record { now = cells_of vs args ss; below = l } in r) (args_below vs args more ss trail (reverse marks) k.falls k.held_below)
 
-pub args_stored : (vs : List Variable) (args more : List Cell) (ss : List Structure) (trail : List Saved) (marks : List Mark) → AreStored vs args ss trail marks → AreStored vs (args ++ more) ss trail marks
+pub args_stored : (vs : List Variable) (args more : List Cell) (ss : List Structure) (trail : List Saved) (marks : List Mark) → AreStored vs args ss trail marks
+    → AreStored vs (args ++ more) ss trail marks
 args_stored vs args more ss trail marks k =
     let long : length args ≤ length (args ++ more) = omega (arith, length-append args more) in
     record {
@@ -117,7 +132,8 @@ args_stored vs args more ss trail marks k =
       below = λ n d l. subst IsHeap (sym (args_each vs args more ss trail (reverse marks) k.falls k.held_below n d l)) (k.below n d l);
       held = some_args (length args) (length (args ++ more)) long ss k.held;
       held_below = k.held_below;
-      falls = fall_more (lengths vs (args ++ more) ss trail) (lengths vs args ss trail) (reverse marks) (record { variables = omega arith; args = long; structures = omega arith; trail = omega arith }) k.falls;
+      falls = fall_more (lengths vs (args ++ more) ss trail) (lengths vs args ss trail) (reverse marks)
+          (record { variables = omega arith; args = long; structures = omega arith; trail = omega arith }) k.falls;
     }
 
 -- one more compound term, whose arguments are there
@@ -126,7 +142,8 @@ module _ (vs : List Variable) (args : List Cell) (ss : List Structure) (trail : 
   struct_front m u = take-append-le m.structures ss (s ∷ []) u.structures
 
   pub struct_each : All (λ m. marked vs args (ss ++ s ∷ []) trail m ≡ marked vs args ss trail m) ms
-  struct_each = λ k d l. ap (cells_of (take (get_or ms k d).variables (restored (drop (get_or ms k d).trail trail) vs)) args) (struct_front (get_or ms k d) (each_up_to (lengths vs args ss trail) ms falls k d l))
+  struct_each = λ k d l. ap (cells_of (take (get_or ms k d).variables (restored (drop (get_or ms k d).trail trail) vs)) args)
+      (struct_front (get_or ms k d) (each_up_to (lengths vs args ss trail) ms falls k d l))
 
   pub struct_below : map (marked vs args (ss ++ s ∷ []) trail) ms ≡ map (marked vs args ss trail) ms
   struct_below = map_same (λ m. marked vs args (ss ++ s ∷ []) trail m ≡ marked vs args ss trail m) (marked vs args (ss ++ s ∷ []) trail) (marked vs args ss trail) (λ m e. e) ms struct_each
@@ -150,5 +167,6 @@ struct_stored vs args ss trail marks s k h v = record {
   below = λ n d l. subst IsHeap (sym (struct_each vs args ss trail (reverse marks) s k.falls n d l)) (k.below n d l);
   held = all_push (HasArgs (length args)) ss s k.held h;
   held_below = struct_held vs args ss trail (reverse marks) s k.falls k.held_below;
-  falls = fall_more (lengths vs args (ss ++ s ∷ []) trail) (lengths vs args ss trail) (reverse marks) (record { variables = omega arith; args = omega arith; structures = omega (arith, length-append ss (s ∷ [])); trail = omega arith }) k.falls;
+  falls = fall_more (lengths vs args (ss ++ s ∷ []) trail) (lengths vs args ss trail) (reverse marks)
+      (record { variables = omega arith; args = omega arith; structures = omega (arith, length-append ss (s ∷ [])); trail = omega arith }) k.falls;
 }

@@ -1,5 +1,6 @@
 -- The heaps at the marks stay as they are while the current one changes.
-use Rattle.std.proofs.Common.{◌≡◌, ℕ, zero, suc, ◌≤◌, Bool, true, false, cond, refl, ap, sym, ◌∙◌, subst, arith, List, [], ◌∷◌, ◌++◌, length, map, get_or, set, take, drop, reverse, length-append, length-set}
+use Rattle.std.proofs.Common.{◌≡◌, ℕ, zero, suc, ◌≤◌, Bool, true, false, cond, refl, ap, sym, ◌∙◌, subst, arith, List, [], ◌∷◌, ◌++◌, length, map, get_or, set}
+use Rattle.std.proofs.Common.{take, drop, reverse, length-append, length-set}
 use Rattle.std.specs.Prelude.{All, nat_lt}
 use Rattle.std.proofs.lemmas.Bool.Decides.{nat_tests}
 use Rattle.std.proofs.lemmas.List.{map-set, set-get_or, drop-append-le, take-set-le, set-set}
@@ -10,7 +11,7 @@ use Rattle.heap_cells.specs.declared.Structure.{Structure}
 use Rattle.heap_cells.specs.declared.Saved.{Saved}
 use Rattle.heap_cells.specs.declared.Mark.{Mark}
 use Rattle.heap_cells.specs.Cells.{Slot, Cells, Heaps, with_slot}
-use Rattle.heap_cells.specs.Valid.{IsHeap}
+use Rattle.heap_cells.specs.HeapInvariant.{IsHeap}
 use Rattle.heap_cells.specs.HeapFields.{slot_of, compound_of, cells_of, heaps_of, AreStored, restored, saved_at, newest, trailed, IsUpTo, Fall, lengths, marked}
 use Rattle.heap_cells.proofs.Elements.{head_of, tail_of, both_of}
 
@@ -79,7 +80,8 @@ module _ (vs : List Variable) (args : List Cell) (ss : List Structure) (trail : 
   older true e m t v = marked_saved m t
   older false e m t v = marked_younger m (let l : newest ms ≤ i = grind (arith, nat_tests) in omega arith)
 
-  pub at_mark_same : (m : Mark) → m.trail ≤ length trail → m.variables ≤ newest ms → take m.variables (restored (drop m.trail (trailed ms trail (saved_at vs i))) (set vs i to)) ≡ take m.variables (restored (drop m.trail trail) vs)
+  pub at_mark_same : (m : Mark) → m.trail ≤ length trail → m.variables ≤ newest ms
+      → take m.variables (restored (drop m.trail (trailed ms trail (saved_at vs i))) (set vs i to)) ≡ take m.variables (restored (drop m.trail trail) vs)
   at_mark_same m t v = older (nat_lt i (newest ms)) refl m t v
 
   pub marked_same : (m : Mark) → m.trail ≤ length trail → m.variables ≤ newest ms → marked (set vs i to) args ss (trailed ms trail (saved_at vs i)) m ≡ marked vs args ss trail m
@@ -89,7 +91,8 @@ module _ (vs : List Variable) (args : List Cell) (ss : List Structure) (trail : 
   each_same = λ k d l. marked_same (get_or ms k d) (each_up_to (lengths vs args ss trail) ms falls k d l).trail (below_newest (lengths vs args ss trail) ms falls k d l)
 
   pub below_same : map (marked (set vs i to) args ss (trailed ms trail (saved_at vs i))) ms ≡ map (marked vs args ss trail) ms
-  below_same = map_same (λ m. marked (set vs i to) args ss (trailed ms trail (saved_at vs i)) m ≡ marked vs args ss trail m) (marked (set vs i to) args ss (trailed ms trail (saved_at vs i))) (marked vs args ss trail) (λ m e. e) ms each_same
+  below_same = map_same (λ m. marked (set vs i to) args ss (trailed ms trail (saved_at vs i)) m ≡ marked vs args ss trail m)
+      (marked (set vs i to) args ss (trailed ms trail (saved_at vs i))) (marked vs args ss trail) (λ m e. e) ms each_same
 
   pub now_changed : cells_of (set vs i to) args ss ≡ with_slot (cells_of vs args ss) i (slot_of to)
   now_changed = ap (λ (l : List Slot). let h : Cells = record { slots = l; compounds = map (compound_of args) ss } in h) (map-set slot_of vs i to)
@@ -108,7 +111,8 @@ changed_stored vs args ss trail marks i to k v = record {
   below = λ n d l. subst IsHeap (sym (each_same vs args ss trail (reverse marks) i to k.falls n d l)) (k.below n d l);
   held = k.held;
   held_below = k.held_below;
-  falls = fall_more (lengths (set vs i to) args ss (trailed (reverse marks) trail (saved_at vs i))) (lengths vs args ss trail) (reverse marks) (lengths_more vs args ss trail (reverse marks) i to k.falls) k.falls;
+  falls = fall_more (lengths (set vs i to) args ss (trailed (reverse marks) trail (saved_at vs i))) (lengths vs args ss trail) (reverse marks)
+      (lengths_more vs args ss trail (reverse marks) i to k.falls) k.falls;
 }
 
 pub changed_view : (vs : List Variable) (args : List Cell) (ss : List Structure) (trail : List Saved) (marks : List Mark) (i : ℕ) (to : Variable) → AreStored vs args ss trail marks

@@ -8,7 +8,7 @@ use Rattle.heap_cells.specs.declared.Cell.{Cell}
 use Rattle.heap_cells.specs.declared.Cell.TheVariants as cell
 use Rattle.heap_cells.specs.Cells.{Slot, free, linked, bound, is_bound, Cells, slot_at, compound_at}
 use Rattle.heap_cells.specs.Terms.{Naming, terms_by, slot_term, compound_term, within, depth, term_of}
-use Rattle.heap_cells.specs.Valid.{bound_in, IsRanked, IsHeap}
+use Rattle.heap_cells.specs.HeapInvariant.{bound_in, IsRanked, IsHeap}
 use Rattle.std.proofs.Math.Nat.{pow-le-pow_right}
 use Rattle.heap_cells.proofs.Elements.{head_of, tail_of}
 
@@ -67,7 +67,8 @@ term-Struct name h v j =
     let r = v.ranked.1 in
     term_by_rank name h rank r (suc (rank (cell.Struct j))) (cell.Struct j) (omega arith)
     ∙ ap (Comp (name (compound_at h j).name))
-    (terms_agree (λ c. rank c < rank (cell.Struct j)) (within name h (rank (cell.Struct j))) (term_of name h) (λ c l. sym (term_by_rank name h rank r (rank (cell.Struct j)) c l)) (compound_at h j).args (r.parts j))
+    (terms_agree (λ c. rank c < rank (cell.Struct j)) (within name h (rank (cell.Struct j))) (term_of name h)
+    (λ c l. sym (term_by_rank name h rank r (rank (cell.Struct j)) c l)) (compound_at h j).args (r.parts j))
 
 -- a variable that isn't bound stands for itself
 pub unbound_term : (name : Naming) (h : Cells) → IsHeap h → (i : ℕ) → is_bound (slot_at h i) ≡ false → term_of name h (cell.Ref i) ≡ Var i

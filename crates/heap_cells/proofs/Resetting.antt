@@ -11,11 +11,11 @@ use Rattle.heap_cells.specs.declared.Saved.{Saved}
 use Rattle.heap_cells.specs.declared.Mark.{Mark}
 use Rattle.heap_cells.specs.Cells.{Cells}
 use Rattle.heap_cells.specs.HeapFields.{cells_of, heaps_of, restored, lengths, marked, AreSound}
-use Rattle.heap_cells.proofs.Adding.{same_mark}
+use Rattle.heap_cells.proofs.HeapAdditions.{same_mark}
 use Rattle.heap_cells.proofs.Levels.{marked_here, mark_stored}
 use Rattle.heap_cells.proofs.Marks.{length-restored}
-use Rattle.heap_cells.proofs.Sound.{mark_sound, undo_sound}
-use Rattle.heap_cells.proofs.Undoing.{order, all_falls, undo_stored, undo_view}
+use Rattle.heap_cells.proofs.LooseInvariant.{mark_sound, undo_sound}
+use Rattle.heap_cells.proofs.HeapUndo.{order, all_falls, undo_stored, undo_view}
 
 -- the newest of the marks, and those before it
 pub newest_is : (seen marks : List Mark) (m : Mark) → seen ≡ marks → slice_get seen (length seen - 1) ≡ Some m → marks ≡ take (length marks - 1) marks ++ m ∷ []
@@ -27,7 +27,8 @@ newest_is seen marks m e f =
     ∙ ap (λ (n : Mark). take (length marks - 1) marks ++ n ∷ []) (get_or_from_slice_get marks (length marks - 1) m m g)
 
 -- marks are front and then m, the newest
-module _ (vs : List Variable) (args : List Cell) (ss : List Structure) (trail : List Saved) (marks front : List Mark) (m : Mark) (marks_are : marks ≡ front ++ m ∷ []) (k : AreSound vs args ss trail marks) where
+module _ (vs : List Variable) (args : List Cell) (ss : List Structure) (trail : List Saved) (marks front : List Mark) (m : Mark)
+    (marks_are : marks ≡ front ++ m ∷ []) (k : AreSound vs args ss trail marks) where
   abbrev vs' : List Variable
   vs' = take m.variables (restored (drop m.trail trail) vs)
 

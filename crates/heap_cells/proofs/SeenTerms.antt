@@ -9,8 +9,8 @@ use Rattle.heap_cells.specs.declared.Cell.TheVariants as cell
 use Rattle.heap_cells.specs.Cells.{Cells, Compound, free, linked, is_bound, slot_at, compound_at}
 use Rattle.heap_cells.specs.SeenTerms.{link_of, link_in, read_term, seen_term}
 use Rattle.heap_cells.specs.Terms.{Naming, Same, term_of, terms_by}
-use Rattle.heap_cells.specs.Valid.{IsHeap}
-use Rattle.heap_cells.proofs.Binding.{apply-terms_by}
+use Rattle.heap_cells.specs.HeapInvariant.{IsHeap}
+use Rattle.heap_cells.proofs.Bindings.{apply-terms_by}
 use Rattle.heap_cells.proofs.Ranks.{term-Int, term-Atom, term-Struct, unbound_term}
 
 module _ (name : Naming) (h : Cells) (valid : IsHeap h) (G : Family) (c : Cell) where
@@ -29,7 +29,8 @@ module _ (name : Naming) (h : Cells) (valid : IsHeap h) (G : Family) (c : Cell) 
   pub shown_atom : (a : AtomId) → Same h c (cell.Atom a) → seen_term name h G c ≡ Atom (name a)
   shown_atom a s = ap (read_term h G) (s name ∙ term-Atom name h valid a)
 
-  pub shown_compound : (f : AtomId) (args : List Cell) (j : ℕ) → compound_at h j ≡ record { name = f; args = args } → Same h c (cell.Struct j) → seen_term name h G c ≡ Comp (name f) (terms_by (seen_term name h G) args)
+  pub shown_compound : (f : AtomId) (args : List Cell) (j : ℕ) → compound_at h j ≡ record { name = f; args = args } → Same h c (cell.Struct j)
+      → seen_term name h G c ≡ Comp (name f) (terms_by (seen_term name h G) args)
   shown_compound f args j e s =
       ap (read_term h G) (s name ∙ term-Struct name h valid j ∙ ap (λ (k : Compound). Comp (name k.name) (terms_by (term_of name h) k.args)) e)
       ∙ ap (Comp (name f)) (apply-terms_by (λ d. value_at (link_in h d) G d) (term_of name h) args)

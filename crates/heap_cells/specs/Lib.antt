@@ -1,6 +1,6 @@
 pub mod Cells
 pub mod Terms
-pub mod Valid
+pub mod HeapInvariant
 pub mod HeapFields
 pub mod SeenCells
 pub mod Atoms

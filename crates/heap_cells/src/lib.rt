@@ -10,7 +10,7 @@ ghost use Rattle.heap_cells.specs.declared.Cell.TheVariants as cell;
 ghost use Rattle.heap_cells.specs.declared.Seen.TheVariants as seen;
 ghost use Rattle.heap_cells.specs.Cells.{Cells, free, linked, bound, is_bound, no_cells, slot_at, IsOf, with_slot, with_new_slot, with_now, with_mark, AddsCompound};
 ghost use Rattle.heap_cells.specs.Terms.{KeepsTerms, Same, IsAbsent, Replaces};
-ghost use Rattle.heap_cells.specs.Valid.{IsHeap};
+ghost use Rattle.heap_cells.specs.HeapInvariant.{IsHeap};
 ghost use Rattle.heap_cells.specs.HeapFields.{slot_of, trailed, saved_at, restored, held, held_all};
 ghost use Rattle.heap_cells.specs.SeenCells.{IsSeen, IsTop, IsRoot, IsNeverOpen, IsBoundToVariable, one_step, integer_in};
 

@@ -21,7 +21,7 @@ use Rattle.heap_cells.proofs.Lemmas.{head_of, tail_of, none_at_all, both_of, all
 use Rattle.heap_terms.specs.declared.ReadTask.{ReadTask}
 use Rattle.heap_terms.specs.declared.ReadTask.TheVariants.{Visit, Make}
 use Rattle.heap_terms.specs.Tasks.{visit, make, to_terms, Leaves}
-use Rattle.heap_terms.specs.ReadBack.{PlacesAtZero, CanRead, VisitsCell, MakesTerm, task_of}
+use Rattle.heap_terms.specs.CellReads.{PlacesAtZero, CanRead, VisitsCell, MakesTerm, task_of}
 use Rattle.heap_terms.proofs.Stacks.{Walks, effort, walks_result, result_smaller, walks_parts, parts_smaller, walks_made}
 use Rattle.heap_terms.proofs.Pools.{places_both}
 
@@ -64,18 +64,21 @@ module _ (names : List Name) (h : Cells) (sets : List (List ℕ)) (c : Cell) (be
   wider p q x ds a = λ k d l. (let o : Own p (get_or ds k d) = a k d l in omega (arith, more_ids p q x))
 
   -- the pool has grown
-  pub grown : (p q : Contents) (ks : List ReadTask) (ds : List TermId) → Extends p q → KeepsTerms p q → PlacesAtZero p q → IsReading names h sets c before p ks ds → IsReading names h sets c before q ks ds
+  pub grown : (p q : Contents) (ks : List ReadTask) (ds : List TermId) → Extends p q → KeepsTerms p q → PlacesAtZero p q
+      → IsReading names h sets c before p ks ds → IsReading names h sets c before q ks ds
   grown p q ks ds x k z w = record {
     tasks = w.tasks;
     own = wider p q x ds w.own;
-    leaves = subst (λ ts. Leaves (map (task_of names h sets) (reverse ks)) ts (seen_term (name_in names) h (family_of sets) c)) (map_same (Own p) (pool.term_of p) (pool.term_of q) (λ t o. sym (k t o)) ds w.own) w.leaves;
+    leaves = subst (λ ts. Leaves (map (task_of names h sets) (reverse ks)) ts (seen_term (name_in names) h (family_of sets) c))
+        (map_same (Own p) (pool.term_of p) (pool.term_of q) (λ t o. sym (k t o)) ds w.own) w.leaves;
     extends = extends_trans before p q w.extends x;
     kept = λ t l. k t (let m = more_ids before p w.extends in omega arith) ∙ w.kept t l;
     places = places_both before p q w.places z x;
   }
 
   -- a cell was looked at
-  module _ (p q : Contents) (ks rest ms : List ReadTask) (ds es : List TermId) (d : Cell) (split : ks ≡ rest ++ Visit d ∷ []) (extends : Extends p q) (kept : KeepsTerms p q) (places : PlacesAtZero p q) (w : IsReading names h sets c before p ks ds) where
+  module _ (p q : Contents) (ks rest ms : List ReadTask) (ds es : List TermId) (d : Cell) (split : ks ≡ rest ++ Visit d ∷ []) (extends : Extends p q)
+      (kept : KeepsTerms p q) (places : PlacesAtZero p q) (w : IsReading names h sets c before p ks ds) where
     before_it : All (CanRead names h) rest
     before_it = all_front (CanRead names h) rest (Visit d ∷ []) (subst (All (CanRead names h)) split w.tasks)
 
@@ -88,12 +91,15 @@ module _ (names : List Name) (h : Cells) (sets : List (List ℕ)) (c : Cell) (be
         tasks = subst (All (CanRead names h)) (sym e) before_it;
         own = subst (All (Own q)) (sym f) (all_push (Own q) ds t now.own o);
         leaves = subst (λ js. Walks ReadTask TermId (task_of names h sets) (pool.term_of q) (seen_term (name_in names) h (family_of sets) c) js es) (sym e)
-            (walks_result ReadTask TermId (task_of names h sets) (pool.term_of q) (seen_term (name_in names) h (family_of sets) c) ks rest (Visit d) (seen_term (name_in names) h (family_of sets) d) split refl ds es t is f now.leaves);
+            (walks_result ReadTask TermId (task_of names h sets) (pool.term_of q) (seen_term (name_in names) h (family_of sets) c) ks rest (Visit d)
+            (seen_term (name_in names) h (family_of sets) d) split refl ds es t is f now.leaves);
         extends = now.extends;
         kept = now.kept;
         places = now.places;
       },
-      subst (λ js. ahead_of js < ahead_of ks) (sym e) (result_smaller ReadTask TermId (task_of names h sets) (pool.term_of before) (seen_term (name_in names) h (family_of sets) c) ks rest (Visit d) (seen_term (name_in names) h (family_of sets) d) split refl),
+      subst (λ js. ahead_of js < ahead_of ks) (sym e)
+          (result_smaller ReadTask TermId (task_of names h sets) (pool.term_of before) (seen_term (name_in names) h (family_of sets) c) ks rest (Visit d)
+          (seen_term (name_in names) h (family_of sets) d) split refl),
     )
     visited (inr (f, args, is, below, o, a, more, e)) =
         let name = name_in names in
@@ -105,10 +111,13 @@ module _ (names : List Name) (h : Cells) (sets : List (List ℕ)) (c : Cell) (be
           record {
             tasks = subst (All (CanRead names h)) (sym more)
                 (All-append (CanRead names h) (rest ++ Make f (length args) ∷ []) (reverse (map Visit args)) (all_push (CanRead names h) rest (Make f (length args)) before_it below)
-                (all_reverse (CanRead names h) (map Visit args) (all_map (λ x. IsOf h x × IsAtomBelow (length names) x) (CanRead names h) Visit (λ x y. y) args (both_all (IsOf h) (IsAtomBelow (length names)) args o a))));
+                (all_reverse (CanRead names h) (map Visit args)
+                (all_map (λ x. IsOf h x × IsAtomBelow (length names) x) (CanRead names h) Visit (λ x y. y) args
+                (both_all (IsOf h) (IsAtomBelow (length names)) args o a))));
             own = subst (All (Own q)) (sym e) now.own;
             leaves = subst (λ xs. Walks ReadTask TermId (task_of names h sets) (pool.term_of q) (T c) ms xs) (sym e)
-                (walks_parts ReadTask TermId (task_of names h sets) (pool.term_of q) (T c) ks rest (Visit d) (Make f (length args)) (map Visit args) ms (name f) ts split top long all more ds now.leaves);
+                (walks_parts ReadTask TermId (task_of names h sets) (pool.term_of q) (T c) ks rest (Visit d) (Make f (length args)) (map Visit args) ms (name f)
+                ts split top long all more ds now.leaves);
             extends = now.extends;
             kept = now.kept;
             places = now.places;
@@ -133,7 +142,8 @@ module _ (names : List Name) (h : Cells) (sets : List (List ℕ)) (c : Cell) (be
         record {
           tasks = all_front (CanRead names h) rest (Make f n ∷ []) (subst (All (CanRead names h)) split w.tasks);
           own = subst (All (Own q)) (sym e) (all_push (Own q) (take (length ds - n) ds) t (All-take (Own q) (length ds - n) ds now.own) o);
-          leaves = walks_made ReadTask TermId (task_of names h sets) (pool.term_of q) (seen_term (name_in names) h (family_of sets) c) ks rest (Make f n) (name_in names f) n split refl ds es t (is ∙ ap (Comp (name_in names f)) same) e now.leaves;
+          leaves = walks_made ReadTask TermId (task_of names h sets) (pool.term_of q) (seen_term (name_in names) h (family_of sets) c) ks rest (Make f n)
+              (name_in names f) n split refl ds es t (is ∙ ap (Comp (name_in names f)) same) e now.leaves;
           extends = now.extends;
           kept = now.kept;
           places = now.places;

@@ -9,7 +9,7 @@ use Rattle.term_pool.specs.declared.TermId.{TermId}
 use Rattle.term_pool.specs.Contents.{Shape, comp, Entry, Contents, name_in, place_at}
 use Rattle.term_pool.specs.Terms.{term_of, terms_by, shape_term, KeepsTerms, Extends}
 use Rattle.term_pool.proofs.Lemmas.{terms_by_same, place_kept, slice_get_seam}
-use Rattle.heap_terms.specs.ReadBack.{PlacesAtZero}
+use Rattle.heap_terms.specs.CellReads.{PlacesAtZero}
 
 pub places_same : (old new : Contents) → new.entries ≡ old.entries → PlacesAtZero old new
 places_same old new e t l m = absurd (omega (arith, ap (λ (es : List Entry). length es) e))
@@ -28,10 +28,13 @@ places_both old mid new a b x t l m = elim (cases_lt t.number (length mid.entrie
 ]
 
 -- a compound term of terms that were there before its name
-pub made_term : (p mid q : Contents) (names : List Name) (f a : AtomId) (t : TermId) (parts given : List TermId) → KeepsTerms p mid → All (λ (x : TermId). x.number < length p.entries) parts → name_in mid.names a ≡ name_in names f → term_of q t ≡ shape_term mid (comp a given) → given ≡ parts
+pub made_term : (p mid q : Contents) (names : List Name) (f a : AtomId) (t : TermId) (parts given : List TermId) → KeepsTerms p mid
+    → All (λ (x : TermId). x.number < length p.entries) parts → name_in mid.names a ≡ name_in names f → term_of q t ≡ shape_term mid (comp a given)
+    → given ≡ parts
     → term_of q t ≡ Comp (name_in names f) (terms_by (term_of p) parts)
 made_term p mid q names f a t parts given k own n e same =
-    e ∙ ap (λ (xs : List TermId). shape_term mid (comp a xs)) same ∙ ap (λ (m : Name). Comp m (terms_by (term_of mid) parts)) n ∙ ap (Comp (name_in names f)) (terms_by_same (term_of mid) (term_of p) (length p.entries) parts own k)
+    e ∙ ap (λ (xs : List TermId). shape_term mid (comp a xs)) same ∙ ap (λ (m : Name). Comp m (terms_by (term_of mid) parts)) n
+    ∙ ap (Comp (name_in names f)) (terms_by_same (term_of mid) (term_of p) (length p.entries) parts own k)
 
 -- a new term is of the pool
 pub added_own : (old new : Contents) (e : Entry) (t : TermId) → new ≡ record old { entries = old.entries ++ e ∷ [] } → t.number ≡ length old.entries → t.number < length new.entries

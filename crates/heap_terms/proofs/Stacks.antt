@@ -32,7 +32,8 @@ module _ (A R : Type 0) (task : A → Task) (term : R → Term) (g : Term) where
     result_smaller = let e = ap ahead (last_task ks rest k (visit t) split is) in let p = size_above_zero t in omega arith
 
   -- a compound term becomes the visits of its parts and a task that makes it
-  module _ (ks rest : List A) (k m : A) (vs ms : List A) (n : Name) (ts : List Term) (split : ks ≡ rest ++ k ∷ []) (is : task k ≡ visit (Comp n (to_terms ts))) (makes : task m ≡ make n (length ts)) (visits : map task vs ≡ map visit ts) (more : ms ≡ (rest ++ m ∷ []) ++ reverse vs) where
+  module _ (ks rest : List A) (k m : A) (vs ms : List A) (n : Name) (ts : List Term) (split : ks ≡ rest ++ k ∷ []) (is : task k ≡ visit (Comp n (to_terms ts)))
+      (makes : task m ≡ make n (length ts)) (visits : map task vs ≡ map visit ts) (more : ms ≡ (rest ++ m ∷ []) ++ reverse vs) where
     parts : stack A task ms ≡ map visit ts ++ make n (length ts) ∷ stack A task rest
     parts = ap (stack A task) more ∙ stack_parts A task rest m vs ∙ ap (λ js. js ++ task m ∷ stack A task rest) visits ∙ ap (λ j. map visit ts ++ j ∷ stack A task rest) makes
 

@@ -1,5 +1,6 @@
 -- A compound term is visited by visits of its parts and one task that makes it.
-use Rattle.std.proofs.Common.{◌≡◌, ℕ, suc, ◌+◌, ◌-◌, ◌*◌, ◌<◌, ◌≤◌, ap, sym, ◌∙◌, subst, arith, List, [], ◌∷◌, ◌++◌, length, take, drop, append_assoc, length-append}
+use Rattle.std.proofs.Common.{◌≡◌, ℕ, suc, ◌+◌, ◌-◌, ◌*◌, ◌<◌, ◌≤◌, ap, sym, ◌∙◌, subst, arith, List, [], ◌∷◌, ◌++◌, length, take, drop, append_assoc}
+use Rattle.std.proofs.Common.{length-append}
 use Rattle.std.specs.Prelude.{map, reverse}
 use Rattle.std.proofs.lemmas.List.{append-nil, length-take-le, map-append, reverse-append, reverse-reverse}
 use Rattle.std.proofs.Math.Seq.{take-append_seam, drop-append_seam}
@@ -42,7 +43,8 @@ pub leaves_parts : (f : Name) (ts : List Term) (ks : List Task) (ds : List Term)
 leaves_parts f ts ks ds g l = record { ends = compound_finish f ts ks ds ∙ l.ends; ready = compound_ready f ts ks (length ds) l.ready }
 
 -- The last results become a compound term.
-pub leaves_compound : (f : Name) (n : ℕ) (ks : List Task) (ds : List Term) (g : Term) → Leaves (make f n ∷ ks) ds g → Leaves ks (take (length ds - n) ds ++ Comp f (to_terms (drop (length ds - n) ds)) ∷ []) g
+pub leaves_compound : (f : Name) (n : ℕ) (ks : List Task) (ds : List Term) (g : Term) → Leaves (make f n ∷ ks) ds g
+    → Leaves ks (take (length ds - n) ds ++ Comp f (to_terms (drop (length ds - n) ds)) ∷ []) g
 leaves_compound f n ks ds g l =
     let t = Comp f (to_terms (drop (length ds - n) ds)) in
     let few : n ≤ length ds = l.ready.0 in

@@ -7,14 +7,14 @@
 ghost use Rattle.std.specs.Prelude.{◌≡◌, ◌<◌, ◌≤◌, ◌++◌, length, map, reverse, IfOk, OnOk, All};
 ghost use Rattle.term_pool.specs.Contents.{name_in};
 ghost use Rattle.term_pool.specs.Terms.{term_of as pool_term, shape_term, Extends, KeepsTerms as KeepsPoolTerms};
-ghost use Rattle.term_pool.specs.Valid.{IsWithin, shape_of};
+ghost use Rattle.term_pool.specs.PoolInvariant.{IsWithin, shape_of};
 ghost use Rattle.domain_ranges.specs.Views.{family_of};
 ghost use Rattle.fd_language.specs.SingleValues.{value_in};
 ghost use Rattle.heap_cells.specs.Cells.{IsOf};
 ghost use Rattle.heap_cells.specs.Atoms.{HasAtomsBelow, IsAtomBelow};
 ghost use Rattle.heap_cells.specs.SeenTerms.{seen_term, HasLinksBelow};
 ghost use Rattle.heap_terms.specs.declared.ReadTask.TheVariants as reading;
-ghost use Rattle.heap_terms.specs.ReadBack.{VisitsCell, AddsTerm, MakesTerm, PlacesAtZero};
+ghost use Rattle.heap_terms.specs.CellReads.{VisitsCell, AddsTerm, MakesTerm, PlacesAtZero};
 
 use domain_ranges::{Domain, View};
 use fd_language::NoMemory;

@@ -1,3 +1,3 @@
 mod Renaming
-mod EachOne
+mod ListItems
 mod Sizes

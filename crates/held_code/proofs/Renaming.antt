@@ -6,12 +6,13 @@ use Rattle.std.proofs.lemmas.List.Elements.{All-map}
 use Rattle.std.proofs.lemmas.List.Sums.{prefix_len-le-length}
 use Rattle.fd_language.specs.declared.range_node.RangeNode.{RangeNode}
 use Rattle.fd_language.specs.declared.range_node.RangeNode.TheVariants as node
-use Rattle.fd_language.specs.Range.{Range, Span, One, Dom, Union, Inter, Outside, Plus, Minus, Times, Over, Expr, Number, Infinity, Param, Min, Max, Val, Add, Sub, Mul, DivDown, DivUp}
-use Rattle.fd_language.specs.Flat.{expr_nodes, range_nodes, nodes_of}
+use Rattle.fd_language.specs.Range.{Range, Span, One, Dom, Union, Inter, Outside, Plus, Minus, Times, Over, Expr, Number, Infinity, Param, Min, Max, Val, Add}
+use Rattle.fd_language.specs.Range.{Sub, Mul, DivDown, DivUp}
+use Rattle.fd_language.specs.PostfixRanges.{expr_nodes, range_nodes, nodes_of}
 use Rattle.fd_language.specs.RangeRenaming.{rename_expr, rename_range}
 use Rattle.range_code.specs.Nodes.{rename_node}
 use Rattle.range_code.specs.Slots.{slots_of, slot_of, in_slots}
-use Rattle.listing_reader.specs.Fits.{HasSize, IsNumber}
+use Rattle.listing_reader.specs.NumberBounds.{HasSize, IsNumber}
 
 expr_names : (f : ℕ → ℕ) (e : Expr) (rest : List RangeNode) → map (rename_node f) (expr_nodes e rest) ≡ expr_nodes (rename_expr f e) (map (rename_node f) rest)
 expr_names f (Number z) rest = refl
@@ -66,7 +67,8 @@ size_renamed f small node.Over h = h
 
 -- So many slots have numbers that fit.
 pub slots_fit : (r : Range) → IsNumber (length (slots_of r)) → All HasSize (nodes_of r) → All HasSize (nodes_of (in_slots r))
-slots_fit r count h = subst (All HasSize) (names_of (slot_of r) r) (All-map HasSize (rename_node (slot_of r)) (nodes_of r) (λ k d l. size_renamed (slot_of r) small (get_or (nodes_of r) k d) (h k d l)))
+slots_fit r count h = subst (All HasSize) (names_of (slot_of r) r)
+    (All-map HasSize (rename_node (slot_of r)) (nodes_of r) (λ k d l. size_renamed (slot_of r) small (get_or (nodes_of r) k d) (h k d l)))
   where
     small : (y : ℕ) → IsNumber (slot_of r y)
     small y = let most = prefix_len-le-length (λ x. not (nat_eq y x)) (slots_of r) in omega (arith, most, count)

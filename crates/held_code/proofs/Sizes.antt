@@ -2,17 +2,17 @@
 use Rattle.std.proofs.Common.{◌≡◌, ◌+◌, List, All, IsUtf8, map, drop, length, sym, subst, arith, length-drop}
 use Rattle.std.proofs.lemmas.List.{get_or-drop}
 use Rattle.fd_language.specs.Term.{Name}
-use Rattle.term_pool.specs.Valid.{IsPool}
+use Rattle.term_pool.specs.PoolInvariant.{IsPool}
 use Rattle.code_listing.specs.Listing.{sheet_of}
 use Rattle.fd_language.specs.Range.{Range}
-use Rattle.fd_language.specs.Flat.{nodes_of}
+use Rattle.fd_language.specs.PostfixRanges.{nodes_of}
 use Rattle.range_code.specs.Slots.{in_slots}
 use Rattle.wam_code.specs.declared.instruction.Code.{Code}
 use Rattle.wam_code.specs.declared.parts.Entry.{Entry}
 use Rattle.wam_code.specs.declared.parts.QueryEntry.{QueryEntry}
 use Rattle.wam_code.specs.declared.parts.CodeParts.{CodeParts}
 use Rattle.wam_code.specs.Area.{State, Table, area_of, span_of}
-use Rattle.listing_reader.specs.Fits.{HasSize, HasSizes, IsNumber, IsSmallCode, IsSmallEntry, IsSmallKey, IsSmallSpan, IsSmallState}
+use Rattle.listing_reader.specs.NumberBounds.{HasSize, HasSizes, IsNumber, IsSmallCode, IsSmallEntry, IsSmallKey, IsSmallSpan, IsSmallState}
 
 -- the atoms that are listed
 pub names_listed : (names : List Name) → All IsUtf8 names → All IsUtf8 (drop 3 names)
@@ -22,9 +22,12 @@ pub count_listed : (names : List Name) → IsNumber (length names) → IsNumber 
 count_listed names h = let size = length-drop 3 names in omega (arith, h, size)
 
 -- all of it
-pub sizes_of : (p : CodeParts) (ss : List State) → IsPool p.pool → IsNumber (length p.pool.names) → (codes : List Code) → codes ≡ p.code.items → All IsSmallCode codes → IsNumber (length codes) → (es : List Entry) → es ≡ p.entries.items → All IsSmallEntry es → IsNumber (length es)
-    → (qs : List QueryEntry) → qs ≡ p.queries.items → All IsSmallSpan (map span_of qs) → IsNumber (length (map span_of qs)) → (tables : List Table) → tables ≡ (area_of p).tables → All (All (λ row. IsSmallKey row.0 × IsNumber row.1)) tables
-    → (rs : List Range) → rs ≡ (area_of p).ranges → All (All HasSize) (map (λ r. nodes_of (in_slots r)) rs) → IsNumber (length (map (λ r. nodes_of (in_slots r)) rs)) → All IsSmallState ss → HasSizes (sheet_of (area_of p) ss)
+pub sizes_of : (p : CodeParts) (ss : List State) → IsPool p.pool → IsNumber (length p.pool.names) → (codes : List Code) → codes ≡ p.code.items
+    → All IsSmallCode codes → IsNumber (length codes) → (es : List Entry) → es ≡ p.entries.items → All IsSmallEntry es → IsNumber (length es)
+    → (qs : List QueryEntry) → qs ≡ p.queries.items → All IsSmallSpan (map span_of qs) → IsNumber (length (map span_of qs)) → (tables : List Table)
+    → tables ≡ (area_of p).tables → All (All (λ row. IsSmallKey row.0 × IsNumber row.1)) tables
+    → (rs : List Range) → rs ≡ (area_of p).ranges → All (All HasSize) (map (λ r. nodes_of (in_slots r)) rs)
+    → IsNumber (length (map (λ r. nodes_of (in_slots r)) rs)) → All IsSmallState ss → HasSizes (sheet_of (area_of p) ss)
 sizes_of p ss pool atoms codes code_is code places es entries_is entries entry_count qs queries_is queries query_count tables tables_is rows rs ranges_is nodes range_count states = record {
   names = names_listed p.pool.names pool.texts;
   nodes = subst (λ (l : List Range). All (All HasSize) (map (λ r. nodes_of (in_slots r)) l)) ranges_is nodes;

@@ -2,7 +2,7 @@
 
 ghost use Rattle.std.specs.Prelude.{All, length, map};
 ghost use Rattle.wam_code.specs.Area.{span_of};
-ghost use Rattle.listing_reader.specs.Fits.{IsNumber, IsSmallKey, IsSmallCode, IsSmallEntry, IsSmallSpan};
+ghost use Rattle.listing_reader.specs.NumberBounds.{IsNumber, IsSmallKey, IsSmallCode, IsSmallEntry, IsSmallSpan};
 
 use term_pool::AtomId;
 use wam_code::{Code, Entry, Key, QueryEntry};

@@ -3,7 +3,7 @@
 //! but say so.
 #![tactic(auto)]
 
-ghost use Rattle.listing_loader.specs.Loading.{IsHeld};
+ghost use Rattle.listing_loader.specs.LoadedCode.{IsHeld};
 
 mod code;
 mod ranges;

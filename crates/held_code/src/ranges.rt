@@ -2,10 +2,10 @@
 
 ghost use Rattle.std.specs.Prelude.{All, IsTrue, length, map};
 ghost use Rattle.fd_language.specs.declared.TheConstants.{INFINITY};
-ghost use Rattle.fd_language.specs.Flat.{nodes_of};
+ghost use Rattle.fd_language.specs.PostfixRanges.{nodes_of};
 ghost use Rattle.fd_language.specs.RangeVerdict.{is_accepted};
 ghost use Rattle.range_code.specs.Slots.{in_slots};
-ghost use Rattle.listing_reader.specs.Fits.{HasSize, IsNumber};
+ghost use Rattle.listing_reader.specs.NumberBounds.{HasSize, IsNumber};
 
 use fd_language::RangeNode;
 use range_code::RangeCode;

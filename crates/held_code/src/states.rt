@@ -2,7 +2,7 @@
 
 ghost use Rattle.std.specs.Prelude.{All};
 ghost use Rattle.code_listing.specs.States.{state_of, states_of};
-ghost use Rattle.listing_reader.specs.Fits.{IsNumber, IsSmallState};
+ghost use Rattle.listing_reader.specs.NumberBounds.{IsNumber, IsSmallState};
 
 use code_listing::PlaceState;
 

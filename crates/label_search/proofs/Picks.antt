@@ -1,5 +1,6 @@
 -- What is picked, as a list is walked.
-use Rattle.std.proofs.Common.{◌≡◌, ℕ, zero, suc, ◌<◌, ◌≤◌, Bool, true, false, cond, ltb, pos, List, [], ◌∷◌, length, get_or, drop, refl, ap, sym, ◌∙◌, subst, arith, inl, inr, ◌⊎◌}
+use Rattle.std.proofs.Common.{◌≡◌, ℕ, zero, suc, ◌<◌, ◌≤◌, Bool, true, false, cond, ltb, pos, List, [], ◌∷◌, length, get_or, drop, refl, ap, sym, ◌∙◌, subst}
+use Rattle.std.proofs.Common.{arith, inl, inr, ◌⊎◌}
 use Rattle.std.proofs.lemmas.Bool.{ltb-true, ltb-false, lt-ltb, le-ltb}
 use Rattle.std.specs.Prelude.{Option, Some, None, slice_get}
 use Rattle.std.proofs.lemmas.List.{get_or_default}
@@ -29,7 +30,8 @@ passed_further : (N : ℕ) (sets : List (List ℕ)) (m : Member) (ms : List Memb
 passed_further N sets m ms i p k l = p (suc k) (omega arith)
 
 module _ (N : ℕ) (sets : List (List ℕ)) (values : ℕ → List ℕ) where
-  first_place : (list : List Member) (ss : List seen.Member) (i : ℕ) → AreSeenAs N sets values list ss → i < length list → 1 < value_count N sets (member_at list i) → ArePassed N sets list i → IsPlaceOf ss (first_open ss) (Some i)
+  first_place : (list : List Member) (ss : List seen.Member) (i : ℕ) → AreSeenAs N sets values list ss → i < length list
+      → 1 < value_count N sets (member_at list i) → ArePassed N sets list i → IsPlaceOf ss (first_open ss) (Some i)
   first_place [] ss i a l v p = absurd (omega arith)
   first_place (m ∷ ms) [] i a l v p = absurd a
   first_place (m ∷ ms) (seen.Known z ∷ ss) zero a l v p = absurd (let q = a.0 in omega arith)
@@ -56,7 +58,8 @@ pub several_none : (N : ℕ) (sets : List (List ℕ)) (list : List Member) → A
 several_none N sets list p k d l = subst (λ m. value_count N sets m ≤ 1) (get_or_default list k (Fixed (pos 0)) d l) (p k l)
 
 -- the first member with more than one value is picked
-pub picked_first : (N : ℕ) (sets : List (List ℕ)) (list : List Member) (i : ℕ) → i < length list → 1 < value_count N sets (member_at list i) → ArePassed N sets list i → IsPicked N Leftmost sets list (Some i)
+pub picked_first : (N : ℕ) (sets : List (List ℕ)) (list : List Member) (i : ℕ) → i < length list → 1 < value_count N sets (member_at list i)
+    → ArePassed N sets list i → IsPicked N Leftmost sets list (Some i)
 picked_first N sets list i l v p values ss a = first_place N sets values list ss i a l v p
 
 -- where no member has more than one value, none is picked
@@ -70,7 +73,8 @@ record IsSplit (N : ℕ) (sets : List (List ℕ)) (values : ℕ → List ℕ) (s
   pub sees : IsSeenAs N sets values m here
   pub rest : drop i ss ≡ here ∷ drop (suc i) ss
 
-split_at : (N : ℕ) (sets : List (List ℕ)) (values : ℕ → List ℕ) (list : List Member) (ss : List seen.Member) (i : ℕ) (d : Member) → AreSeenAs N sets values list ss → i < length list → IsSplit N sets values ss i (get_or list i d)
+split_at : (N : ℕ) (sets : List (List ℕ)) (values : ℕ → List ℕ) (list : List Member) (ss : List seen.Member) (i : ℕ) (d : Member)
+    → AreSeenAs N sets values list ss → i < length list → IsSplit N sets values ss i (get_or list i d)
 split_at N sets values [] ss i d a l = absurd (omega arith)
 split_at N sets values (m ∷ ms) [] i d a l = absurd a
 split_at N sets values (m ∷ ms) (s ∷ ss) zero d a l = record { here = s; at = refl; sees = a.0; rest = refl }
@@ -81,7 +85,8 @@ abbrev pub IsTaken : ℕ → List (List ℕ) → List Member → ℕ → ℕ →
 IsTaken N sets list from count None = (k : ℕ) → from ≤ k → k < length list → value_count N sets (member_at list k) ≤ 1
 IsTaken N sets list from count (Some i) = (i < length list) × (count ≡ value_count N sets (member_at list i)) × (1 < count)
 
--- The member that is best among those from the place on is the one that is picked there, with its number of values. That number stands at the greatest one while there is no such member.
+-- The member that is best among those from the place on is the one that is picked there, with its number of values. That number stands at the greatest one
+-- while there is no such member.
 pub record IsBest (N most : ℕ) (sets : List (List ℕ)) (list : List Member) (from : ℕ) (count : ℕ) (best : Option ℕ) : Type 0 where
   pub picked : (values : ℕ → List ℕ) (ss : List seen.Member) → AreSeenAs N sets values list ss → IsPlaceOf ss (fewest values (drop from ss)) best
   pub taken : IsTaken N sets list from count best
@@ -103,7 +108,8 @@ module _ (N most : ℕ) (sets : List (List ℕ)) (list : List Member) where
   }
 
   -- the number of values of the member that was taken
-  taken_count : (values : ℕ → List ℕ) (ss : List seen.Member) (from count p y : ℕ) → AreSeenAs N sets values list ss → IsTaken N sets list from count (Some p) → slice_get ss p ≡ Some (seen.Open y) → length (values y) ≡ count
+  taken_count : (values : ℕ → List ℕ) (ss : List seen.Member) (from count p y : ℕ) → AreSeenAs N sets values list ss → IsTaken N sets list from count (Some p)
+      → slice_get ss p ≡ Some (seen.Open y) → length (values y) ≡ count
   taken_count values ss from count p y a t e =
       let r = split_at N sets values list ss p (Fixed (pos 0)) a t.0 in
       let f : r.here ≡ seen.Open y = (let g = r.at in cc) in
@@ -111,21 +117,30 @@ module _ (N most : ℕ) (sets : List (List ℕ)) (list : List Member) where
       q.1 ∙ sym t.1
 
   module _ (i count : ℕ) (there : i < length list) where
-    beats : (values : ℕ → List ℕ) (ss : List seen.Member) (x : ℕ) (o best : Option ℕ) → AreSeenAs N sets values list ss → IsTaken N sets list (suc i) count best → IsPlaceOf ss o best → length (values x) ≤ count → unless_fewer values x o ≡ x
+    beats : (values : ℕ → List ℕ) (ss : List seen.Member) (x : ℕ) (o best : Option ℕ) → AreSeenAs N sets values list ss → IsTaken N sets list (suc i) count best
+        → IsPlaceOf ss o best → length (values x) ≤ count → unless_fewer values x o ≡ x
     beats values ss x None best a t p l = refl
     beats values ss x (Some y) None a t p l = absurd p
-    beats values ss x (Some y) (Some j) a t p l = let e = taken_count values ss (suc i) count j y a t p in ap (λ b. cond b y x) (let f : ltb (length (values y)) (length (values x)) ≡ false = le-ltb (length (values y)) (length (values x)) (omega arith) in f)
+    beats values ss x (Some y) (Some j) a t p l = let e = taken_count values ss (suc i) count j y a t p in
+        ap (λ b. cond b y x) (let f : ltb (length (values y)) (length (values x)) ≡ false = le-ltb (length (values y)) (length (values x)) (omega arith) in f)
 
-    loses : (values : ℕ → List ℕ) (ss : List seen.Member) (x n : ℕ) (o best : Option ℕ) → AreSeenAs N sets values list ss → IsTaken N sets list (suc i) count best → (best ≡ None → count ≡ most) → IsPlaceOf ss o best → length (values x) ≡ n → count < n → n ≤ most → Some (unless_fewer values x o) ≡ o
+    loses : (values : ℕ → List ℕ) (ss : List seen.Member) (x n : ℕ) (o best : Option ℕ) → AreSeenAs N sets values list ss
+        → IsTaken N sets list (suc i) count best → (best ≡ None → count ≡ most) → IsPlaceOf ss o best → length (values x) ≡ n → count < n → n ≤ most
+        → Some (unless_fewer values x o) ≡ o
     loses values ss x n None None a t u p e l m = absurd (let q = u refl in omega arith)
     loses values ss x n None (Some j) a t u p e l m = absurd p
     loses values ss x n (Some y) None a t u p e l m = absurd p
-    loses values ss x n (Some y) (Some j) a t u p e l m = let f = taken_count values ss (suc i) count j y a t p in ap (λ b. Some (cond b y x)) (let g : ltb (length (values y)) (length (values x)) ≡ true = lt-ltb (length (values y)) (length (values x)) (omega arith) in g)
+    loses values ss x n (Some y) (Some j) a t u p e l m = let f = taken_count values ss (suc i) count j y a t p in
+        ap (λ b. Some (cond b y x)) (let g : ltb (length (values y)) (length (values x)) ≡ true = lt-ltb (length (values y)) (length (values x))
+        (omega arith) in g)
 
     module _ (best : Option ℕ) (old : IsBest N most sets list (suc i) count best) where
-      better : (values : ℕ → List ℕ) (ss : List seen.Member) (s : seen.Member) → AreSeenAs N sets values list ss → 1 < value_count N sets (member_at list i) → value_count N sets (member_at list i) ≤ count → IsSeenAs N sets values (member_at list i) s → slice_get ss i ≡ Some s → IsPlaceOf ss (fewest values (s ∷ drop (suc i) ss)) (Some i)
+      better : (values : ℕ → List ℕ) (ss : List seen.Member) (s : seen.Member) → AreSeenAs N sets values list ss → 1 < value_count N sets (member_at list i)
+          → value_count N sets (member_at list i) ≤ count → IsSeenAs N sets values (member_at list i) s → slice_get ss i ≡ Some s
+          → IsPlaceOf ss (fewest values (s ∷ drop (suc i) ss)) (Some i)
       better values ss (seen.Known z) a v l q e = absurd (omega arith)
-      better values ss (seen.Open x) a v l q e = e ∙ ap (λ y. Some (seen.Open y)) (sym (beats values ss x (fewest values (drop (suc i) ss)) best a old.taken (old.picked values ss a) (let r = q.1 in omega arith)))
+      better values ss (seen.Open x) a v l q e = e ∙ ap (λ y. Some (seen.Open y))
+          (sym (beats values ss x (fewest values (drop (suc i) ss)) best a old.taken (old.picked values ss a) (let r = q.1 in omega arith)))
 
       -- the member at the place is best, where it has several values and no more than the best one behind it
       pub best_here : 1 < value_count N sets (member_at list i) → value_count N sets (member_at list i) ≤ count → IsBest N most sets list i (value_count N sets (member_at list i)) (Some i)
@@ -141,7 +156,8 @@ module _ (N most : ℕ) (sets : List (List ℕ)) (list : List Member) where
       still_taken None t f = λ k l m. elim (from_cases i k l) [ inl e ↦ subst (λ j. value_count N sets (member_at list j) ≤ 1) e (f refl) | inr h ↦ t k h m ]
       still_taken (Some p) t f = t
 
-      single : (values : ℕ → List ℕ) (ss : List seen.Member) (s : seen.Member) → value_count N sets (member_at list i) ≤ 1 → IsSeenAs N sets values (member_at list i) s → fewest values (s ∷ drop (suc i) ss) ≡ fewest values (drop (suc i) ss)
+      single : (values : ℕ → List ℕ) (ss : List seen.Member) (s : seen.Member) → value_count N sets (member_at list i) ≤ 1
+          → IsSeenAs N sets values (member_at list i) s → fewest values (s ∷ drop (suc i) ss) ≡ fewest values (drop (suc i) ss)
       single values ss (seen.Known z) v q = refl
       single values ss (seen.Open x) v q = absurd (let r = q.0 in omega arith)
 
@@ -155,9 +171,12 @@ module _ (N most : ℕ) (sets : List (List ℕ)) (list : List Member) where
         unset = old.unset;
       }
 
-      several : (values : ℕ → List ℕ) (ss : List seen.Member) (s : seen.Member) → AreSeenAs N sets values list ss → 1 < value_count N sets (member_at list i) → count < value_count N sets (member_at list i) → value_count N sets (member_at list i) ≤ most → IsSeenAs N sets values (member_at list i) s → fewest values (s ∷ drop (suc i) ss) ≡ fewest values (drop (suc i) ss)
+      several : (values : ℕ → List ℕ) (ss : List seen.Member) (s : seen.Member) → AreSeenAs N sets values list ss → 1 < value_count N sets (member_at list i)
+          → count < value_count N sets (member_at list i) → value_count N sets (member_at list i) ≤ most → IsSeenAs N sets values (member_at list i) s
+          → fewest values (s ∷ drop (suc i) ss) ≡ fewest values (drop (suc i) ss)
       several values ss (seen.Known z) a v l m q = absurd (omega arith)
-      several values ss (seen.Open x) a v l m q = loses values ss x (value_count N sets (member_at list i)) (fewest values (drop (suc i) ss)) best a old.taken old.unset (old.picked values ss a) q.1 l m
+      several values ss (seen.Open x) a v l m q = loses values ss x (value_count N sets (member_at list i)) (fewest values (drop (suc i) ss)) best a old.taken
+          old.unset (old.picked values ss a) q.1 l m
 
       -- the best one behind stays best, where the member at the place has more values
       pub best_several : 1 < value_count N sets (member_at list i) → count < value_count N sets (member_at list i) → value_count N sets (member_at list i) ≤ most → IsBest N most sets list i count best

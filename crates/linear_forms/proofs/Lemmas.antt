@@ -3,6 +3,6 @@
 pub use Rattle.linear_forms.proofs.Signs.{neg_one, one_inside, neg_inside}
 pub use Rattle.linear_forms.proofs.Words.{integer_fits, passed, passed_negation}
 -- Sums that are negated, and normal forms.
-pub use Rattle.linear_forms.proofs.Negating.{integer_at, scaled_integers, turned_inside, normal_inside}
+pub use Rattle.linear_forms.proofs.NegatedSums.{integer_at, scaled_integers, turned_inside, normal_inside}
 -- What is collected has integers of the language.
-pub use Rattle.linear_forms.proofs.Collected.{collected_inside}
+pub use Rattle.linear_forms.proofs.CollectedSums.{collected_inside}

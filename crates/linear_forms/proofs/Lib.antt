@@ -1,12 +1,12 @@
 mod Signs
 mod Shares
-mod Joining
+mod SumArithmetic
 mod Loops
 mod Words
-mod Alone
-mod Ordering
+mod SingleTerms
+mod ShareOrder
 mod Stacks
 mod Steps
-mod Collected
-mod Negating
+mod CollectedSums
+mod NegatedSums
 pub mod Lemmas

@@ -1,5 +1,6 @@
 -- A turn of the loops over terms.
-use Rattle.std.proofs.Common.{◌≡◌, ℕ, suc, ◌≤◌, Bool, true, false, cond, ℤ, pos, ◌+ℤ◌, ◌*ℤ◌, List, [], ◌∷◌, length, Option, None, Some, refl, sym, ap, subst, ◌∙◌, arith}
+use Rattle.std.proofs.Common.{◌≡◌, ℕ, suc, ◌≤◌, Bool, true, false, cond, ℤ, pos, ◌+ℤ◌, ◌*ℤ◌, List, [], ◌∷◌, length, Option, None, Some, refl, sym, ap, subst}
+use Rattle.std.proofs.Common.{◌∙◌, arith}
 use Rattle.std.proofs.lemmas.Bool.Decides.{nat_tests}
 use Rattle.std.specs.Prelude.{nat_eq}
 use Rattle.std.specs.Ordering.{int_eq}
@@ -75,7 +76,8 @@ module _ (old other now ahead : List (ℕ × Share)) (e : ℕ × Share) (a : Add
     fits = λ u p. let f : IsWhole (Some u) e.1 (Some w) = subst (λ r. IsWhole r e.1 (Some w)) (ap (λ (es : List (ℕ × Share)). share_at es e.0) (sym same) ∙ p) h in f.1;
   }
 
-  pub adding_turn : (w : Share) (new : List (ℕ × Share)) → IsWhole (share_at now e.0) e.1 (Some w) → ((q : ℕ) → share_at new q ≡ cond (nat_eq e.0 q) (Some w) (share_at now q)) → IsDistinct nat_eq (keys_of new) → Adding old other new ahead
+  pub adding_turn : (w : Share) (new : List (ℕ × Share)) → IsWhole (share_at now e.0) e.1 (Some w)
+      → ((q : ℕ) → share_at new q ≡ cond (nat_eq e.0 q) (Some w) (share_at now q)) → IsDistinct nat_eq (keys_of new) → Adding old other new ahead
   adding_turn w new h u d = record {
     distinct = tail_distinct e ahead a.distinct;
     same = λ x v f. kept x v f (nat_eq x e.0) refl;
@@ -101,7 +103,8 @@ module _ (old other now ahead : List (ℕ × Share)) (e : ℕ × Share) (a : Add
       finished x f true k = other_key x true k ∙ whole_is w h ∙ ap (λ y. together (share_at old y) (share_at other y)) (sym (same_key x e.0 k))
       finished x f false k = other_key x false k ∙ a.done x (past_head e ahead x k ∙ f)
 
-      within : (x : ℕ) (s t : Share) → share_at ahead x ≡ None → share_at old x ≡ Some s → share_at other x ≡ Some t → (b : Bool) → nat_eq x e.0 ≡ b → in_integers (s.coefficient +ℤ t.coefficient) ≡ true
+      within : (x : ℕ) (s t : Share) → share_at ahead x ≡ None → share_at old x ≡ Some s → share_at other x ≡ Some t → (b : Bool) → nat_eq x e.0 ≡ b
+          → in_integers (s.coefficient +ℤ t.coefficient) ≡ true
       within x s t f g j true k =
           let y : x ≡ e.0 = same_key x e.0 k in
           whole_inside w h s t (ap (share_at old) (sym y) ∙ g) (ap (share_at other) (sym y) ∙ j)
@@ -127,7 +130,8 @@ module _ (k : ℤ) (old now ahead : List (ℕ × Share)) (e : ℕ × Share) (a :
   pub scaled_over : IsShare (scaled_share k e.1) None → ScalesOver k old
   scaled_over h = record { variable = e.0; share = e.1; is = scaling_here; over = h }
 
-  pub scaling_turn : (w : Share) (new : List (ℕ × Share)) → IsShare (scaled_share k e.1) (Some w) → ((q : ℕ) → share_at new q ≡ cond (nat_eq e.0 q) (Some w) (share_at now q)) → IsDistinct nat_eq (keys_of new) → Scaling k old new ahead
+  pub scaling_turn : (w : Share) (new : List (ℕ × Share)) → IsShare (scaled_share k e.1) (Some w)
+      → ((q : ℕ) → share_at new q ≡ cond (nat_eq e.0 q) (Some w) (share_at now q)) → IsDistinct nat_eq (keys_of new) → Scaling k old new ahead
   scaling_turn w new h u d = record {
     distinct = tail_distinct e ahead a.distinct;
     part = λ x v f. a.part x v (past_head e ahead x (apart x v f) ∙ f);

@@ -63,7 +63,8 @@ put_coefficients : (qs : List (ℕ × Share)) (e : ℕ × Share) → coefficient
 put_coefficients [] e = refl
 put_coefficients (q ∷ qs) e = by (q.0 == e.0) (put_coefficients qs e) where
   by : (b : Bool) → coefficients (put qs e) ≡ with_product (coefficients qs) e.0 e.1.coefficient
-      → coefficients (cond b ((e.0, record { coefficient = q.1.coefficient +ℤ e.1.coefficient; first = q.1.first }) ∷ qs) (q ∷ put qs e)) ≡ cond b ((e.0, q.1.coefficient +ℤ e.1.coefficient) ∷ coefficients qs) ((q.0, q.1.coefficient) ∷ with_product (coefficients qs) e.0 e.1.coefficient)
+      → coefficients (cond b ((e.0, record { coefficient = q.1.coefficient +ℤ e.1.coefficient; first = q.1.first }) ∷ qs) (q ∷ put qs e)) ≡ cond b
+      ((e.0, q.1.coefficient +ℤ e.1.coefficient) ∷ coefficients qs) ((q.0, q.1.coefficient) ∷ with_product (coefficients qs) e.0 e.1.coefficient)
   by true h = refl
   by false h = ap (λ (ts : List (ℕ × ℤ)). (q.0, q.1.coefficient) ∷ ts) h
 
@@ -159,7 +160,8 @@ put_lacks x (q ∷ qs) e l h = by (q.0 == e.0) (put_lacks x qs e l.1 h) where
 put_distinct : (qs : List (ℕ × Share)) (e : ℕ × Share) → IsDistinct nat_eq (keys_of qs) → IsDistinct nat_eq (keys_of (put qs e))
 put_distinct [] e d = IsDistinct-cons nat_eq e.0 [] tt d
 put_distinct (q ∷ qs) e d = by (q.0 == e.0) refl (put_distinct qs e (tail_distinct q qs d)) where
-  by : (b : Bool) → (q.0 == e.0) ≡ b → IsDistinct nat_eq (keys_of (put qs e)) → IsDistinct nat_eq (keys_of (cond b ((e.0, record { coefficient = q.1.coefficient +ℤ e.1.coefficient; first = q.1.first }) ∷ qs) (q ∷ put qs e)))
+  by : (b : Bool) → (q.0 == e.0) ≡ b → IsDistinct nat_eq (keys_of (put qs e))
+      → IsDistinct nat_eq (keys_of (cond b ((e.0, record { coefficient = q.1.coefficient +ℤ e.1.coefficient; first = q.1.first }) ∷ qs) (q ∷ put qs e)))
   by true k i = subst (λ x. IsDistinct nat_eq (x ∷ keys_of qs)) (same_key q.0 e.0 k) d
   by false k i = IsDistinct-cons nat_eq q.0 (keys_of (put qs e)) (put_lacks q.0 qs e (head_lacks q qs d) k) i
 
@@ -168,7 +170,8 @@ merged_distinct qs [] d = d
 merged_distinct qs (e ∷ es) d = merged_distinct (put qs e) es (put_distinct qs e d)
 
 -- a test of all coefficients is one of all shares
-pub all_from : (p : ℤ → Bool) (qs : List (ℕ × Share)) → IsDistinct nat_eq (keys_of qs) → ((x : ℕ) (w : Share) → share_at qs x ≡ Some w → p w.coefficient ≡ true) → list_all (λ (t : ℕ × ℤ). p t.1) (coefficients qs) ≡ true
+pub all_from : (p : ℤ → Bool) (qs : List (ℕ × Share)) → IsDistinct nat_eq (keys_of qs) → ((x : ℕ) (w : Share) → share_at qs x ≡ Some w → p w.coefficient ≡ true)
+    → list_all (λ (t : ℕ × ℤ). p t.1) (coefficients qs) ≡ true
 all_from p [] d h = refl
 all_from p (q ∷ qs) d h =
     let here : p q.1.coefficient ≡ true = h q.0 q.1 (at_head q qs) in

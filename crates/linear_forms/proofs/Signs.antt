@@ -1,5 +1,6 @@
 -- A negated sum: its parts are the parts negated, and it is within the limits where the sum is.
-use Rattle.std.proofs.Common.{◌≡◌, ℕ, zero, suc, ◌^◌, Bool, true, false, cond, ℤ, pos, negsuc, ◌+ℤ◌, ◌*ℤ◌, neg_ℤ, List, [], ◌∷◌, refl, sym, ap, ◌∙◌, arith, Result, Ok, Err}
+use Rattle.std.proofs.Common.{◌≡◌, ℕ, zero, suc, ◌^◌, Bool, true, false, cond, ℤ, pos, negsuc, ◌+ℤ◌, ◌*ℤ◌, neg_ℤ, List, [], ◌∷◌, refl, sym, ap, ◌∙◌, arith}
+use Rattle.std.proofs.Common.{Result, Ok, Err}
 use Rattle.std.proofs.Math.IntN.{*ℤ_comm, *ℤ-negsuc, neg_ℤ-neg_ℤ}
 use Rattle.std.proofs.lemmas.Int.{ints}
 use Rattle.std.specs.Prelude.{nat_abs, nat_lt, ◌==◌, ◌&&◌, not, length, codes}
@@ -10,7 +11,8 @@ use Rattle.fd_model.proofs.Lemmas.{mul_none}
 use Rattle.fd_model.specs.declared.kinds.QueryFault.{QueryFault}
 use Rattle.fd_model.specs.declared.kinds.QueryFault.TheVariants.{Evaluation, Nonlinear, BadType}
 use Rattle.fd_language.specs.Term.{Term, Var, Int, Atom, Comp, no_terms, term, Name}
-use Rattle.fd_model.specs.Linear.{Sum, with_product, with_products, scaled, nonzero, plus, times, is_constant, in_integers, is_within, checked, of_both, of_one, sum_of, difference_of, product_of, collect_term}
+use Rattle.fd_model.specs.Linear.{Sum, with_product, with_products, scaled, nonzero, plus, times, is_constant, in_integers, is_within, checked, of_both, of_one}
+use Rattle.fd_model.specs.Linear.{sum_of, difference_of, product_of, collect_term}
 use Rattle.linear_forms.specs.Sums.{signed}
 
 -- the product by -1 is the negation
@@ -76,7 +78,9 @@ same_cons x a b ts us p q = λ i. (x, p i) ∷ q i
 scaled_product : (ts : List (ℕ × ℤ)) (x : ℕ) (a : ℤ) → scaled (negsuc 0) (with_product ts x a) ≡ with_product (scaled (negsuc 0) ts) x (negsuc 0 *ℤ a)
 scaled_product [] x a = refl
 scaled_product (t ∷ ts) x a = by (t.0 == x) (scaled_product ts x a) where
-  by : (b : Bool) → scaled (negsuc 0) (with_product ts x a) ≡ with_product (scaled (negsuc 0) ts) x (negsuc 0 *ℤ a) → scaled (negsuc 0) (cond b ((x, t.1 +ℤ a) ∷ ts) (t ∷ with_product ts x a)) ≡ cond b ((x, (negsuc 0 *ℤ t.1) +ℤ (negsuc 0 *ℤ a)) ∷ scaled (negsuc 0) ts) ((t.0, negsuc 0 *ℤ t.1) ∷ with_product (scaled (negsuc 0) ts) x (negsuc 0 *ℤ a))
+  by : (b : Bool) → scaled (negsuc 0) (with_product ts x a) ≡ with_product (scaled (negsuc 0) ts) x (negsuc 0 *ℤ a)
+      → scaled (negsuc 0) (cond b ((x, t.1 +ℤ a) ∷ ts) (t ∷ with_product ts x a)) ≡ cond b ((x, (negsuc 0 *ℤ t.1) +ℤ (negsuc 0 *ℤ a)) ∷ scaled (negsuc 0) ts)
+      ((t.0, negsuc 0 *ℤ t.1) ∷ with_product (scaled (negsuc 0) ts) x (negsuc 0 *ℤ a))
   by true e = same_cons x _ _ _ _ (one_added t.1 a) refl
   by false e = same_cons t.0 _ _ _ _ refl e
 
@@ -115,7 +119,9 @@ all_scaled p h (t ∷ ts) = λ i. h t.1 i && all_scaled p h ts i
 count_scaled : (ts : List (ℕ × ℤ)) → length (nonzero (scaled (negsuc 0) ts)) ≡ length (nonzero ts)
 count_scaled [] = refl
 count_scaled (t ∷ ts) = by (int_eq (negsuc 0 *ℤ t.1) (pos 0)) (int_eq t.1 (pos 0)) (one_zero t.1) (count_scaled ts) where
-  by : (b c : Bool) → b ≡ c → length (nonzero (scaled (negsuc 0) ts)) ≡ length (nonzero ts) → length (cond b (nonzero (scaled (negsuc 0) ts)) ((t.0, negsuc 0 *ℤ t.1) ∷ nonzero (scaled (negsuc 0) ts))) ≡ length (cond c (nonzero ts) (t ∷ nonzero ts))
+  by : (b c : Bool) → b ≡ c → length (nonzero (scaled (negsuc 0) ts)) ≡ length (nonzero ts)
+      → length (cond b (nonzero (scaled (negsuc 0) ts)) ((t.0, negsuc 0 *ℤ t.1) ∷ nonzero (scaled (negsuc 0) ts))) ≡ length
+      (cond c (nonzero ts) (t ∷ nonzero ts))
   by true true e h = h
   by false false e h = ap suc h
   by true false e h = absurd (cc)
@@ -170,7 +176,8 @@ difference_signed true (Err f) (Err g) = refl
 pub product_signed : (n : Bool) (r q : Result Sum QueryFault) → of_both product_of r (signed n q) ≡ signed n (of_both product_of r q)
 product_signed false r q = refl
 product_signed true (Ok s) (Ok t) = by (is_constant s) (is_constant (negated t)) (is_constant t) (constant_negated t) where
-  by : (a b c : Bool) → b ≡ c → cond a (checked (times s.constant (negated t))) (cond b (checked (times (negsuc 0 *ℤ t.constant) s)) (Err Nonlinear)) ≡ signed true (cond a (checked (times s.constant t)) (cond c (checked (times t.constant s)) (Err Nonlinear)))
+  by : (a b c : Bool) → b ≡ c → cond a (checked (times s.constant (negated t))) (cond b (checked (times (negsuc 0 *ℤ t.constant) s)) (Err Nonlinear)) ≡ signed
+      true (cond a (checked (times s.constant t)) (cond c (checked (times t.constant s)) (Err Nonlinear)))
   by true b c e = ap checked (times_negated s.constant t) ∙ sym (signed_checked (times s.constant t))
   by false true true e = ap checked (negated_times t.constant s) ∙ sym (signed_checked (times t.constant s))
   by false false false e = refl
@@ -181,7 +188,9 @@ product_signed true (Err f) (Ok t) = refl
 product_signed true (Err f) (Err g) = refl
 
 -- what is collected is within the limits
-collected_operator : (f : Name) (r q : Result Sum QueryFault) (u : Sum) → (let both = λ (op : Sum → Sum → Result Sum QueryFault). of_both op r q in cond (bytes_eq f (codes "+")) (both sum_of) (cond (bytes_eq f (codes "-")) (both difference_of) (cond (bytes_eq f (codes "*")) (both product_of) (Err BadType))) ≡ Ok u) → is_within u ≡ true
+collected_operator : (f : Name) (r q : Result Sum QueryFault) (u : Sum) → (let both = λ (op : Sum → Sum → Result Sum QueryFault). of_both op r q in
+    cond (bytes_eq f (codes "+")) (both sum_of) (cond (bytes_eq f (codes "-")) (both difference_of)
+    (cond (bytes_eq f (codes "*")) (both product_of) (Err BadType))) ≡ Ok u) → is_within u ≡ true
 collected_operator f r q u h = by (bytes_eq f (codes "+")) (bytes_eq f (codes "-")) (bytes_eq f (codes "*")) r q h where
   product : (s t : Sum) (a b : Bool) → cond a (checked (times s.constant t)) (cond b (checked (times t.constant s)) (Err Nonlinear)) ≡ Ok u → is_within u ≡ true
   product s t true b h = (checked_within (times s.constant t) u h).1

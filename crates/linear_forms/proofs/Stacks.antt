@@ -6,10 +6,10 @@ use Rattle.linear_forms.specs.declared.LinearFault.{LinearFault}
 use Rattle.linear_forms.specs.declared.LinearFault.TheVariants as fault
 use Rattle.linear_forms.specs.declared.sums.Sum.{Sum}
 use Rattle.linear_forms.specs.declared.walk.Made.{Made}
-use Rattle.linear_forms.specs.Form.{IsFaultOf}
+use Rattle.linear_forms.specs.LinearForm.{IsFaultOf}
 use Rattle.linear_forms.specs.Sums.{IsSum, Gives}
 use Rattle.linear_forms.specs.Tasks.{before, on_two, AreSums, Makes, TakesTwo}
-use Rattle.linear_forms.proofs.Joining.{sum_wider}
+use Rattle.linear_forms.proofs.SumArithmetic.{sum_wider}
 
 stack_push : (lo m hi : ℕ) (ts : List Sum) (acc ss : List linear.Sum) (t : Sum) (s : linear.Sum) → AreSums lo ts acc ss m → IsSum t s m hi → AreSums lo (ts ++ t ∷ []) acc (s ∷ ss) hi
 stack_push lo m hi [] acc ss t s a i =
@@ -37,8 +37,12 @@ stack_pop lo hi (u ∷ us) acc ss t a =
 -- a sum is pushed, of which d is given
 pub pushed : (d : Result linear.Sum QueryFault) (old new : Made) (t : Sum) (hi : ℕ) → Gives d old.met hi (Ok t) → new.sums.items ≡ old.sums.items ++ t ∷ [] → new.met ≡ hi
     → (ss : List linear.Sum) → Makes old ss → (ts : List linear.Sum) × (before ss d ≡ Ok ts) × Makes new ts
-pushed d old new t hi g e m ss a =
-    (g.0 ∷ ss, ap (before ss) g.1, subst (λ (n : ℕ). AreSums 0 new.sums.items [] (g.0 ∷ ss) n) (sym m) (subst (λ (ts : List Sum). AreSums 0 ts [] (g.0 ∷ ss) hi) (sym e) (stack_push 0 old.met hi old.sums.items [] ss t g.0 a g.2)))
+pushed d old new t hi g e m ss a = (
+  g.0 ∷ ss,
+  ap (before ss) g.1,
+  subst (λ (n : ℕ). AreSums 0 new.sums.items [] (g.0 ∷ ss) n) (sym m)
+      (subst (λ (ts : List Sum). AreSums 0 ts [] (g.0 ∷ ss) hi) (sym e) (stack_push 0 old.met hi old.sums.items [] ss t g.0 a g.2)),
+)
 
 pub not_pushed : (d : Result linear.Sum QueryFault) (f : LinearFault) → IsFaultOf d f → (ss : List linear.Sum) → IsFaultOf (before ss d) f
 not_pushed d fault.Nonlinear h ss = ap (before ss) h
@@ -49,7 +53,8 @@ not_pushed d fault.NoMemory h ss = tt
 none_made : (ss : List linear.Sum) (hi : ℕ) → AreSums 0 [] [] ss hi → ss ≡ []
 none_made ss hi a = sym a.0
 
-pub two_taken : (old new : Made) (middle : List Sum) (left right : Sum) → old.sums.items ≡ middle ++ right ∷ [] → middle ≡ new.sums.items ++ left ∷ [] → new.met ≡ old.met → (ss : List linear.Sum) → Makes old ss → TakesTwo old left right new ss
+pub two_taken : (old new : Made) (middle : List Sum) (left right : Sum) → old.sums.items ≡ middle ++ right ∷ [] → middle ≡ new.sums.items ++ left ∷ []
+    → new.met ≡ old.met → (ss : List linear.Sum) → Makes old ss → TakesTwo old left right new ss
 two_taken old new middle left right e f m ss a =
     let p = stack_pop 0 old.met middle [] ss right (subst (λ (ts : List Sum). AreSums 0 ts [] ss old.met) e a) in
     let q = stack_pop 0 p.middle new.sums.items [] p.rest left (subst (λ (ts : List Sum). AreSums 0 ts [] p.rest p.middle) f p.others) in
@@ -67,7 +72,8 @@ two_taken old new middle left right e f m ss a =
     }
 
 -- the last two sums are replaced by what the operation gives of them
-pub applied : (op : linear.Sum → linear.Sum → Result linear.Sum QueryFault) (old middle new : Made) (left right whole : Sum) → ((ss : List linear.Sum) → Makes old ss → TakesTwo old left right middle ss)
+pub applied : (op : linear.Sum → linear.Sum → Result linear.Sum QueryFault) (old middle new : Made) (left right whole : Sum)
+    → ((ss : List linear.Sum) → Makes old ss → TakesTwo old left right middle ss)
     → ((s t : linear.Sum) (lo m hi : ℕ) → IsSum left s lo m → IsSum right t m hi → Gives (op s t) lo hi (Ok whole)) → new.sums.items ≡ middle.sums.items ++ whole ∷ [] → new.met ≡ middle.met
     → (ss : List linear.Sum) → Makes old ss → (ts : List linear.Sum) × (on_two op ss ≡ Ok ts) × Makes new ts
 applied op old middle new left right whole two g e m ss a =
@@ -75,10 +81,13 @@ applied op old middle new left right whole two g e m ss a =
     let r = g t.first t.second t.lo t.middle old.met t.left_sum t.right_sum in (
       r.0 ∷ t.rest,
       ap (on_two op) t.is ∙ ap (before t.rest) r.1,
-      subst (λ (n : ℕ). AreSums 0 new.sums.items [] (r.0 ∷ t.rest) n) (sym (m ∙ t.met)) (subst (λ (ts : List Sum). AreSums 0 ts [] (r.0 ∷ t.rest) old.met) (sym e) (stack_push 0 t.lo old.met middle.sums.items [] t.rest whole r.0 t.others r.2)),
+      subst (λ (n : ℕ). AreSums 0 new.sums.items [] (r.0 ∷ t.rest) n) (sym (m ∙ t.met))
+          (subst (λ (ts : List Sum). AreSums 0 ts [] (r.0 ∷ t.rest) old.met) (sym e)
+          (stack_push 0 t.lo old.met middle.sums.items [] t.rest whole r.0 t.others r.2)),
     )
 
-pub not_applied : (op : linear.Sum → linear.Sum → Result linear.Sum QueryFault) (old middle : Made) (left right : Sum) (f : LinearFault) → ((ss : List linear.Sum) → Makes old ss → TakesTwo old left right middle ss)
+pub not_applied : (op : linear.Sum → linear.Sum → Result linear.Sum QueryFault) (old middle : Made) (left right : Sum) (f : LinearFault)
+    → ((ss : List linear.Sum) → Makes old ss → TakesTwo old left right middle ss)
     → ((s t : linear.Sum) (lo m hi : ℕ) → IsSum left s lo m → IsSum right t m hi → IsFaultOf (op s t) f) → (ss : List linear.Sum) → Makes old ss → IsFaultOf (on_two op ss) f
 not_applied op old middle left right f two g ss a =
     let t = two ss a in

@@ -1,6 +1,6 @@
-pub mod Form
+pub mod LinearForm
 pub mod Shares
 pub mod Sums
 pub mod Tasks
 pub mod Loops
-pub mod Inside
+pub mod IntegerSums

@@ -8,7 +8,7 @@ use Rattle.fd_model.specs.Linear.{in_integers, is_within, times, of_one}
 use Rattle.linear_forms.specs.declared.LinearFault.{LinearFault}
 use Rattle.linear_forms.specs.declared.sums.Share.{Share}
 use Rattle.linear_forms.specs.declared.sums.Sum.{Sum}
-use Rattle.linear_forms.specs.Form.{IsFaultOf}
+use Rattle.linear_forms.specs.LinearForm.{IsFaultOf}
 use Rattle.linear_forms.specs.Shares.{share_at, together, scaled_share, open_count, coefficients, Rise}
 
 -- negated at true

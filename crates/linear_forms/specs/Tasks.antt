@@ -1,5 +1,6 @@
 -- Collecting by tasks, and the sums that are made.
-use Rattle.std.specs.Prelude.{◌≡◌, ℕ, ◌+◌, ◌*◌, ◌<◌, ◌≤◌, Bool, false, not, if◌then◌else◌, List, [], ◌∷◌, ◌++◌, length, All, codes, Option, Some, None, MatchResult, Result, Ok, Err}
+use Rattle.std.specs.Prelude.{◌≡◌, ℕ, ◌+◌, ◌*◌, ◌<◌, ◌≤◌, Bool, false, not, if◌then◌else◌, List, [], ◌∷◌, ◌++◌, length, All, codes, Option, Some, None}
+use Rattle.std.specs.Prelude.{MatchResult, Result, Ok, Err}
 use Rattle.std.specs.Str.{bytes_eq}
 use Rattle.fd_language.specs.Term.{Name}
 use Rattle.fd_model.specs.declared.kinds.QueryFault.{QueryFault}
@@ -15,7 +16,7 @@ use Rattle.linear_forms.specs.declared.sums.Sum.{Sum}
 use Rattle.linear_forms.specs.declared.walk.Task.{Task}
 use Rattle.linear_forms.specs.declared.walk.Task.TheVariants as task
 use Rattle.linear_forms.specs.declared.walk.Made.{Made}
-use Rattle.linear_forms.specs.Form.{IsFaultOf}
+use Rattle.linear_forms.specs.LinearForm.{IsFaultOf}
 use Rattle.linear_forms.specs.Sums.{IsSum, signed}
 
 -- a sum before the others

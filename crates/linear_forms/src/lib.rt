@@ -5,15 +5,15 @@ ghost use Rattle.std.specs.Prelude.{◌≡◌, ◌<◌, length};
 ghost use Rattle.fd_model.specs.Linear.{collect as collected};
 ghost use Rattle.linear_forms.specs.declared.LinearFault.TheVariants.{NoMemory};
 ghost use Rattle.term_pool.specs.Terms.{term_of};
-ghost use Rattle.linear_forms.specs.Form.{Answers};
+ghost use Rattle.linear_forms.specs.LinearForm.{Answers};
 
 mod integers;
-mod normal;
+mod normal_forms;
 mod sums;
 mod walk;
 
 pub use crate::integers::{product, sum};
-pub use crate::normal::{negated, normal_form, turn};
+pub use crate::normal_forms::{negated, normal_form, turn};
 use crate::sums::{Sum, linear_of};
 use crate::walk::collect_difference;
 use fd_language::NoMemory as Wanting;

@@ -6,7 +6,7 @@ ghost use Rattle.fd_language.specs.Term.{Var, Int};
 ghost use Rattle.fd_model.specs.Linear as linear;
 ghost use Rattle.fd_model.specs.Linear.{nonzero, collect_term, sum_of, product_of, linear_of as linear_form};
 ghost use Rattle.linear_forms.specs.declared.LinearFault.TheVariants as fault;
-ghost use Rattle.linear_forms.specs.Form.{form_of, IsOwnFault};
+ghost use Rattle.linear_forms.specs.LinearForm.{form_of, IsOwnFault};
 ghost use Rattle.linear_forms.specs.Shares.{IsShare, both, scaled_share, share_at, IsWhole, open_count, coefficients, OverflowsBy};
 ghost use Rattle.linear_forms.specs.Sums.{Adds, Exceeds, HasFitting, IsSum, IsKept, Gives, AddsSum, ExceedsSum, Scales, ScalesOver, Multiplies, ExceedsTimes, signed};
 

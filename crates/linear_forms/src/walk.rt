@@ -6,7 +6,7 @@ ghost use Rattle.fd_model.specs.Linear as linear;
 ghost use Rattle.fd_model.specs.Linear.{of_both, difference_of, sum_of, product_of, collect_term};
 ghost use Rattle.term_pool.specs.Terms.{term_of};
 ghost use Rattle.linear_forms.specs.declared.walk.Task.TheVariants as task;
-ghost use Rattle.linear_forms.specs.Form.{IsOwnFault};
+ghost use Rattle.linear_forms.specs.LinearForm.{IsOwnFault};
 ghost use Rattle.linear_forms.specs.Sums.{Gives, signed};
 ghost use Rattle.linear_forms.specs.Tasks.{before, on_two, operator_tasks, compound_tasks, Opens, IsOf, Makes, Applies, TakesTwo, HasNotTwo, Does, Refuses};
 

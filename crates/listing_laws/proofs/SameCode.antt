@@ -5,7 +5,7 @@ use Rattle.std.proofs.Common.{arith}
 use Rattle.fd_language.specs.Term.{Name, Term, Terms, no_terms, term}
 use Rattle.fd_language.specs.Range.{Range}
 use Rattle.fd_language.specs.Spelling.{empty_range}
-use Rattle.fd_language.specs.Flat.{nodes_of, spelled_range, spelled_range-nodes}
+use Rattle.fd_language.specs.PostfixRanges.{nodes_of, spelled_range, spelled_range-nodes}
 use Rattle.fd_language.specs.RangeRenaming.{rename_range}
 use Rattle.fd_language.specs.Unifier.{Equation}
 use Rattle.fd_language.specs.declared.range_node.RangeNode.{RangeNode}
@@ -14,16 +14,23 @@ use Rattle.fd_model.specs.Goal.{Goal, Clause, Query, Program, Post}
 use Rattle.range_code.specs.Slots.{slots_of, in_slots}
 use Rattle.term_pool.specs.Contents.{Entry as PoolEntry, name_in, first_names}
 use Rattle.term_pool.specs.declared.TheConstants.{NIL, CONS, SPAN}
-use Rattle.term_pool.specs.Valid.{IsPool}
+use Rattle.term_pool.specs.PoolInvariant.{IsPool}
 use Rattle.wam_code.specs.declared.instruction.Code.{Code}
-use Rattle.wam_code.specs.declared.instruction.Code.TheVariants.{GetVariable, GetValue, GetConstant, GetInteger, GetStructure, UnifyVariable, UnifyValue, UnifyConstant, UnifyInteger, UnifyVoid, PutVariable, PutValue, PutConstant, PutInteger, PutStructure, Allocate, Deallocate, Call, Execute, Proceed, Jump, FailNow, AnswerNow, TryMeElse, RetryMeElse, TrustMe, Try, Retry, Trust, SwitchOnTerm, SwitchOnConstant, SwitchOnInteger, SwitchOnStructure, Either, Builtin, Constrain, Label, Best, PostRange, Level, TestOnly, EnterTest, CutTo}
+use Rattle.wam_code.specs.declared.instruction.Code.TheVariants.{GetVariable, GetValue, GetConstant, GetInteger, GetStructure, UnifyVariable, UnifyValue}
+use Rattle.wam_code.specs.declared.instruction.Code.TheVariants.{UnifyConstant, UnifyInteger, UnifyVoid, PutVariable, PutValue, PutConstant, PutInteger}
+use Rattle.wam_code.specs.declared.instruction.Code.TheVariants.{PutStructure, Allocate, Deallocate, Call, Execute, Proceed, Jump, FailNow, AnswerNow}
+use Rattle.wam_code.specs.declared.instruction.Code.TheVariants.{TryMeElse, RetryMeElse, TrustMe, Try, Retry, Trust, SwitchOnTerm, SwitchOnConstant}
+use Rattle.wam_code.specs.declared.instruction.Code.TheVariants.{SwitchOnInteger, SwitchOnStructure, Either, Builtin, Constrain, Label, Best, PostRange, Level}
+use Rattle.wam_code.specs.declared.instruction.Code.TheVariants.{TestOnly, EnterTest, CutTo}
 use Rattle.wam_code.specs.declared.instruction.Key.{Key}
 use Rattle.wam_code.specs.declared.instruction.Key.TheVariants as key
 use Rattle.wam_code.specs.declared.parts.Entry.{Entry}
 use Rattle.wam_code.specs.Area.{Area, Span, Table}
 use Rattle.wam_code.specs.Places.{Depth, Places}
-use Rattle.wam_code.specs.Means.{Rest, Rests, Caller, UnifyRule, Owed, HoldVars, PostRule, Takes, Equates, RuleWith, Steps, no_steps, more_steps, Within, Means}
-use Rattle.wam_code.specs.Tries.{Shape, is_atom, is_integer, is_structure, IsClause, IsShape, Rows, TryRule, TriesWithin, IsPredicate, AreQueries, StandsForProgram}
+use Rattle.wam_code.specs.CodeMeaning.{Rest, Rests, Caller, UnifyRule, Owed, HoldVars, PostRule, Takes, Equates, RuleWith, Steps, no_steps, more_steps, Within}
+use Rattle.wam_code.specs.CodeMeaning.{Means}
+use Rattle.wam_code.specs.Tries.{Shape, is_atom, is_integer, is_structure, IsClause, IsShape, Rows, TryRule, TriesWithin, IsPredicate, AreQueries}
+use Rattle.wam_code.specs.Tries.{StandsForProgram}
 use Rattle.code_listing.specs.Listing.{Sheet, IsSameCode}
 use Rattle.listing_laws.proofs.SameRanges as ranges
 
@@ -134,7 +141,12 @@ module _ (names : List Name) (is : List Code) (tables : List Table) (entries : L
   within : (w : Caller) (s : Steps) → Grows (Within A w s) (Within B w s)
   within w no_steps at p es gs h = absurd h
   within w (more_steps n f) at p es gs (inl h) =
-      inl (h.0, h.1, rules w (Within A w n) (Within B w n) (λ d. Within A w (f d)) (λ d. Within B w (f d)) (λ a q ds hs i. within w n a q ds hs i) (λ d a q ds hs i. within w (f d) a q ds hs i) h.0 at p es gs h.2)
+      inl (
+        h.0,
+        h.1,
+        rules w (Within A w n) (Within B w n) (λ d. Within A w (f d)) (λ d. Within B w (f d)) (λ a q ds hs i. within w n a q ds hs i)
+            (λ d a q ds hs i. within w (f d) a q ds hs i) h.0 at p es gs h.2,
+      )
   within w (more_steps n f) at p es gs (inr (inl h)) = inr (inl (h.0, h.1, h.2, equates p h.0 _ es _ _ (λ ds. within w n at _ ds gs) h.3))
   within w (more_steps n f) at p es gs (inr (inr h)) = inr (inr (h.0, h.1, h.2, h.3, h.4, h.5, within w n at _ _ gs h.6))
 

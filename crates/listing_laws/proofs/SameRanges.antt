@@ -1,5 +1,6 @@
 -- Ranges that are the same in slots are each other's renaming, by different variables for different ones.
-use Rattle.std.proofs.Common.{◌≡◌, ◌⊎◌, ℕ, suc, ◌+◌, ◌<◌, ◌==◌, Bool, true, false, cond, not, List, [], ◌∷◌, map, refl, sym, ◌∙◌, ap, subst, inl, inr, arith, eqb-true, eq-eqb}
+use Rattle.std.proofs.Common.{◌≡◌, ◌⊎◌, ℕ, suc, ◌+◌, ◌<◌, ◌==◌, Bool, true, false, cond, not, List, [], ◌∷◌, map, refl, sym, ◌∙◌, ap, subst, inl, inr, arith}
+use Rattle.std.proofs.Common.{eqb-true, eq-eqb}
 use Rattle.std.specs.Prelude.{nat_eq, filter, get_or}
 use Rattle.std.specs.List.{position_or_len}
 use Rattle.std.proofs.lemmas.Bool.{cases_Bool, or_cases, or_left, or_right, true≢false}
@@ -10,7 +11,8 @@ use Rattle.fd_language.specs.Range.{Range}
 use Rattle.fd_language.specs.Needs.{once}
 use Rattle.fd_language.specs.Occurrences.{Occurrence, range_occurrences}
 use Rattle.fd_language.specs.RangeRenaming.{rename_range}
-use Rattle.fd_language.proofs.Lemmas.{has_once, has_map, map_has, collected_by, variables_collected, renamed_leaves, renamed_agree, renamed_twice, renamed_as_is}
+use Rattle.fd_language.proofs.Lemmas.{has_once, has_map, map_has, collected_by, variables_collected, renamed_leaves, renamed_agree, renamed_twice}
+use Rattle.fd_language.proofs.Lemmas.{renamed_as_is}
 use Rattle.range_code.specs.Slots.{slots_of, slot_of, in_slots}
 
 -- the variables of a range, at each of their occurrences
@@ -25,7 +27,10 @@ vars_renamed f r =
 
 each_at : (Q : ℕ → Type 0) (ps : List Occurrence) → ((y : ℕ) → has (map (λ p. p.variable) ps) y ≡ true → Q y) → Each (λ p. Q p.variable) ps
 each_at Q [] h = tt
-each_at Q (p ∷ ps) h = (h p.variable (or_left (p.variable == p.variable) (has (map (λ q. q.variable) ps) p.variable) (eq-eqb p.variable p.variable refl)), each_at Q ps (λ y i. h y (or_right (p.variable == y) (has (map (λ q. q.variable) ps) y) i)))
+each_at Q (p ∷ ps) h = (
+  h p.variable (or_left (p.variable == p.variable) (has (map (λ q. q.variable) ps) p.variable) (eq-eqb p.variable p.variable refl)),
+  each_at Q ps (λ y i. h y (or_right (p.variable == y) (has (map (λ q. q.variable) ps) y) i)),
+)
 
 -- the variable with a place in a list
 abbrev at_place : List ℕ → ℕ → ℕ
@@ -36,7 +41,9 @@ there_of [] y h = absurd (true≢false (sym h))
 there_of (x ∷ xs) y h = by_test (cases_Bool (y == x)) (there_of xs y) where
   by_test : ((y == x) ≡ true) ⊎ ((y == x) ≡ false) → (has xs y ≡ true → at_place xs (position_or_len (nat_eq y) xs) ≡ y) → at_place (x ∷ xs) (position_or_len (nat_eq y) (x ∷ xs)) ≡ y
   by_test (inl e) k = rw e (sym (eqb-true y x e))
-  by_test (inr e) k = rw e (let up : suc (position_or_len (nat_eq y) xs) ≡ 1 + position_or_len (nat_eq y) xs = omega arith in subst (λ n. get_or (x ∷ xs) n 0 ≡ y) up (k (elim (or_cases (x == y) (has xs y) h) [ inl l ↦ absurd (true≢false (sym (eq-eqb y x (sym (eqb-true x y l))) ∙ e)) | inr l ↦ l ])))
+  by_test (inr e) k = rw e (let up : suc (position_or_len (nat_eq y) xs) ≡ 1 + position_or_len (nat_eq y) xs = omega arith in
+      subst (λ n. get_or (x ∷ xs) n 0 ≡ y) up (k (elim (or_cases (x == y) (has xs y) h)
+      [ inl l ↦ absurd (true≢false (sym (eq-eqb y x (sym (eqb-true x y l))) ∙ e)) | inr l ↦ l ])))
 
 -- the variable of a slot
 abbrev variable_of : Range → ℕ → ℕ

@@ -1,6 +1,6 @@
 -- The statement of the law.
 use Rattle.fd_model.specs.Goal.{Program}
-use Rattle.term_pool.specs.Valid.{IsPool}
+use Rattle.term_pool.specs.PoolInvariant.{IsPool}
 use Rattle.wam_code.specs.Area.{Area}
 use Rattle.wam_code.specs.Tries.{StandsForProgram}
 use Rattle.code_listing.specs.Listing.{IsSameCode}

@@ -1,5 +1,6 @@
 -- Atoms that are put into a pool one after another.
-use Rattle.std.proofs.Common.{◌≡◌, ◌≢◌, ◌⊎◌, ℕ, suc, zero, ◌+◌, ◌<◌, Bool, true, false, not, cond, List, [], ◌∷◌, ◌++◌, take, length, get_or, refl, sym, ap, ◌∙◌, arith, inl, inr, append_assoc}
+use Rattle.std.proofs.Common.{◌≡◌, ◌≢◌, ◌⊎◌, ℕ, suc, zero, ◌+◌, ◌<◌, Bool, true, false, not, cond, List, [], ◌∷◌, ◌++◌, take, length, get_or, refl, sym, ap}
+use Rattle.std.proofs.Common.{◌∙◌, arith, inl, inr, append_assoc}
 use Rattle.std.specs.List.{list_any}
 use Rattle.std.specs.Str.{bytes_eq}
 use Rattle.std.proofs.lemmas.Bool.{cases_Bool}
@@ -32,7 +33,8 @@ was_new names c h = go (cases_Bool (list_any (bytes_eq c) names)) where
   go (inr f) = (f, ap (λ b. cond b names (names ++ c ∷ [])) f)
 
 -- the mark of the atom that is put next
-pub mark_put : (before cs names : List Name) (i : ℕ) (text : Name) (b : Bool) → i < length cs → names ≡ before ++ take i cs → text ≡ get_or cs i [] → list_any (bytes_eq text) names ≡ b → get_or (atom_marks before cs) i true ≡ not b
+pub mark_put : (before cs names : List Name) (i : ℕ) (text : Name) (b : Bool) → i < length cs → names ≡ before ++ take i cs → text ≡ get_or cs i []
+    → list_any (bytes_eq text) names ≡ b → get_or (atom_marks before cs) i true ≡ not b
 mark_put before cs names i text b h e t a = mark_at before cs i [] true h ∙ ap not (sym (ap (λ l. list_any (bytes_eq (get_or cs i [])) l) e) ∙ sym (ap (λ x. list_any (bytes_eq x) names) t) ∙ a)
 
 pub names_more : (before cs names : List Name) (i : ℕ) (text : Name) → i < length cs → names ≡ before ++ take i cs → text ≡ get_or cs i [] → names ++ text ∷ [] ≡ before ++ take (i + 1) cs

@@ -1,5 +1,6 @@
 -- Keys in rising order.
-use Rattle.std.proofs.Common.{◌≡◌, ◌⊎◌, ◌↔◌, ℕ, suc, zero, ◌<◌, Bool, true, false, cond, IsTrue, ◌&&◌, nat_lt, ◌==◌, [], ◌∷◌, refl, subst, inl, inr, arith, rules, eqb-true}
+use Rattle.std.proofs.Common.{◌≡◌, ◌⊎◌, ◌↔◌, ℕ, suc, zero, ◌<◌, Bool, true, false, cond, IsTrue, ◌&&◌, nat_lt, ◌==◌, [], ◌∷◌, refl, subst, inl, inr, arith}
+use Rattle.std.proofs.Common.{rules, eqb-true}
 use Rattle.std.proofs.lemmas.Bool.{false≢true, ltb-true, lt-ltb, eqb-false, and_parts, and_from}
 use Rattle.std.proofs.lemmas.Option.{none-some, same_Some}
 use Rattle.std.proofs.lemmas.Int.{ints}
@@ -22,7 +23,12 @@ below_is k l = (λ h. absurd (false≢true h), λ h. absurd h)
 pub rises_is : (table : Table) → IsTrue (rises table) ↔ Rises table
 rises_is [] = (λ h k x y a b. absurd (none-some x a), λ r. refl)
 rises_is (x ∷ []) = (λ h k v w a b. absurd (none-some w b), λ r. refl)
-rises_is (x ∷ y ∷ rows) = (forth (λ h. (rises_is (y ∷ rows)).0 h), λ r. and_from (is_below x.0 y.0) (rises (y ∷ rows)) ((below_is x.0 y.0).1 (r 0 x y refl refl)) ((rises_is (y ∷ rows)).1 (λ k v w a b. r (suc k) v w a b))) where
+rises_is (x ∷ y ∷ rows) = (
+  forth (λ h. (rises_is (y ∷ rows)).0 h),
+  λ r. and_from (is_below x.0 y.0) (rises (y ∷ rows)) ((below_is x.0 y.0).1 (r 0 x y refl refl))
+      ((rises_is (y ∷ rows)).1 (λ k v w a b. r (suc k) v w a b)),
+) where
   forth : (IsTrue (rises (y ∷ rows)) → Rises (y ∷ rows)) → IsTrue (is_below x.0 y.0 && rises (y ∷ rows)) → Rises (x ∷ y ∷ rows)
-  forth more h zero v w a b = subst (λ (z : Key × ℕ). IsBelow v.0 z.0) (same_Some y w b) (subst (λ (z : Key × ℕ). IsBelow z.0 y.0) (same_Some x v a) ((below_is x.0 y.0).0 (and_parts (is_below x.0 y.0) (rises (y ∷ rows)) h).0))
+  forth more h zero v w a b = subst (λ (z : Key × ℕ). IsBelow v.0 z.0) (same_Some y w b)
+      (subst (λ (z : Key × ℕ). IsBelow z.0 y.0) (same_Some x v a) ((below_is x.0 y.0).0 (and_parts (is_below x.0 y.0) (rises (y ∷ rows)) h).0))
   forth more h (suc k) v w a b = more (and_parts (is_below x.0 y.0) (rises (y ∷ rows)) h).1 k v w a b

@@ -7,12 +7,14 @@ use Rattle.std.proofs.lemmas.List.Folds.{list_all-map}
 use Rattle.fd_language.specs.Family.{has}
 use Rattle.fd_language.specs.Lists.{Each}
 use Rattle.fd_language.specs.Needs.{once}
-use Rattle.fd_language.specs.Range.{Range, Span, One, Dom, Union, Inter, Outside, Plus, Minus, Times, Over, Expr, Number, Infinity, Param, Min, Max, Val, Add, Sub, Mul, DivDown, DivUp, Role, leaf, a_parameter, reads, params, param_at, param_by}
+use Rattle.fd_language.specs.Range.{Range, Span, One, Dom, Union, Inter, Outside, Plus, Minus, Times, Over, Expr, Number, Infinity, Param, Min, Max, Val, Add}
+use Rattle.fd_language.specs.Range.{Sub, Mul, DivDown, DivUp, Role, leaf, a_parameter, reads, params, param_at, param_by}
 use Rattle.fd_language.specs.Occurrences.{Occurrence, range_occurrences}
-use Rattle.fd_language.specs.Flat.{nodes_of}
+use Rattle.fd_language.specs.PostfixRanges.{nodes_of}
 use Rattle.fd_language.specs.RangeRenaming.{rename_expr, rename_range}
 use Rattle.fd_language.specs.RangeVerdict.{bound, expr_within, range_within, over_limit, factor_over_limit, has_one_use, is_accepted}
-use Rattle.fd_language.proofs.Lemmas.{two, whole_nodes, variables_collected, renamed_leaves, renamed_agree, renamed_as_is, collected_by, reads_occur, params_occur, reads_map, range_fits_same, same_leaves, has_once, each_map}
+use Rattle.fd_language.proofs.Lemmas.{two, whole_nodes, variables_collected, renamed_leaves, renamed_agree, renamed_as_is, collected_by, reads_occur}
+use Rattle.fd_language.proofs.Lemmas.{params_occur, reads_map, range_fits_same, same_leaves, has_once, each_map}
 use Rattle.range_code.specs.Slots.{slots_of, slot_of, in_slots}
 use Rattle.range_code.specs.Nodes.{node_variables}
 use Rattle.listing_loader.specs.Marks.{are_in_order, has_slots_in_order}
@@ -33,7 +35,10 @@ renamed_vars f r =
 -- what holds of each variable holds of each occurrence
 each_in : (P : ℕ → Type 0) (os : List Occurrence) → ((y : ℕ) → has (map (λ q. q.variable) os) y ≡ true → P y) → Each (λ q. P q.variable) os
 each_in P [] h = tt
-each_in P (o ∷ os) h = (h o.variable (or_left (o.variable == o.variable) (has (map (λ q. q.variable) os) o.variable) (eq-eqb o.variable o.variable refl)), each_in P os (λ y k. h y (or_right (o.variable == y) (has (map (λ q. q.variable) os) y) k)))
+each_in P (o ∷ os) h = (
+  h o.variable (or_left (o.variable == o.variable) (has (map (λ q. q.variable) os) o.variable) (eq-eqb o.variable o.variable refl)),
+  each_in P os (λ y k. h y (or_right (o.variable == y) (has (map (λ q. q.variable) os) y) k)),
+)
 
 -- the slots of a range in slots are in order,
 pub slots_in_order : (r : Range) → has_slots_in_order (nodes_of (in_slots r)) ≡ true
@@ -78,7 +83,9 @@ module _ (M : ℕ) (f : ℕ → ℕ) where
   bound_same (DivDown a b) = ap (λ x. max x M) (bound_same a)
   bound_same (DivUp a b) = ap (λ x. max x M) (bound_same a)
 
-  within_two : (a b : Expr) (n m : ℕ) → expr_within M (rename_expr f a) ≡ expr_within M a → expr_within M (rename_expr f b) ≡ expr_within M b → n ≡ m → ((expr_within M (rename_expr f a) && expr_within M (rename_expr f b)) && not (over_limit n)) ≡ ((expr_within M a && expr_within M b) && not (over_limit m))
+  within_two : (a b : Expr) (n m : ℕ) → expr_within M (rename_expr f a) ≡ expr_within M a → expr_within M (rename_expr f b) ≡ expr_within M b → n ≡ m
+      → ((expr_within M (rename_expr f a) && expr_within M (rename_expr f b)) && not (over_limit n))
+      ≡ ((expr_within M a && expr_within M b) && not (over_limit m))
   within_two a b n m e g k = two (λ x y. x && y) (two (λ x y. x && y) e g) (ap (λ n. not (over_limit n)) k)
 
   expr_within_same : (e : Expr) → expr_within M (rename_expr f e) ≡ expr_within M e
@@ -94,7 +101,9 @@ module _ (M : ℕ) (f : ℕ → ℕ) where
   expr_within_same (DivDown a b) = within_two a b _ _ (expr_within_same a) (expr_within_same b) (bound_same (DivDown a b))
   expr_within_same (DivUp a b) = within_two a b _ _ (expr_within_same a) (expr_within_same b) (bound_same (DivUp a b))
 
-  factor_two : (r : Range) (c : Expr) → range_within M (rename_range f r) ≡ range_within M r → (test : ℕ → Bool) → ((range_within M (rename_range f r) && expr_within M (rename_expr f c)) && not (test (bound M (rename_expr f c)))) ≡ ((range_within M r && expr_within M c) && not (test (bound M c)))
+  factor_two : (r : Range) (c : Expr) → range_within M (rename_range f r) ≡ range_within M r → (test : ℕ → Bool)
+      → ((range_within M (rename_range f r) && expr_within M (rename_expr f c)) && not (test (bound M (rename_expr f c))))
+      ≡ ((range_within M r && expr_within M c) && not (test (bound M c)))
   factor_two r c e test = two (λ x y. x && y) (two (λ x y. x && y) e (expr_within_same c)) (ap (λ n. not (test n)) (bound_same c))
 
   range_within_same : (r : Range) → range_within M (rename_range f r) ≡ range_within M r

@@ -1,5 +1,6 @@
 -- Slots that are numbered by first occurrence.
-use Rattle.std.proofs.Common.{◌≡◌, ℕ, suc, zero, ◌+◌, ◌<◌, ◌≤◌, ◌==◌, Bool, true, false, not, cond, nat_eq, nat_lt, ◌&&◌, ◌||◌, List, [], ◌∷◌, ◌++◌, map, length, get_or, refl, sym, ap, ◌∙◌, subst, arith, inl, inr, append_assoc, eqb-true, eq-eqb}
+use Rattle.std.proofs.Common.{◌≡◌, ℕ, suc, zero, ◌+◌, ◌<◌, ◌≤◌, ◌==◌, Bool, true, false, not, cond, nat_eq, nat_lt, ◌&&◌, ◌||◌, List, [], ◌∷◌, ◌++◌, map}
+use Rattle.std.proofs.Common.{length, get_or, refl, sym, ap, ◌∙◌, subst, arith, inl, inr, append_assoc, eqb-true, eq-eqb}
 use Rattle.std.specs.List.{position_or_len}
 use Rattle.std.proofs.lemmas.Bool.{cases_Bool, cases_lt, eqb-false, true≢false, false≢true, ltb-true, ltb-false, lt-ltb, le-ltb, or_left, or_parts}
 use Rattle.std.proofs.lemmas.List.{append-nil, length_push, map-append}
@@ -49,9 +50,12 @@ in_order_once (y ∷ ys) pre m e h = go (nat_lt y m) (y == m) refl refl h (λ (n
   new : nat_lt y m ≡ false → (y == m) ≡ true → once (pre ++ y ∷ []) ≡ count_up 0 (suc m)
   new lt eq =
       let there : has pre y ≡ false = sym (has_once pre y) ∙ ap (λ l. has l y) e ∙ above_count 0 m y (omega (arith, ltb-false y m lt)) in
-      once_more pre y ∙ ap (λ b. cond b (once pre) (once pre ++ y ∷ [])) there ∙ ap (λ l. l ++ y ∷ []) e ∙ ap (λ (k : ℕ). count_up 0 m ++ k ∷ []) (let is : y ≡ 0 + m = omega (arith, eqb-true y m eq) in is) ∙ count_up_last 0 m
+      once_more pre y ∙ ap (λ b. cond b (once pre) (once pre ++ y ∷ [])) there ∙ ap (λ l. l ++ y ∷ []) e
+      ∙ ap (λ (k : ℕ). count_up 0 m ++ k ∷ []) (let is : y ≡ 0 + m = omega (arith, eqb-true y m eq) in is) ∙ count_up_last 0 m
 
-  go : (b c : Bool) → nat_lt y m ≡ b → (y == m) ≡ c → cond b (are_in_order m ys) (c && are_in_order (suc m) ys) ≡ true → ((n : ℕ) → once (pre ++ y ∷ []) ≡ count_up 0 n → are_in_order n ys ≡ true → (k : ℕ) × (once ((pre ++ y ∷ []) ++ ys) ≡ count_up 0 k)) → (n : ℕ) × (once (pre ++ (y ∷ ys)) ≡ count_up 0 n)
+  go : (b c : Bool) → nat_lt y m ≡ b → (y == m) ≡ c → cond b (are_in_order m ys) (c && are_in_order (suc m) ys) ≡ true
+      → ((n : ℕ) → once (pre ++ y ∷ []) ≡ count_up 0 n → are_in_order n ys ≡ true → (k : ℕ) × (once ((pre ++ y ∷ []) ++ ys) ≡ count_up 0 k))
+      → (n : ℕ) × (once (pre ++ (y ∷ ys)) ≡ count_up 0 n)
   go true c lt eq h next = back (next m (old lt) h)
   go false true lt eq h next = back (next (suc m) (new lt eq) h)
   go false false lt eq h next = absurd (false≢true h)
@@ -71,7 +75,11 @@ once_front [] xs = ([], ap once (append-nil xs) ∙ sym (append-nil (once xs)))
 once_front (z ∷ zs) xs = go (has xs z) refl (once_front zs (xs ++ z ∷ [])) where
   go : (b : Bool) → has xs z ≡ b → (more : List ℕ) × (once ((xs ++ z ∷ []) ++ zs) ≡ once (xs ++ z ∷ []) ++ more) → (more : List ℕ) × (once (xs ++ (z ∷ zs)) ≡ once xs ++ more)
   go true e w = (w.0, ap once (sym (append_assoc xs (z ∷ []) zs)) ∙ w.1 ∙ ap (λ l. l ++ w.0) (once_more xs z ∙ ap (λ b. cond b (once xs) (once xs ++ z ∷ [])) e))
-  go false e w = (z ∷ w.0, ap once (sym (append_assoc xs (z ∷ []) zs)) ∙ w.1 ∙ ap (λ l. l ++ w.0) (once_more xs z ∙ ap (λ b. cond b (once xs) (once xs ++ z ∷ [])) e) ∙ append_assoc (once xs) (z ∷ []) w.0)
+  go false e w = (
+    z ∷ w.0,
+    ap once (sym (append_assoc xs (z ∷ []) zs)) ∙ w.1
+        ∙ ap (λ l. l ++ w.0) (once_more xs z ∙ ap (λ b. cond b (once xs) (once xs ++ z ∷ [])) e) ∙ append_assoc (once xs) (z ∷ []) w.0,
+  )
 
 place_within : (xs more : List ℕ) (y : ℕ) → has xs y ≡ true → place_in (xs ++ more) y < length xs
 place_within [] more y h = absurd (false≢true h)
@@ -145,7 +153,8 @@ module _ (f : ℕ → ℕ) (vs : List ℕ) (apart : (x y : ℕ) → has vs x ≡
   ]
 
   -- as many different names
-  as_many_from : (zs pre : List ℕ) → ((x : ℕ) → has (pre ++ zs) x ≡ true → has vs x ≡ true) → length (once (map f pre)) ≡ length (once pre) → length (once (map f (pre ++ zs))) ≡ length (once (pre ++ zs))
+  as_many_from : (zs pre : List ℕ) → ((x : ℕ) → has (pre ++ zs) x ≡ true → has vs x ≡ true) → length (once (map f pre)) ≡ length (once pre)
+      → length (once (map f (pre ++ zs))) ≡ length (once (pre ++ zs))
   as_many_from [] pre within e = ap (λ l. length (once (map f l))) (append-nil pre) ∙ e ∙ sym (ap (λ l. length (once l)) (append-nil pre))
   as_many_from (z ∷ zs) pre within e =
       ap (λ l. length (once (map f l))) (sym (append_assoc pre (z ∷ []) zs))
@@ -158,7 +167,9 @@ module _ (f : ℕ → ℕ) (vs : List ℕ) (apart : (x y : ℕ) → has vs x ≡
           ap (λ l. length (once l)) (map-append f pre (z ∷ [])) ∙ ap length (once_more (map f pre) (f z) ∙ ap (λ b. cond b (once (map f pre)) (once (map f pre) ++ f z ∷ [])) (k ∙ h)) ∙ e
           ∙ sym (ap length (once_more pre z ∙ ap (λ b. cond b (once pre) (once pre ++ z ∷ [])) h))
       step false h k =
-          ap (λ l. length (once l)) (map-append f pre (z ∷ [])) ∙ ap length (once_more (map f pre) (f z) ∙ ap (λ b. cond b (once (map f pre)) (once (map f pre) ++ f z ∷ [])) (k ∙ h)) ∙ length_push (once (map f pre)) (f z) ∙ ap (λ n. n + 1) e
+          ap (λ l. length (once l)) (map-append f pre (z ∷ []))
+          ∙ ap length (once_more (map f pre) (f z) ∙ ap (λ b. cond b (once (map f pre)) (once (map f pre) ++ f z ∷ [])) (k ∙ h))
+          ∙ length_push (once (map f pre)) (f z) ∙ ap (λ n. n + 1) e
           ∙ sym (length_push (once pre) z) ∙ sym (ap length (once_more pre z ∙ ap (λ b. cond b (once pre) (once pre ++ z ∷ [])) h))
 
   pub as_many : (xs : List ℕ) → ((x : ℕ) → has xs x ≡ true → has vs x ≡ true) → length (once (map f xs)) ≡ length (once xs)

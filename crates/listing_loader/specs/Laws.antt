@@ -4,7 +4,7 @@ use Rattle.code_listing.specs.Listing.{listing}
 use Rattle.code_listing.specs.Sheets.{Listed}
 use Rattle.listing_loader.specs.declared.fault.LoadFault.{LoadFault}
 use Rattle.listing_loader.specs.declared.fault.LoadFault.TheVariants.{NoMemory}
-use Rattle.listing_loader.specs.Loading.{IsLoadFault, IsHeld}
+use Rattle.listing_loader.specs.LoadedCode.{IsLoadFault, IsHeld}
 
 -- Beside want of memory, at most one fault is a text's, and none is that of a listing.
 pub record OneAnswer : Type 0 where

@@ -1,4 +1,4 @@
 pub mod Marks
 pub mod Slots
-pub mod Loading
+pub mod LoadedCode
 pub mod Laws

@@ -1,11 +1,12 @@
 -- The lines of a text that name what isn't there, and the ranges that can't be posted.
-use Rattle.std.specs.Prelude.{◌≡◌, ℕ, suc, ◌+◌, ◌<◌, nat_lt, nat_le, int_lt, ◌==◌, Bool, true, false, ◌&&◌, not, if◌then◌else◌, IsTrue, List, [], ◌∷◌, ◌++◌, map, length, slice_get, Some}
+use Rattle.std.specs.Prelude.{◌≡◌, ℕ, suc, ◌+◌, ◌<◌, nat_lt, nat_le, int_lt, ◌==◌, Bool, true, false, ◌&&◌, not, if◌then◌else◌, IsTrue, List, [], ◌∷◌, ◌++◌}
+use Rattle.std.specs.Prelude.{map, length, slice_get, Some}
 use Rattle.std.specs.List.{list_any, list_all}
 use Rattle.std.specs.Str.{bytes_eq}
 use Rattle.fd_language.specs.Term.{Name}
 use Rattle.fd_language.specs.Range.{Range}
 use Rattle.fd_language.specs.RangeVerdict.{is_accepted}
-use Rattle.fd_language.specs.Flat.{nodes_of}
+use Rattle.fd_language.specs.PostfixRanges.{nodes_of}
 use Rattle.fd_language.specs.declared.TheConstants.{INFINITY}
 use Rattle.fd_language.specs.declared.range_node.RangeNode.{RangeNode}
 use Rattle.range_code.specs.Nodes.{node_variables}
@@ -14,7 +15,9 @@ use Rattle.term_pool.specs.Contents.{first_names}
 use Rattle.wam_code.specs.declared.instruction.Key.{Key}
 use Rattle.wam_code.specs.declared.instruction.Key.TheVariants as key
 use Rattle.wam_code.specs.declared.instruction.Code.{Code}
-use Rattle.wam_code.specs.declared.instruction.Code.TheVariants.{GetConstant, GetStructure, UnifyConstant, PutConstant, PutStructure, Call, Execute, Jump, TryMeElse, RetryMeElse, Try, Retry, Trust, SwitchOnTerm, SwitchOnConstant, SwitchOnInteger, SwitchOnStructure, Either, PostRange, EnterTest}
+use Rattle.wam_code.specs.declared.instruction.Code.TheVariants.{GetConstant, GetStructure, UnifyConstant, PutConstant, PutStructure, Call, Execute, Jump}
+use Rattle.wam_code.specs.declared.instruction.Code.TheVariants.{TryMeElse, RetryMeElse, Try, Retry, Trust, SwitchOnTerm, SwitchOnConstant, SwitchOnInteger}
+use Rattle.wam_code.specs.declared.instruction.Code.TheVariants.{SwitchOnStructure, Either, PostRange, EnterTest}
 use Rattle.wam_code.specs.declared.parts.Entry.{Entry}
 use Rattle.wam_code.specs.Area.{Span, Table}
 use Rattle.code_listing.specs.Listing.{Sheet, table_of}
@@ -105,7 +108,8 @@ place_mark s i = instruction_mark (counts_of s) (table_of s.tables i) i
 
 -- ---- line by line
 
--- Whether each line is right in what it names: no atom is repeated, slots are in order, the keys of tables rise, and atoms, ranges, predicates and places are there.
+-- Whether each line is right in what it names: no atom is repeated, slots are in order, the keys of tables rise, and atoms, ranges, predicates and places are
+-- there.
 abbrev pub number_marks : Sheet → List Bool
 number_marks s =
     true

@@ -2,14 +2,14 @@
 //! text is refused with the line at fault.
 #![tactic(auto)]
 
-mod check_numbers;
 mod counts;
 mod fault;
 pub mod laws;
-mod loading;
+mod loaded_code;
+mod number_checks;
 mod ranges;
 mod slots;
 
 pub use crate::fault::LoadFault;
-pub use crate::loading::load;
+pub use crate::loaded_code::load;
 pub use code_text::{Listed, PlaceState, Slot, VerifyFault, verify, write_listing};

@@ -2,12 +2,12 @@
 
 ghost use Rattle.std.specs.Prelude.{◌≡◌, map, Option, None, IsTrue, IfOk, IfErr, OnOk, MatchOption};
 ghost use Rattle.fd_language.specs.declared.range_node.Offence.{Offence};
-ghost use Rattle.fd_language.specs.Flat.{spelled_range};
+ghost use Rattle.fd_language.specs.PostfixRanges.{spelled_range};
 ghost use Rattle.fd_language.specs.RangeVerdict.{is_accepted};
 ghost use Rattle.monotone_check.specs.Faults.{IsFaultOf};
 ghost use Rattle.listing_reader.specs.Sheets.{sheet_in};
 ghost use Rattle.listing_loader.specs.Marks.{number_marks, AreRight, IsGoodRange};
-ghost use Rattle.listing_loader.specs.Loading.{IsSheetRefusal, AreRanges};
+ghost use Rattle.listing_loader.specs.LoadedCode.{IsSheetRefusal, AreRanges};
 
 use crate::fault::LoadFault;
 use fd_language::{FlatRange, INFINITY, NoMemory, RangeNode};

@@ -1,5 +1,6 @@
 -- The lines of atoms.
-use Rattle.std.proofs.Common.{◌≡◌, ◌⊎◌, ℕ, zero, suc, ◌+◌, ◌<◌, ◌≤◌, Bool, true, false, ◌||◌, ◌&&◌, not, cond, nat_eq, nat_lt, List, [], ◌∷◌, ◌++◌, length, get_or, refl, sym, ap, ◌∙◌, subst, inl, inr, arith, append_assoc, codes}
+use Rattle.std.proofs.Common.{◌≡◌, ◌⊎◌, ℕ, zero, suc, ◌+◌, ◌<◌, ◌≤◌, Bool, true, false, ◌||◌, ◌&&◌, not, cond, nat_eq, nat_lt, List, [], ◌∷◌, ◌++◌, length}
+use Rattle.std.proofs.Common.{get_or, refl, sym, ap, ◌∙◌, subst, inl, inr, arith, append_assoc, codes}
 use Rattle.std.specs.Str.{IsAscii, IsUtf8, bytes_eq, chars}
 use Rattle.std.specs.List.{list_all, list_any}
 use Rattle.std.specs.Fmt.{digits}
@@ -18,12 +19,13 @@ use Rattle.fd_language.specs.Characters.{is_symbol, starts_with}
 use Rattle.fd_language.specs.Operators.{is_operator}
 use Rattle.fd_language.specs.Term.{Name}
 use Rattle.fd_language.specs.Tokens.{unquoted}
-use Rattle.fd_language.specs.Writing.{Quoted, atom_text, is_bare, is_comment_start, is_empty_name, is_letter_word, is_letter_word_of, is_symbol_word, quoted_byte, quoted_bytes, quoted_name}
-use Rattle.term_writer.specs.ReadBack.{QuotedIsRead}
+use Rattle.fd_language.specs.TermTexts.{Quoted, atom_text, is_bare, is_comment_start, is_empty_name, is_letter_word, is_letter_word_of, is_symbol_word}
+use Rattle.fd_language.specs.TermTexts.{quoted_byte, quoted_bytes, quoted_name}
+use Rattle.term_writer.specs.QuoteRoundTrip.{QuotedIsRead}
 use Rattle.listing_reader.specs.Atoms.{written_name}
 use Rattle.listing_reader.specs.Reading.{has_byte}
 use Rattle.listing_reader.proofs.Digits.{and_true, and_left, and_right, join_all, without}
-use Rattle.listing_reader.proofs.Worded.{is_inline}
+use Rattle.listing_reader.proofs.LineWords.{is_inline}
 
 -- ---- bytes of characters
 
@@ -51,7 +53,8 @@ encode_without c l x e = go (low_or_high x)
   where
     go : (x < 128) ⊎ (128 ≤ x) → has_byte c (encode x) ≡ false
     go (inl s) = ap (has_byte c) (encode_ascii x s) ∙ ap (λ (t : Bool). t || false) e
-    go (inr s) = no_byte c (encode x) (λ k h f. (let low : get_or (encode x) k 0 < 128 = omega (arith, f, l) in let same : x ≡ get_or (encode x) k 0 = inside_one x [] (encode x) k (sym (append-nil (encode x))) h low in omega (arith, same, s, low)))
+    go (inr s) = no_byte c (encode x) (λ k h f. (let low : get_or (encode x) k 0 < 128 = omega (arith, f, l) in
+        let same : x ≡ get_or (encode x) k 0 = inside_one x [] (encode x) k (sym (append-nil (encode x))) h low in omega (arith, same, s, low)))
 
 encodes_without : (c : ℕ) → c < 128 → (cs : List ℕ) → has_byte c cs ≡ false → has_byte c (encodes cs) ≡ false
 encodes_without c l [] h = refl
@@ -73,7 +76,8 @@ stands_by c a b d e f g = rw (a, b, d, e, f, g) refl
 -- a byte over 127 stands as it is
 stands : (c : ℕ) → 128 ≤ c → quoted_byte c ≡ c ∷ []
 stands c h =
-    stands_by c (ne_eqb c 92 (λ e. omega (arith, e, h))) (ne_eqb c 39 (λ e. omega (arith, e, h))) (ne_eqb c 10 (λ e. omega (arith, e, h))) (ne_eqb c 9 (λ e. omega (arith, e, h))) (ne_eqb c 13 (λ e. omega (arith, e, h)))
+    stands_by c (ne_eqb c 92 (λ e. omega (arith, e, h))) (ne_eqb c 39 (λ e. omega (arith, e, h))) (ne_eqb c 10 (λ e. omega (arith, e, h)))
+    (ne_eqb c 9 (λ e. omega (arith, e, h))) (ne_eqb c 13 (λ e. omega (arith, e, h)))
     (or_from (nat_lt c 32) (nat_eq c 127) (le-ltb c 32 (omega (arith, h))) (ne_eqb c 127 (λ e. omega (arith, e, h))))
 
 high_bytes : (bs : List ℕ) → ((k : ℕ) → k < length bs → 128 ≤ get_or bs k 0) → quoted_bytes bs ≡ bs
@@ -123,7 +127,9 @@ quoted_char c s = go (low_or_high c)
 
 quoted_chars : (cs : List ℕ) → scalars cs ≡ true → IsUtf8 (quoted_bytes (encodes cs))
 quoted_chars [] h = IsUtf8-nil
-quoted_chars (c ∷ cs) h = subst IsUtf8 (sym (quoted_join (encode c) (encodes cs))) (IsUtf8-append (quoted_bytes (encode c)) (quoted_bytes (encodes cs)) (quoted_char c (and_left (scalar c) (scalars cs) h)) (quoted_chars cs (and_right (scalar c) (scalars cs) h)))
+quoted_chars (c ∷ cs) h = subst IsUtf8 (sym (quoted_join (encode c) (encodes cs)))
+    (IsUtf8-append (quoted_bytes (encode c)) (quoted_bytes (encodes cs)) (quoted_char c (and_left (scalar c) (scalars cs) h))
+    (quoted_chars cs (and_right (scalar c) (scalars cs) h)))
 
 quote_low : list_all is_low (codes "'") ≡ true
 unfolding is_low
@@ -167,7 +173,8 @@ module _ (c : ℕ) (f : IsForeign c) where
   letters_without (x ∷ cs) h =
       let front : (is_xid_start x && not (is_ascii_uppercase x)) ≡ true = and_left (is_xid_start x && not (is_ascii_uppercase x)) (list_all is_xid_continue cs) h in
       let start : is_xid_start x ≡ true = and_left (is_xid_start x) (not (is_ascii_uppercase x)) front in
-      without_join c (x ∷ []) cs (without is_xid_start c f.start (x ∷ []) (and_true (is_xid_start x) true start refl)) (without is_xid_continue c f.later cs (and_right (is_xid_start x && not (is_ascii_uppercase x)) (list_all is_xid_continue cs) h))
+      without_join c (x ∷ []) cs (without is_xid_start c f.start (x ∷ []) (and_true (is_xid_start x) true start refl))
+      (without is_xid_continue c f.later cs (and_right (is_xid_start x && not (is_ascii_uppercase x)) (list_all is_xid_continue cs) h))
 
   same_without : (a b : List ℕ) → has_byte c b ≡ false → bytes_eq a b ≡ true → has_byte c a ≡ false
   same_without a b h e = ap (has_byte c) ((bytes_eq-Decides a b).0 e) ∙ h
@@ -261,10 +268,12 @@ atom_inline a u = go (bare_or_quoted a)
   where
     go : ((is_bare a ≡ true) × (atom_text Quoted a ≡ a)) ⊎ (atom_text Quoted a ≡ quoted_name a) → has_byte 10 (atom_text Quoted a) ≡ false
     go (inl p) = ap (has_byte 10) p.1 ∙ bare_without 10 foreign_newline a u p.0
-    go (inr e) = ap (has_byte 10) e ∙ without is_inline 10 refl (quoted_name a) (join_all is_inline (codes "'") (quoted_bytes a ++ codes "'") refl (join_all is_inline (quoted_bytes a) (codes "'") (inline_bytes a) refl))
+    go (inr e) = ap (has_byte 10) e ∙ without is_inline 10 refl (quoted_name a)
+        (join_all is_inline (codes "'") (quoted_bytes a ++ codes "'") refl (join_all is_inline (quoted_bytes a) (codes "'") (inline_bytes a) refl))
 
 -- what is spelled in another way than the line
-pub atom_none : QuotedIsRead → (line spelled : List ℕ) (name : Name) → name ≡ written_name line → spelled ≡ atom_text Quoted name → bytes_eq spelled line ≡ false → (a : Name) → IsUtf8 a → ¬ (atom_text Quoted a ≡ line)
+pub atom_none : QuotedIsRead → (line spelled : List ℕ) (name : Name) → name ≡ written_name line → spelled ≡ atom_text Quoted name
+    → bytes_eq spelled line ≡ false → (a : Name) → IsUtf8 a → ¬ (atom_text Quoted a ≡ line)
 atom_none law line spelled name n s d a u e =
     let same : name ≡ a = n ∙ sym (ap written_name e) ∙ written law a u in
     let t : bytes_eq spelled line ≡ true = (bytes_eq-Decides spelled line).1 (s ∙ ap (atom_text Quoted) same ∙ e) in

@@ -9,7 +9,12 @@ use Rattle.fd_model.specs.declared.kinds.BuiltinKind.{BuiltinKind}
 use Rattle.wam_code.specs.declared.instruction.Register.{Register}
 use Rattle.wam_code.specs.declared.instruction.Code.{Code}
 use Rattle.wam_code.specs.declared.instruction.Code.TheVariants as code
-use Rattle.wam_code.specs.declared.instruction.Code.TheVariants.{GetVariable, GetValue, GetConstant, GetInteger, GetStructure, UnifyVariable, UnifyValue, UnifyConstant, UnifyInteger, UnifyVoid, PutVariable, PutValue, PutConstant, PutInteger, PutStructure, Allocate, Deallocate, Call, Execute, Proceed, Jump, FailNow, AnswerNow, TryMeElse, RetryMeElse, TrustMe, Try, Retry, Trust, SwitchOnTerm, SwitchOnConstant, SwitchOnInteger, SwitchOnStructure, Either, Builtin, Constrain, Label, Best, PostRange, TestOnly, EnterTest, CutTo}
+use Rattle.wam_code.specs.declared.instruction.Code.TheVariants.{GetVariable, GetValue, GetConstant, GetInteger, GetStructure, UnifyVariable, UnifyValue}
+use Rattle.wam_code.specs.declared.instruction.Code.TheVariants.{UnifyConstant, UnifyInteger, UnifyVoid, PutVariable, PutValue, PutConstant, PutInteger}
+use Rattle.wam_code.specs.declared.instruction.Code.TheVariants.{PutStructure, Allocate, Deallocate, Call, Execute, Proceed, Jump, FailNow, AnswerNow}
+use Rattle.wam_code.specs.declared.instruction.Code.TheVariants.{TryMeElse, RetryMeElse, TrustMe, Try, Retry, Trust, SwitchOnTerm, SwitchOnConstant}
+use Rattle.wam_code.specs.declared.instruction.Code.TheVariants.{SwitchOnInteger, SwitchOnStructure, Either, Builtin, Constrain, Label, Best, PostRange}
+use Rattle.wam_code.specs.declared.instruction.Code.TheVariants.{TestOnly, EnterTest, CutTo}
 use Rattle.wam_code.specs.Area.{Table}
 use Rattle.wam_code.specs.VerifiedCode.{is_atom, is_int, is_struct}
 use Rattle.code_listing.specs.Names.{builtin_word, constraint_word, order_word, aim_word}
@@ -30,12 +35,13 @@ use Rattle.listing_reader.specs.declared.forms.Counted.{Counted}
 use Rattle.listing_reader.specs.declared.forms.Counted.TheVariants as counted
 use Rattle.listing_reader.specs.declared.forms.Slotted.{Slotted}
 use Rattle.listing_reader.specs.declared.forms.Slotted.TheVariants as slotted
-use Rattle.listing_reader.specs.declared.forms.Form.{Form}
-use Rattle.listing_reader.specs.declared.forms.Form.TheVariants as form
-use Rattle.listing_reader.specs.Fits.{IsNumber, IsArity, IsInteger, IsSmall}
+use Rattle.listing_reader.specs.declared.forms.Operation.{Operation}
+use Rattle.listing_reader.specs.declared.forms.Operation.TheVariants as form
+use Rattle.listing_reader.specs.NumberBounds.{IsNumber, IsArity, IsInteger, IsSmall}
 use Rattle.listing_reader.specs.Operands.{IsSmallAtom}
-use Rattle.listing_reader.specs.Forms.{FitsInstruction, IsBare, IsSmallTable, form_name, counted_code, slotted_code, variable_code, value_code, constant_code, integer_code, structure_code, instruction_text}
-use Rattle.listing_reader.proofs.Alike.{all_none}
+use Rattle.listing_reader.specs.Forms.{FitsInstruction, IsBare, IsSmallTable, form_name, counted_code, slotted_code, variable_code, value_code, constant_code}
+use Rattle.listing_reader.specs.Forms.{integer_code, structure_code, instruction_text}
+use Rattle.listing_reader.proofs.LinePrefixes.{all_none}
 use Rattle.listing_reader.proofs.GoalWords.{found}
 
 -- ---- operands
@@ -63,7 +69,7 @@ abbrev pub ThreeArgs : Three → Type 0
 ThreeArgs (three.Structure s) = AtomId × ℕ × ℕ
 ThreeArgs three.EnterTest = ℕ × ℕ × ℕ
 
-abbrev pub Args : Form → Type 0
+abbrev pub Args : Operation → Type 0
 Args (form.Lone l) = Unit {0}
 Args (form.One o) = OneArgs o
 Args (form.Two t) = TwoArgs t
@@ -108,7 +114,7 @@ switch_build kind.Atoms = SwitchOnConstant 0
 switch_build kind.Integers = SwitchOnInteger 0
 switch_build kind.Structures = SwitchOnStructure 0
 
-abbrev pub build : (f : Form) → Args f → Code × Table
+abbrev pub build : (f : Operation) → Args f → Code × Table
 build (form.Lone l) x = (lone_build l, [])
 build (form.One o) x = (one_build o x, [])
 build (form.Two t) x = (two_build t x, [])
@@ -141,7 +147,7 @@ abbrev pub three_words : (t : Three) → ThreeArgs t → List ℕ × List ℕ ×
 three_words (three.Structure s) x = (atom_number x.0, decimal x.1, argument_word x.2)
 three_words three.EnterTest x = (slot_word x.0, slot_word x.1, decimal x.2)
 
-abbrev pub args_words : (f : Form) → Args f → List (List ℕ)
+abbrev pub args_words : (f : Operation) → Args f → List (List ℕ)
 args_words (form.Lone l) x = []
 args_words (form.One o) x = one_word o x ∷ []
 args_words (form.Two t) x = (two_words t x).0 ∷ (two_words t x).1 ∷ []
@@ -179,7 +185,7 @@ FitsSwitch kind.Atoms rows = All (λ row. IsTrue (is_atom row.0)) rows
 FitsSwitch kind.Integers rows = All (λ row. IsTrue (is_int row.0)) rows
 FitsSwitch kind.Structures rows = All (λ row. IsTrue (is_struct row.0)) rows
 
-abbrev pub FitsArgs : (f : Form) → Args f → Type 0
+abbrev pub FitsArgs : (f : Operation) → Args f → Type 0
 FitsArgs (form.Lone l) x = Unit {0}
 FitsArgs (form.One o) x = FitsOne o x
 FitsArgs (form.Two t) x = FitsTwo t x
@@ -190,7 +196,7 @@ FitsArgs (form.Switch k) rows = IsSmallTable rows × FitsSwitch k rows
 -- ---- each instruction has a form
 
 pub record View (y : Code × Table) : Type 0 where
-  pub form : Form
+  pub form : Operation
   pub args : Args form
   pub is : build form args ≡ y
 
@@ -239,7 +245,7 @@ view (TestOnly n) rows h = record { form = form.One (one.Slotted slotted.TestOnl
 view (CutTo n) rows h = record { form = form.One (one.Slotted slotted.CutTo); args = n; is = ap (λ (q : Table). (CutTo n, q)) (sym h) }
 view (EnterTest n m to) rows h = record { form = form.Three three.EnterTest; args = (n, m, to); is = ap (λ (q : Table). (EnterTest n m to, q)) (sym h) }
 
-pub text_build : (f : Form) (x : Args f) → instruction_text (build f x) ≡ form_name f ∷ args_words f x
+pub text_build : (f : Operation) (x : Args f) → instruction_text (build f x) ≡ form_name f ∷ args_words f x
 text_build (form.Two (two.Variable side.Get)) x = refl
 text_build (form.Two (two.Value side.Get)) x = refl
 text_build (form.Two (two.Constant side.Get)) x = refl
@@ -285,7 +291,7 @@ text_build (form.One (one.Slotted slotted.CutTo)) x = refl
 text_build (form.Three three.EnterTest) x = refl
 
 -- the operands fit where the instruction does
-pub fits_build : (f : Form) (x : Args f) → FitsArgs f x → FitsInstruction (build f x)
+pub fits_build : (f : Operation) (x : Args f) → FitsArgs f x → FitsInstruction (build f x)
 fits_build (form.Two (two.Variable side.Get)) x h = (h, all_none _, all_none _, refl)
 fits_build (form.Two (two.Value side.Get)) x h = (h, all_none _, all_none _, refl)
 fits_build (form.Two (two.Constant side.Get)) x h = (h, all_none _, all_none _, refl)
@@ -330,7 +336,7 @@ fits_build (form.One (one.Slotted slotted.TestOnly)) x h = (h, all_none _, all_n
 fits_build (form.One (one.Slotted slotted.CutTo)) x h = (h, all_none _, all_none _, refl)
 fits_build (form.Three three.EnterTest) x h = (h, all_none _, all_none _, refl)
 
-pub fits_args : (f : Form) (x : Args f) → FitsInstruction (build f x) → FitsArgs f x
+pub fits_args : (f : Operation) (x : Args f) → FitsInstruction (build f x) → FitsArgs f x
 fits_args (form.Two (two.Variable side.Get)) x h = h.0
 fits_args (form.Two (two.Value side.Get)) x h = h.0
 fits_args (form.Two (two.Constant side.Get)) x h = h.0
@@ -377,10 +383,20 @@ fits_args (form.Three three.EnterTest) x h = h.0
 
 -- ---- a form by its name
 
-abbrev pub all_forms : List Form
-all_forms = (form.Two (two.Variable side.Get)) ∷ (form.Two (two.Value side.Get)) ∷ (form.Two (two.Constant side.Get)) ∷ (form.Two (two.Integer side.Get)) ∷ (form.Three (three.Structure side.Get)) ∷ (form.Two (two.Variable side.Put)) ∷ (form.Two (two.Value side.Put)) ∷ (form.Two (two.Constant side.Put)) ∷ (form.Two (two.Integer side.Put)) ∷ (form.Three (three.Structure side.Put)) ∷ (form.One one.UnifyVariable) ∷ (form.One one.UnifyValue) ∷ (form.One one.UnifyConstant) ∷ (form.One one.UnifyInteger) ∷ (form.One (one.Counted counted.UnifyVoid)) ∷ (form.One (one.Counted counted.Allocate)) ∷ (form.One (one.Counted counted.Call)) ∷ (form.One (one.Counted counted.Execute)) ∷ (form.One (one.Counted counted.Jump)) ∷ (form.One (one.Counted counted.TryMeElse)) ∷ (form.One (one.Counted counted.RetryMeElse)) ∷ (form.One (one.Counted counted.Try)) ∷ (form.One (one.Counted counted.Retry)) ∷ (form.One (one.Counted counted.Trust)) ∷ (form.One (one.Counted counted.Either)) ∷ (form.Lone lone.Deallocate) ∷ (form.Lone lone.Proceed) ∷ (form.Lone lone.FailNow) ∷ (form.Lone lone.AnswerNow) ∷ (form.Lone lone.TrustMe) ∷ form.SwitchOnTerm ∷ (form.Switch kind.Atoms) ∷ (form.Switch kind.Integers) ∷ (form.Switch kind.Structures) ∷ (form.One one.Builtin) ∷ (form.One one.Constrain) ∷ (form.One one.Label) ∷ (form.Two two.Best) ∷ (form.Two two.PostRange) ∷ (form.One (one.Slotted slotted.Level)) ∷ (form.One (one.Slotted slotted.TestOnly)) ∷ (form.One (one.Slotted slotted.CutTo)) ∷ (form.Three three.EnterTest) ∷ []
+abbrev pub all_forms : List Operation
+all_forms = (form.Two (two.Variable side.Get)) ∷ (form.Two (two.Value side.Get)) ∷ (form.Two (two.Constant side.Get)) ∷ (form.Two (two.Integer side.Get))
+    ∷ (form.Three (three.Structure side.Get)) ∷ (form.Two (two.Variable side.Put)) ∷ (form.Two (two.Value side.Put)) ∷ (form.Two (two.Constant side.Put))
+    ∷ (form.Two (two.Integer side.Put)) ∷ (form.Three (three.Structure side.Put)) ∷ (form.One one.UnifyVariable) ∷ (form.One one.UnifyValue)
+    ∷ (form.One one.UnifyConstant) ∷ (form.One one.UnifyInteger) ∷ (form.One (one.Counted counted.UnifyVoid)) ∷ (form.One (one.Counted counted.Allocate))
+    ∷ (form.One (one.Counted counted.Call)) ∷ (form.One (one.Counted counted.Execute)) ∷ (form.One (one.Counted counted.Jump))
+    ∷ (form.One (one.Counted counted.TryMeElse)) ∷ (form.One (one.Counted counted.RetryMeElse)) ∷ (form.One (one.Counted counted.Try))
+    ∷ (form.One (one.Counted counted.Retry)) ∷ (form.One (one.Counted counted.Trust)) ∷ (form.One (one.Counted counted.Either)) ∷ (form.Lone lone.Deallocate)
+    ∷ (form.Lone lone.Proceed) ∷ (form.Lone lone.FailNow) ∷ (form.Lone lone.AnswerNow) ∷ (form.Lone lone.TrustMe) ∷ form.SwitchOnTerm ∷ (form.Switch kind.Atoms)
+    ∷ (form.Switch kind.Integers) ∷ (form.Switch kind.Structures) ∷ (form.One one.Builtin) ∷ (form.One one.Constrain) ∷ (form.One one.Label)
+    ∷ (form.Two two.Best) ∷ (form.Two two.PostRange) ∷ (form.One (one.Slotted slotted.Level)) ∷ (form.One (one.Slotted slotted.TestOnly))
+    ∷ (form.One (one.Slotted slotted.CutTo)) ∷ (form.Three three.EnterTest) ∷ []
 
-pub form_found : (f : Form) → found form_name all_forms (form_name f) ≡ Some f
+pub form_found : (f : Operation) → found form_name all_forms (form_name f) ≡ Some f
 form_found (form.Two (two.Variable side.Get)) = refl
 form_found (form.Two (two.Value side.Get)) = refl
 form_found (form.Two (two.Constant side.Get)) = refl
@@ -425,5 +441,5 @@ form_found (form.One (one.Slotted slotted.TestOnly)) = refl
 form_found (form.One (one.Slotted slotted.CutTo)) = refl
 form_found (form.Three three.EnterTest) = refl
 
-pub one_form : (f g : Form) → form_name f ≡ form_name g → f ≡ g
+pub one_form : (f g : Operation) → form_name f ≡ form_name g → f ≡ g
 one_form f g e = let k : Some f ≡ Some g = sym (form_found f) ∙ ap (found form_name all_forms) e ∙ form_found g in cc

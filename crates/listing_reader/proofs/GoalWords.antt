@@ -1,5 +1,6 @@
 -- The words of goals.
-use Rattle.std.proofs.Common.{◌≡◌, ℕ, Bool, true, false, cond, ◌||◌, ◌+◌, ◌<◌, take, length, get_or, List, [], ◌∷◌, ◌++◌, Option, Some, None, refl, sym, ap, ◌∙◌, subst, arith, codes, decimal}
+use Rattle.std.proofs.Common.{◌≡◌, ℕ, Bool, true, false, cond, ◌||◌, ◌+◌, ◌<◌, take, length, get_or, List, [], ◌∷◌, ◌++◌, Option, Some, None, refl, sym, ap}
+use Rattle.std.proofs.Common.{◌∙◌, subst, arith, codes, decimal}
 use Rattle.std.specs.Fmt.{digits}
 use Rattle.std.specs.Str.{bytes_eq, chars}
 use Rattle.std.specs.List.{list_any}
@@ -16,7 +17,9 @@ use Rattle.fd_model.specs.declared.kinds.Relation.TheVariants.{Equal, Differ, Le
 use Rattle.fd_model.specs.declared.kinds.ConstraintKind.{ConstraintKind}
 use Rattle.fd_model.specs.declared.kinds.ConstraintKind.TheVariants.{Compare, AllDifferent, Element, Atmost, And, Or, Not, Reified}
 use Rattle.fd_model.specs.declared.kinds.BuiltinKind.{BuiltinKind}
-use Rattle.fd_model.specs.declared.kinds.BuiltinKind.TheVariants.{True, Fail, False, Unify, Same, NotSame, Is, NumEqual, NumDiffer, NumLess, NumAtMost, NumGreater, NumAtLeast, Var, Nonvar, Integer, Atom, Atomic, Compound, Write, Nl, FdMin, FdMax, FdSize, FdDom}
+use Rattle.fd_model.specs.declared.kinds.BuiltinKind.TheVariants.{True, Fail, False, Unify, Same, NotSame, Is, NumEqual, NumDiffer, NumLess, NumAtMost}
+use Rattle.fd_model.specs.declared.kinds.BuiltinKind.TheVariants.{NumGreater, NumAtLeast, Var, Nonvar, Integer, Atom, Atomic, Compound, Write, Nl, FdMin, FdMax}
+use Rattle.fd_model.specs.declared.kinds.BuiltinKind.TheVariants.{FdSize, FdDom}
 use Rattle.code_listing.specs.Names.{constraint_word, builtin_word, order_word, aim_word}
 use Rattle.listing_reader.specs.Goals.{builtin_spelled, constraint_spelled}
 use Rattle.listing_reader.proofs.WordTexts.{IsPrinted}
@@ -34,7 +37,8 @@ module _ {A : Type 0} (text : A → List ℕ) where
   none_here [] w h = refl
   none_here (x ∷ xs) w h = go (bytes_eq (text x) w) refl h (λ g. none_here xs w g)
     where
-      go : (b : Bool) → bytes_eq (text x) w ≡ b → (bytes_eq (text x) w || list_any (λ x. bytes_eq (text x) w) xs) ≡ false → (list_any (λ x. bytes_eq (text x) w) xs ≡ false → found text xs w ≡ None) → found text (x ∷ xs) w ≡ None
+      go : (b : Bool) → bytes_eq (text x) w ≡ b → (bytes_eq (text x) w || list_any (λ x. bytes_eq (text x) w) xs) ≡ false
+          → (list_any (λ x. bytes_eq (text x) w) xs ≡ false → found text xs w ≡ None) → found text (x ∷ xs) w ≡ None
       go true e h ih = let k : true ≡ false = sym (ap (λ (b : Bool). b || list_any (λ x. bytes_eq (text x) w) xs) e) ∙ h in absurd (cc (k))
       go false e h ih = ap (λ (b : Bool). cond b (Some x) (found text xs w)) e ∙ ih (sym (ap (λ (b : Bool). b || list_any (λ x. bytes_eq (text x) w) xs) e) ∙ h)
 
@@ -42,11 +46,13 @@ module _ {A : Type 0} (text : A → List ℕ) where
   none_found xs w h x f e = let k : Some x ≡ None = sym f ∙ ap (found text xs) e ∙ none_here xs w h in cc
 
   -- one more that hasn't
-  pub none_more : (xs : List A) (w : List ℕ) (i : ℕ) (d : A) → i < length xs → list_any (λ x. bytes_eq (text x) w) (take i xs) ≡ false → bytes_eq (text (get_or xs i d)) w ≡ false → list_any (λ x. bytes_eq (text x) w) (take (i + 1) xs) ≡ false
+  pub none_more : (xs : List A) (w : List ℕ) (i : ℕ) (d : A) → i < length xs → list_any (λ x. bytes_eq (text x) w) (take i xs) ≡ false
+      → bytes_eq (text (get_or xs i d)) w ≡ false → list_any (λ x. bytes_eq (text x) w) (take (i + 1) xs) ≡ false
   none_more xs w i d l h e = list_any_more (λ x. bytes_eq (text x) w) xs i d l ∙ ap (λ (b : Bool). b || bytes_eq (text (get_or xs i d)) w) h ∙ e
 
 abbrev pub all_builtins : List BuiltinKind
-all_builtins = True ∷ Fail ∷ False ∷ Unify ∷ Same ∷ NotSame ∷ Is ∷ NumEqual ∷ NumDiffer ∷ NumLess ∷ NumAtMost ∷ NumGreater ∷ NumAtLeast ∷ Var ∷ Nonvar ∷ Integer ∷ Atom ∷ Atomic ∷ Compound ∷ Write ∷ Nl ∷ FdMin ∷ FdMax ∷ FdSize ∷ FdDom ∷ []
+all_builtins = True ∷ Fail ∷ False ∷ Unify ∷ Same ∷ NotSame ∷ Is ∷ NumEqual ∷ NumDiffer ∷ NumLess ∷ NumAtMost ∷ NumGreater ∷ NumAtLeast ∷ Var ∷ Nonvar ∷ Integer
+    ∷ Atom ∷ Atomic ∷ Compound ∷ Write ∷ Nl ∷ FdMin ∷ FdMax ∷ FdSize ∷ FdDom ∷ []
 
 abbrev pub all_constraints : List ConstraintKind
 all_constraints = Compare Equal ∷ Compare Differ ∷ Compare Less ∷ Compare AtMost ∷ Compare Greater ∷ Compare AtLeast ∷ AllDifferent ∷ Element ∷ Atmost ∷ And ∷ Or ∷ Not ∷ Reified ∷ []

@@ -3,10 +3,10 @@ use Rattle.std.proofs.Common.{◌≡◌, ℕ, Bool, true, false, ◌||◌, nat_e
 use Rattle.std.specs.Str.{bytes_eq}
 use Rattle.std.proofs.lemmas.List.{append-nil}
 use Rattle.std.proofs.lemmas.Slice.Eq.{bytes_eq-Decides}
-use Rattle.listing_reader.specs.Fits.{IsNumber}
+use Rattle.listing_reader.specs.NumberBounds.{IsNumber}
 use Rattle.listing_reader.specs.Lines.{header}
 use Rattle.listing_reader.specs.Reading.{has_byte}
-use Rattle.listing_reader.proofs.Worded.{cut_same}
+use Rattle.listing_reader.proofs.LineWords.{cut_same}
 
 header_is : (name : List ℕ) (n : ℕ) → header name n ≡ name ++ 32 ∷ decimal n
 header_is name n = ap (λ (x : List ℕ). name ++ 32 ∷ x) (append-nil (decimal n))

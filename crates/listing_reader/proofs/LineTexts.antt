@@ -7,18 +7,18 @@ use Rattle.wam_code.specs.declared.instruction.Code.{Code}
 use Rattle.wam_code.specs.Area.{Span, State, Table}
 use Rattle.code_listing.specs.Words.{words}
 use Rattle.code_listing.specs.Texts.{atom_number, entry_text, frame_word, nodes_text, registers_word, span_text}
-use Rattle.listing_reader.specs.Fits.{HasSize, IsNumber, IsSmallEntry, IsSmallSpan, IsSmallState}
+use Rattle.listing_reader.specs.NumberBounds.{HasSize, IsNumber, IsSmallEntry, IsSmallSpan, IsSmallState}
 use Rattle.listing_reader.specs.Forms.{FitsInstruction, instruction_text}
 use Rattle.listing_reader.specs.Nodes.{nodes_words}
 use Rattle.listing_reader.specs.Lists.{FitsPlace, Placed, entry_words, names_words, place_words, placed_text, span_words, state_words}
 use Rattle.listing_reader.specs.Operands.{IsSmallAtom}
 use Rattle.listing_reader.specs.Reading.{has_byte, split}
-use Rattle.listing_reader.proofs.Alike.{Lines}
+use Rattle.listing_reader.proofs.LinePrefixes.{Lines}
 use Rattle.listing_reader.proofs.NodeWords.{nodes_text_is, printed_nodes}
-use Rattle.listing_reader.proofs.OneInstruction.{one_instruction, printed_instruction}
+use Rattle.listing_reader.proofs.InstructionWords.{one_instruction, printed_instruction}
 use Rattle.listing_reader.proofs.StateWords.{one_state, printed_state}
 use Rattle.listing_reader.proofs.WordTexts.{ArePrinted, one_arity, one_atom, one_number, printed_arity, printed_number}
-use Rattle.listing_reader.proofs.Worded.{inline_words, one_list, printed_all, printed_map, split_words}
+use Rattle.listing_reader.proofs.LineWords.{inline_words, one_list, printed_all, printed_map, split_words}
 
 -- ---- ranges
 
@@ -44,7 +44,8 @@ one_entry d e f g h =
     let line : entry_words d ≡ entry_words e = sym (split_entry d f) ∙ ap (split 32) h ∙ split_entry e g in
     let t = three_same _ _ _ _ _ _ line in
     let P : AtomId → ℕ → ℕ → Entry = λ c n a. record { name = c; arity = n; at = a } in
-    ap (λ (c : AtomId). P c d.arity d.at) (one_atom d.name e.name f.0 g.0 t.0) ∙ ap (λ (n : ℕ). P e.name n d.at) (one_arity d.arity e.arity f.1 g.1 t.1) ∙ ap (P e.name e.arity) (one_number d.at e.at f.2 g.2 t.2)
+    ap (λ (c : AtomId). P c d.arity d.at) (one_atom d.name e.name f.0 g.0 t.0) ∙ ap (λ (n : ℕ). P e.name n d.at) (one_arity d.arity e.arity f.1 g.1 t.1)
+    ∙ ap (P e.name e.arity) (one_number d.at e.at f.2 g.2 t.2)
 
 -- ---- queries
 
@@ -88,6 +89,7 @@ four_same a b c d w x y z e = (cc, cc, cc, cc)
 pub one_place : (p q : Placed) → FitsPlace p → FitsPlace q → placed_text p ≡ placed_text q → p ≡ q
 one_place p q f g h =
     let line : place_words p ≡ place_words q = sym (split_place p f) ∙ ap (split 32) h ∙ split_place q g in
-    let t = four_same (registers_word p.0.regs) (frame_word p.0.frame) (decimal p.0.owed) (instruction_text p.1) (registers_word q.0.regs) (frame_word q.0.frame) (decimal q.0.owed) (instruction_text q.1) line in
+    let t = four_same (registers_word p.0.regs) (frame_word p.0.frame) (decimal p.0.owed) (instruction_text p.1) (registers_word q.0.regs)
+    (frame_word q.0.frame) (decimal q.0.owed) (instruction_text q.1) line in
     let P : State → Code × Table → Placed = λ s i. (s, i) in
     ap (λ (s : State). P s p.1) (one_state p.0 q.0 f.0 g.0 t.0 t.1 t.2) ∙ ap (P q.0) (one_instruction p.1 q.1 f.1 g.1 t.3)

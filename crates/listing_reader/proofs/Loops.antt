@@ -1,17 +1,19 @@
 -- Steps of loops that read.
-use Rattle.std.proofs.Common.{◌≡◌, ℕ, zero, suc, ◌+◌, ◌-◌, ◌<◌, ◌≤◌, Bool, true, false, not, ◌||◌, nat_eq, List, [], ◌∷◌, ◌++◌, map, take, drop, length, get_or, Option, Some, None, refl, sym, ap, ◌∙◌, subst, arith, All, append_assoc, drop-cons, length-drop}
+use Rattle.std.proofs.Common.{◌≡◌, ℕ, zero, suc, ◌+◌, ◌-◌, ◌<◌, ◌≤◌, Bool, true, false, not, ◌||◌, nat_eq, List, [], ◌∷◌, ◌++◌, map, take, drop, length, get_or}
+use Rattle.std.proofs.Common.{Option, Some, None, refl, sym, ap, ◌∙◌, subst, arith, All, append_assoc, drop-cons, length-drop}
 use Rattle.std.proofs.lemmas.Bool.{eqb-true, false_from_ne_true, ne_eqb}
 use Rattle.std.proofs.lemmas.List.{map_more, take_all, take_more}
 use Rattle.std.specs.Prelude.{MatchOption}
 use Rattle.listing_reader.specs.Reading.{ReadsAs, has_byte, split}
-use Rattle.listing_reader.proofs.Alike.{all_join, all_more, all_none, map_join}
-use Rattle.listing_reader.proofs.Splitting.{split_first, split_none}
-use Rattle.listing_reader.proofs.Worded.{each_fails, each_more}
+use Rattle.listing_reader.proofs.LinePrefixes.{all_join, all_more, all_none, map_join}
+use Rattle.listing_reader.proofs.Separators.{split_first, split_none}
+use Rattle.listing_reader.proofs.LineWords.{each_fails, each_more}
 
 -- ---- things that are read one after another
 
 module _ {A W B : Type 0} (Fits : A → Type 0) (text : A → B) (g : W → B) where
-  pub each_step : (xs new : List A) (x : A) (ws : List W) (i : ℕ) (d : W) → new ≡ xs ++ x ∷ [] → i < length ws → All Fits xs × (map text xs ≡ map g (take i ws)) → Fits x × (text x ≡ g (get_or ws i d)) → All Fits new × (map text new ≡ map g (take (i + 1) ws))
+  pub each_step : (xs new : List A) (x : A) (ws : List W) (i : ℕ) (d : W) → new ≡ xs ++ x ∷ [] → i < length ws → All Fits xs × (map text xs ≡ map g (take i ws))
+      → Fits x × (text x ≡ g (get_or ws i d)) → All Fits new × (map text new ≡ map g (take (i + 1) ws))
   each_step xs new x ws i d e l h f = (
     subst (λ (k : List A). All Fits k) (sym e) (all_join Fits xs (x ∷ []) h.0 (all_more Fits x [] f.0 (all_none Fits))),
     ap (map text) e ∙ each_more Fits text g xs x ws i d l h.1 f.1,
@@ -80,7 +82,8 @@ nowhere_front sep (b ∷ bs) (suc at) l h =
     ∙ nowhere_front sep bs at (omega (arith, l)) (λ k z m. h (suc k) (omega arith) (omega (arith, m)))
 
 -- one more part
-pub part_more : {W : Type 0} (g : W → List ℕ) (sep : ℕ) (text rest later part : List ℕ) (found new : List W) (w : W) → new ≡ found ++ w ∷ [] → g w ≡ part → split sep rest ≡ part ∷ split sep later → split sep text ≡ map g found ++ split sep rest → split sep text ≡ map g new ++ split sep later
+pub part_more : {W : Type 0} (g : W → List ℕ) (sep : ℕ) (text rest later part : List ℕ) (found new : List W) (w : W) → new ≡ found ++ w ∷ [] → g w ≡ part
+    → split sep rest ≡ part ∷ split sep later → split sep text ≡ map g found ++ split sep rest → split sep text ≡ map g new ++ split sep later
 part_more {W} g sep text rest later part found new w e f h k =
     k ∙ ap (λ (z : List (List ℕ)). map g found ++ z) (h ∙ ap (λ (p : List ℕ). p ∷ split sep later) (sym f))
     ∙ sym (append_assoc (map g found) (g w ∷ []) (split sep later)) ∙ ap (λ (z : List (List ℕ)). z ++ split sep later) (sym (map_join g found (w ∷ [])) ∙ sym (ap (map g) e))

@@ -1,5 +1,6 @@
 -- The words of ranges.
-use Rattle.std.proofs.Common.{◌≡◌, ℕ, ℤ, ◌<◌, ◌≤◌, get_or, Bool, List, [], ◌∷◌, ◌++◌, map, length, Option, Some, None, refl, sym, ap, ◌∙◌, subst, arith, ◌+◌, All, append_assoc, length-append, codes, decimal}
+use Rattle.std.proofs.Common.{◌≡◌, ℕ, ℤ, ◌<◌, ◌≤◌, get_or, Bool, List, [], ◌∷◌, ◌++◌, map, length, Option, Some, None, refl, sym, ap, ◌∙◌, subst, arith, ◌+◌}
+use Rattle.std.proofs.Common.{All, append_assoc, length-append, codes, decimal}
 use Rattle.std.specs.Fmt.{signed_decimal}
 use Rattle.std.proofs.lemmas.List.{append-nil, length-map}
 use Rattle.fd_language.specs.declared.range_node.RangeNode.{RangeNode}
@@ -12,14 +13,14 @@ use Rattle.listing_reader.specs.declared.read_nodes.SlotNode.{SlotNode}
 use Rattle.listing_reader.specs.declared.read_nodes.SlotNode.TheVariants as slot
 use Rattle.listing_reader.specs.declared.read_nodes.NodeForm.{NodeForm}
 use Rattle.listing_reader.specs.declared.read_nodes.NodeForm.TheVariants as form
-use Rattle.listing_reader.specs.Fits.{HasSize, IsInteger, IsNumber}
+use Rattle.listing_reader.specs.NumberBounds.{HasSize, IsInteger, IsNumber}
 use Rattle.listing_reader.specs.Nodes.{lone_node, node_name, node_words, nodes_words, slot_node}
 use Rattle.listing_reader.specs.Reading.{ReadsAs, split}
-use Rattle.listing_reader.proofs.Alike.{Lines, all_head, all_tail}
+use Rattle.listing_reader.proofs.LinePrefixes.{Lines, all_head, all_tail}
 use Rattle.listing_reader.proofs.GoalWords.{found}
-use Rattle.listing_reader.proofs.Splitting.{between_split}
+use Rattle.listing_reader.proofs.Separators.{between_split}
 use Rattle.listing_reader.proofs.WordTexts.{ArePrinted, IsPrinted, one_integer, one_number, printed_integer, printed_number}
-use Rattle.listing_reader.proofs.Worded.{printed_all, split_words}
+use Rattle.listing_reader.proofs.LineWords.{printed_all, split_words}
 
 -- ---- each node has a form
 
@@ -141,7 +142,10 @@ size_args (form.Slot slot.Val) x h = h
 size_args (form.Slot slot.Dom) x h = h
 
 abbrev pub all_node_forms : List NodeForm
-all_node_forms = form.Integer ∷ form.Lone lone.Infinity ∷ form.Lone lone.Add ∷ form.Lone lone.Sub ∷ form.Lone lone.Mul ∷ form.Lone lone.DivDown ∷ form.Lone lone.DivUp ∷ form.Lone lone.Span ∷ form.Lone lone.One ∷ form.Lone lone.Union ∷ form.Lone lone.Inter ∷ form.Lone lone.Outside ∷ form.Lone lone.Plus ∷ form.Lone lone.Minus ∷ form.Lone lone.Times ∷ form.Lone lone.Over ∷ form.Slot slot.Param ∷ form.Slot slot.Min ∷ form.Slot slot.Max ∷ form.Slot slot.Val ∷ form.Slot slot.Dom ∷ []
+all_node_forms = form.Integer ∷ form.Lone lone.Infinity ∷ form.Lone lone.Add ∷ form.Lone lone.Sub ∷ form.Lone lone.Mul ∷ form.Lone lone.DivDown ∷ form.Lone
+    lone.DivUp ∷ form.Lone lone.Span ∷ form.Lone lone.One ∷ form.Lone lone.Union ∷ form.Lone lone.Inter ∷ form.Lone lone.Outside ∷ form.Lone
+    lone.Plus ∷ form.Lone lone.Minus ∷ form.Lone lone.Times ∷ form.Lone lone.Over ∷ form.Slot slot.Param ∷ form.Slot slot.Min ∷ form.Slot slot.Max ∷ form.Slot
+    slot.Val ∷ form.Slot slot.Dom ∷ []
 
 pub node_found : (f : NodeForm) → found node_name all_node_forms (node_name f) ≡ Some f
 node_found form.Integer = refl
@@ -323,7 +327,8 @@ node_text_is (node.Dom y) = numbered_is (codes "dom") (decimal y)
 
 behind_join : (us vs : Lines) → each_behind (codes " ") (us ++ vs) ≡ each_behind (codes " ") us ++ each_behind (codes " ") vs
 behind_join [] vs = refl
-behind_join (u ∷ us) vs = ap (λ (x : List ℕ). codes " " ++ (u ++ x)) (behind_join us vs) ∙ ap (λ (x : List ℕ). codes " " ++ x) (sym (append_assoc u (each_behind (codes " ") us) (each_behind (codes " ") vs)))
+behind_join (u ∷ us) vs = ap (λ (x : List ℕ). codes " " ++ (u ++ x)) (behind_join us vs)
+    ∙ ap (λ (x : List ℕ). codes " " ++ x) (sym (append_assoc u (each_behind (codes " ") us) (each_behind (codes " ") vs)))
 
 behind_node : (n : RangeNode) → each_behind (codes " ") (node_words n) ≡ codes " " ++ node_text n
 behind_node n = go (node_words n) (sym (node_text_is n)) (λ e. no_front n [] (sym (append-nil (node_words n) ∙ e)))
@@ -418,10 +423,12 @@ front_shorter g n ws vs e =
     go [] some = absurd (some refl)
     go (x ∷ l) some = omega arith
 
-pub range_reads : {V : Type 0} (line : List ℕ) → ¬ (line ≡ []) → (told : V → List RangeNode) (r : Option V) → ReadsAs told (All HasSize) nodes_words (split 32 line) r → ReadsAs told (All HasSize) nodes_text line r
+pub range_reads : {V : Type 0} (line : List ℕ) → ¬ (line ≡ []) → (told : V → List RangeNode) (r : Option V)
+    → ReadsAs told (All HasSize) nodes_words (split 32 line) r → ReadsAs told (All HasSize) nodes_text line r
 range_reads line some told None h = range_none line some h
 range_reads line some told (Some v) h = (h.0, range_some line (told v) h.1)
 
-pub no_front_form : {W : Type 0} (g : W → List ℕ) (ws : List W) (d : W) → 1 ≤ length ws → ((f : NodeForm) → Unit {0} → ¬ (node_name f ≡ g (get_or ws 0 d))) → (n : RangeNode) (r : Lines) → HasSize n → ¬ (node_words n ++ r ≡ map g ws)
+pub no_front_form : {W : Type 0} (g : W → List ℕ) (ws : List W) (d : W) → 1 ≤ length ws → ((f : NodeForm) → Unit {0} → ¬ (node_name f ≡ g (get_or ws 0 d)))
+    → (n : RangeNode) (r : Lines) → HasSize n → ¬ (node_words n ++ r ≡ map g ws)
 no_front_form g [] d l none = absurd (omega (arith, l))
 no_front_form g (w ∷ ws) d l none = no_node_form (g w) (map g ws) (λ f. none f tt)

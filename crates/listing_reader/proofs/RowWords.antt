@@ -1,5 +1,6 @@
 -- The rows of switches.
-use Rattle.std.proofs.Common.{◌≡◌, ◌⊎◌, inl, inr, ℕ, ◌<◌, ℤ, Bool, true, false, ◌&&◌, nat_lt, List, [], ◌∷◌, ◌++◌, map, Option, Some, None, refl, sym, ap, ◌∙◌, subst, arith, All, IsTrue, codes, decimal}
+use Rattle.std.proofs.Common.{◌≡◌, ◌⊎◌, inl, inr, ℕ, ◌<◌, ℤ, Bool, true, false, ◌&&◌, nat_lt, List, [], ◌∷◌, ◌++◌, map, Option, Some, None, refl, sym, ap, ◌∙◌}
+use Rattle.std.proofs.Common.{subst, arith, All, IsTrue, codes, decimal}
 use Rattle.std.specs.Fmt.{signed_decimal}
 use Rattle.std.specs.List.{list_all}
 use Rattle.std.proofs.lemmas.Bool.{lt-ltb}
@@ -10,15 +11,16 @@ use Rattle.wam_code.specs.Area.{Table}
 use Rattle.code_listing.specs.Texts.{atom_number, key_text, row_word}
 use Rattle.listing_reader.specs.declared.forms.Kind.{Kind}
 use Rattle.listing_reader.specs.declared.forms.Kind.TheVariants.{Atoms, Integers, Structures}
-use Rattle.listing_reader.specs.Fits.{IsNumber, IsArity, IsInteger, IsSmallKey}
+use Rattle.listing_reader.specs.NumberBounds.{IsNumber, IsArity, IsInteger, IsSmallKey}
 use Rattle.listing_reader.specs.Operands.{IsSmallAtom}
 use Rattle.listing_reader.specs.Forms.{IsSmallTable}
 use Rattle.listing_reader.specs.Lists.{FitsKey, FitsRow, IsOfKind}
 use Rattle.listing_reader.specs.Reading.{has_byte}
 use Rattle.listing_reader.proofs.Digits.{decimal_all, digit_over, digit_under, is_printed, join_all, signed_all, without}
 use Rattle.listing_reader.proofs.FormViews.{FitsSwitch}
-use Rattle.listing_reader.proofs.WordTexts.{IsPrinted, magnitude, one_arity, one_atom, one_integer, one_number, printed_arity, printed_integer, printed_join, printed_number}
-use Rattle.listing_reader.proofs.Worded.{cut_same}
+use Rattle.listing_reader.proofs.WordTexts.{IsPrinted, magnitude, one_arity, one_atom, one_integer, one_number, printed_arity, printed_integer, printed_join}
+use Rattle.listing_reader.proofs.WordTexts.{printed_number}
+use Rattle.listing_reader.proofs.LineWords.{cut_same}
 
 -- ---- keys
 
@@ -31,7 +33,8 @@ number_under n h = decimal_all under_colon digit_under n h
 key_under : (k : Key) → IsSmallKey k → list_all under_colon (key_text k) ≡ true
 key_under (key.Atom c) h = number_under c.number h
 key_under (key.Int z) h = signed_all under_colon refl digit_under z (magnitude z h)
-key_under (key.Struct f n) h = join_all under_colon (atom_number f) (codes "/" ++ decimal n) (number_under f.number h.0) (join_all under_colon (codes "/") (decimal n) refl (number_under n (let g = h.1 in omega (arith, g))))
+key_under (key.Struct f n) h = join_all under_colon (atom_number f) (codes "/" ++ decimal n) (number_under f.number h.0)
+    (join_all under_colon (codes "/") (decimal n) refl (number_under n (let g = h.1 in omega (arith, g))))
 
 -- no colon stands in a key
 pub key_without : (k : Key) → IsSmallKey k → has_byte 58 (key_text k) ≡ false
@@ -96,7 +99,9 @@ rows_each Structures rows h = λ k d l. (((h.0 k d l).0, h.1 k d l), (h.0 k d l)
 
 -- ---- texts of nothing
 
-pub no_structure : (text name digits : List ℕ) → (text ≡ name ++ 47 ∷ digits) × (has_byte 47 name ≡ false) → (((f : AtomId) → IsSmallAtom f → ¬ (atom_number f ≡ name)) ⊎ ((n : ℕ) → IsArity n → ¬ (decimal n ≡ digits))) → (k : Key) → FitsKey Structures k → ¬ (key_text k ≡ text)
+pub no_structure : (text name digits : List ℕ) → (text ≡ name ++ 47 ∷ digits) × (has_byte 47 name ≡ false)
+    → (((f : AtomId) → IsSmallAtom f → ¬ (atom_number f ≡ name)) ⊎ ((n : ℕ) → IsArity n → ¬ (decimal n ≡ digits))) → (k : Key) → FitsKey Structures k
+    → ¬ (key_text k ≡ text)
 no_structure text name digits cut none (key.Atom c) f e = absurd (let h : false ≡ true = f.1 in cc)
 no_structure text name digits cut none (key.Int z) f e = absurd (let h : false ≡ true = f.1 in cc)
 no_structure text name digits cut none (key.Struct a n) f e = go none
@@ -108,7 +113,9 @@ no_structure text name digits cut none (key.Struct a n) f e = go none
     go (inl h) = h a f.0.0 t.0
     go (inr h) = h n f.0.1 t.1
 
-pub no_row : (kind : Kind) (word text digits : List ℕ) → (word ≡ text ++ 58 ∷ digits) × (has_byte 58 text ≡ false) → (((k : Key) → FitsKey kind k → ¬ (key_text k ≡ text)) ⊎ ((n : ℕ) → IsNumber n → ¬ (decimal n ≡ digits))) → (r : Key × ℕ) → FitsRow kind r → ¬ (row_word r ≡ word)
+pub no_row : (kind : Kind) (word text digits : List ℕ) → (word ≡ text ++ 58 ∷ digits) × (has_byte 58 text ≡ false)
+    → (((k : Key) → FitsKey kind k → ¬ (key_text k ≡ text)) ⊎ ((n : ℕ) → IsNumber n → ¬ (decimal n ≡ digits))) → (r : Key × ℕ) → FitsRow kind r
+    → ¬ (row_word r ≡ word)
 no_row kind word text digits cut none r f e = go none
   where
     t : (key_text r.0 ≡ text) × (decimal r.1 ≡ digits)

@@ -1,9 +1,10 @@
 -- Reading a section, line by line, and then those behind it.
-use Rattle.std.proofs.Common.{◌≡◌, ◌⊎◌, inl, inr, ℕ, zero, suc, ◌+◌, ◌-◌, ◌<◌, ◌≤◌, List, [], ◌∷◌, ◌++◌, map, take, drop, length, get_or, Option, Some, None, refl, sym, ap, ◌∙◌, subst, arith, All, append_assoc, length-append, length-drop, codes}
+use Rattle.std.proofs.Common.{◌≡◌, ◌⊎◌, inl, inr, ℕ, zero, suc, ◌+◌, ◌-◌, ◌<◌, ◌≤◌, List, [], ◌∷◌, ◌++◌, map, take, drop, length, get_or, Option, Some, None}
+use Rattle.std.proofs.Common.{refl, sym, ap, ◌∙◌, subst, arith, All, append_assoc, length-append, length-drop, codes}
 use Rattle.std.specs.Str.{IsUtf8}
 use Rattle.std.proofs.lemmas.List.{append-nil, length-map, take_all}
 use Rattle.std.proofs.lemmas.Str.{IsUtf8-from_ascii}
-use Rattle.fd_language.specs.Writing.{Quoted, atom_text}
+use Rattle.fd_language.specs.TermTexts.{Quoted, atom_text}
 use Rattle.term_pool.specs.declared.AtomId.{AtomId}
 use Rattle.wam_code.specs.declared.instruction.Code.TheVariants.{FailNow}
 use Rattle.wam_code.specs.declared.parts.Entry.{Entry}
@@ -12,11 +13,12 @@ use Rattle.code_listing.specs.Listing.{counted}
 use Rattle.code_listing.specs.Texts.{entry_text, nodes_text, span_text}
 use Rattle.listing_reader.specs.declared.fault.SheetFault.{SheetFault}
 use Rattle.listing_reader.specs.declared.fault.SheetFault.TheVariants.{BadLine, NoMemory}
-use Rattle.listing_reader.specs.Fits.{HasSize, IsNumber, IsSmallEntry, IsSmallSpan}
+use Rattle.listing_reader.specs.NumberBounds.{HasSize, IsNumber, IsSmallEntry, IsSmallSpan}
 use Rattle.listing_reader.specs.Lines.{Follows, HasSection, Headed, IsLeft, IsStop, Joined, LeavesAt, Section, StopsAt, header}
 use Rattle.listing_reader.specs.Lists.{FitsPlace, Placed, placed_text}
 use Rattle.listing_reader.specs.Sections.{FromAtoms, FromEntries, FromQueries, FromRanges, IsPlaces, first_line}
-use Rattle.listing_reader.proofs.Alike.{Lines, all_join, all_more, all_none, first_stops, leaves_end, leaves_head, leaves_of, leaves_then, map_join, section_size, stops_header, stops_item, head_stops}
+use Rattle.listing_reader.proofs.LinePrefixes.{Lines, all_join, all_more, all_none, first_stops, leaves_end, leaves_head, leaves_of, leaves_then, map_join}
+use Rattle.listing_reader.proofs.LinePrefixes.{section_size, stops_header, stops_item, head_stops}
 
 -- ---- what stands for a thing that isn't read
 
@@ -51,16 +53,21 @@ some_place_fits = ((all_none IsNumber, omega arith), (tt, all_none _, all_none _
 
 -- ---- the loop
 
-module _ {A V : Type 0} (items : List V → List A) (told : V → A) (grow : (xs : List V) (x : V) → items (xs ++ x ∷ []) ≡ items xs ++ told x ∷ []) (size : (xs : List V) → length (items xs) ≡ length xs) (name : List ℕ) (Fits : A → Type 0) (text : A → List ℕ) (lines : Lines) (n : ℕ) where
-  pub section_step : (xs new : List V) (x : V) (l : List ℕ) (later : Lines) → new ≡ xs ++ x ∷ [] → All Fits (items xs) → lines ≡ header name n ∷ (map text (items xs) ++ l ∷ later) → Fits (told x) × (text (told x) ≡ l) → All Fits (items new) × (lines ≡ header name n ∷ (map text (items new) ++ later))
+module _ {A V : Type 0} (items : List V → List A) (told : V → A) (grow : (xs : List V) (x : V) → items (xs ++ x ∷ []) ≡ items xs ++ told x ∷ [])
+    (size : (xs : List V) → length (items xs) ≡ length xs) (name : List ℕ) (Fits : A → Type 0) (text : A → List ℕ) (lines : Lines) (n : ℕ) where
+  pub section_step : (xs new : List V) (x : V) (l : List ℕ) (later : Lines) → new ≡ xs ++ x ∷ [] → All Fits (items xs)
+      → lines ≡ header name n ∷ (map text (items xs) ++ l ∷ later) → Fits (told x) × (text (told x) ≡ l)
+      → All Fits (items new) × (lines ≡ header name n ∷ (map text (items new) ++ later))
   section_step xs new x l later e f is t =
       let whole : items new ≡ items xs ++ told x ∷ [] = ap items e ∙ grow xs x in (
         subst (λ (z : List A). All Fits z) (sym whole) (all_join Fits (items xs) (told x ∷ []) f (all_more Fits (told x) [] t.0 (all_none Fits))),
         is ∙ ap (λ (z : List ℕ). header name n ∷ (map text (items xs) ++ z ∷ later)) (sym t.1)
-            ∙ ap (λ (z : Lines). header name n ∷ z) (sym (append_assoc (map text (items xs)) (text (told x) ∷ []) later) ∙ ap (λ (z : Lines). z ++ later) (sym (map_join text (items xs) (told x ∷ [])) ∙ ap (map text) (sym whole))),
+            ∙ ap (λ (z : Lines). header name n ∷ z) (sym (append_assoc (map text (items xs)) (text (told x) ∷ []) later)
+            ∙ ap (λ (z : Lines). z ++ later) (sym (map_join text (items xs) (told x ∷ [])) ∙ ap (map text) (sym whole))),
       )
 
-  pub section_done : (xs : List V) (rest : Lines) → IsNumber n → length xs ≡ n → All Fits (items xs) → lines ≡ header name n ∷ (map text (items xs) ++ rest) → HasSection name Fits text lines (items xs)
+  pub section_done : (xs : List V) (rest : Lines) → IsNumber n → length xs ≡ n → All Fits (items xs) → lines ≡ header name n ∷ (map text (items xs) ++ rest)
+      → HasSection name Fits text lines (items xs)
   section_done xs rest small c f is = record {
     fit = f;
     count = subst IsNumber (sym (size xs ∙ c)) small;
@@ -68,19 +75,23 @@ module _ {A V : Type 0} (items : List V → List A) (told : V → A) (grow : (xs
     are = is ∙ ap (λ (m : ℕ). header name m ∷ (map text (items xs) ++ rest)) (sym (length-map (items xs) text ∙ size xs ∙ c));
   }
 
-  pub section_stops : (x0 : A) → Fits x0 → (xs : List V) (rest : Lines) (i at line : ℕ) → IsNumber n → length xs ≡ i → i < n → line ≡ at + i + 2 → All Fits (items xs) → lines ≡ header name n ∷ (map text (items xs) ++ rest) → ((x : A) (r : Lines) → Fits x → ¬ (rest ≡ text x ∷ r)) → (k : ℕ) × ((line ≡ suc (at + k)) × StopsAt (Section name Fits text) lines k)
+  pub section_stops : (x0 : A) → Fits x0 → (xs : List V) (rest : Lines) (i at line : ℕ) → IsNumber n → length xs ≡ i → i < n → line ≡ at + i + 2
+      → All Fits (items xs) → lines ≡ header name n ∷ (map text (items xs) ++ rest) → ((x : A) (r : Lines) → Fits x → ¬ (rest ≡ text x ∷ r))
+      → (k : ℕ) × ((line ≡ suc (at + k)) × StopsAt (Section name Fits text) lines k)
   section_stops x0 f0 xs rest i at line small c l e f is none =
       let d = size xs in
       (suc (length (items xs)), (omega (arith, e, c, d), stops_item name Fits text x0 f0 lines rest n (items xs) is small f (omega (arith, c, d, l)) none))
 
-pub header_stops : {A : Type 0} (name : List ℕ) (Fits : A → Type 0) (text : A → List ℕ) (lines : Lines) (at : ℕ) → ((n : ℕ) (rest : Lines) → IsNumber n → ¬ (lines ≡ header name n ∷ rest)) → (k : ℕ) × ((at + 1 ≡ suc (at + k)) × StopsAt (Section name Fits text) lines k)
+pub header_stops : {A : Type 0} (name : List ℕ) (Fits : A → Type 0) (text : A → List ℕ) (lines : Lines) (at : ℕ)
+    → ((n : ℕ) (rest : Lines) → IsNumber n → ¬ (lines ≡ header name n ∷ rest)) → (k : ℕ) × ((at + 1 ≡ suc (at + k)) × StopsAt (Section name Fits text) lines k)
 header_stops name Fits text lines at none = (0, (omega arith, stops_header name Fits text lines none))
 
 -- a line that isn't there, or isn't right
 pub no_line : {A : Type 0} (Fits : A → Type 0) (text : A → List ℕ) (rest : Lines) → rest ≡ [] → (x : A) (r : Lines) → Fits x → ¬ (rest ≡ text x ∷ r)
 no_line Fits text rest e x r f g = let k : [] ≡ text x ∷ r = sym e ∙ g in cc
 
-pub wrong_line : {A : Type 0} (Fits : A → Type 0) (text : A → List ℕ) (rest later : Lines) (l : List ℕ) → rest ≡ l ∷ later → ((x : A) → Fits x → ¬ (text x ≡ l)) → (x : A) (r : Lines) → Fits x → ¬ (rest ≡ text x ∷ r)
+pub wrong_line : {A : Type 0} (Fits : A → Type 0) (text : A → List ℕ) (rest later : Lines) (l : List ℕ) → rest ≡ l ∷ later → ((x : A) → Fits x → ¬ (text x ≡ l))
+    → (x : A) (r : Lines) → Fits x → ¬ (rest ≡ text x ∷ r)
 wrong_line Fits text rest later l e none x r f g = let k : l ∷ later ≡ text x ∷ r = sym e ∙ g in none x f (cc)
 
 -- ---- behind a section
@@ -111,7 +122,8 @@ module _ {A W : Type 0} (g : W → List ℕ) (name : List ℕ) (Fits : A → Typ
       drop_front (suc n) (x ∷ p) q k = drop_front n p q (omega (arith, k))
 
   -- what stops behind it
-  pub left_then : (Q : Lines → Type 0) (rest : List ℕ) (n at : ℕ) → n ≡ suc (length ys) → (e : SheetFault) → IsLeft Q (map g (take (length ws - n) (drop n ws))) rest (at + n) e → IsLeft (Joined (Section name Fits text) Q) (map g ws) rest at e
+  pub left_then : (Q : Lines → Type 0) (rest : List ℕ) (n at : ℕ) → n ≡ suc (length ys) → (e : SheetFault)
+      → IsLeft Q (map g (take (length ws - n) (drop n ws))) rest (at + n) e → IsLeft (Joined (Section name Fits text) Q) (map g ws) rest at e
   left_then Q rest n at c (BadLine l) (k, (d, lv)) = (
     suc (length ys) + k,
     (
@@ -130,23 +142,29 @@ module _ {A W : Type 0} (g : W → List ℕ) (name : List ℕ) (Fits : A → Typ
       (suc (length ys), (omega (arith, c), leaves_end rest name Fits text (map g ws) h.behind ys h.fit h.count h.are (go more)))
     where
       go : (n < length ws) ⊎ (¬ (rest ≡ [])) → (0 < length h.behind) ⊎ (¬ (rest ≡ []))
-      go (inl l) = inl (let a = ap length h.are in let b = length-append (counted name (map text ys)) h.behind in let d = section_size name Fits text ys in let k = length-map ws g in omega (arith, a, b, d, k, l, c))
+      go (inl l) = inl (let a = ap length h.are in let b = length-append (counted name (map text ys)) h.behind in let d = section_size name Fits text ys in
+          let k = length-map ws g in omega (arith, a, b, d, k, l, c))
       go (inr q) = inr q
 
   -- no line is left
   pub told_end : (n : ℕ) → n ≡ suc (length ys) → length ws ≤ n → map g ws ≡ counted name (map text ys)
-  told_end n c l = h.are ∙ ap (λ (z : Lines). counted name (map text ys) ++ z) (go h.behind (let a = ap length h.are in let b = length-append (counted name (map text ys)) h.behind in let d = section_size name Fits text ys in let k = length-map ws g in omega (arith, a, b, d, k, l, c))) ∙ append-nil (counted name (map text ys))
+  told_end n c l = h.are ∙ ap (λ (z : Lines). counted name (map text ys) ++ z) (go h.behind (let a = ap length h.are in
+      let b = length-append (counted name (map text ys)) h.behind in let d = section_size name Fits text ys in let k = length-map ws g in
+      omega (arith, a, b, d, k, l, c))) ∙ append-nil (counted name (map text ys))
     where
       go : (z : Lines) → length z ≡ 0 → z ≡ []
       go [] k = refl
       go (x ∷ z) k = absurd (omega (arith, k))
 
 -- a section that stops itself
-pub left_first : {A : Type 0} (name : List ℕ) (Fits : A → Type 0) (text : A → List ℕ) (Q : Lines → Type 0) (q : Lines) → Q q → (lines : Lines) (rest : List ℕ) (at : ℕ) (e : SheetFault) → IsStop (Section name Fits text) lines at e → IsLeft (Joined (Section name Fits text) Q) lines rest at e
+pub left_first : {A : Type 0} (name : List ℕ) (Fits : A → Type 0) (text : A → List ℕ) (Q : Lines → Type 0) (q : Lines) → Q q
+    → (lines : Lines) (rest : List ℕ) (at : ℕ) (e : SheetFault) → IsStop (Section name Fits text) lines at e
+    → IsLeft (Joined (Section name Fits text) Q) lines rest at e
 left_first name Fits text Q q hq lines rest at (BadLine l) (k, (d, st)) = (k, (d, leaves_of rest (Joined (Section name Fits text) Q) lines k (first_stops name Fits text Q lines k st q hq)))
 left_first name Fits text Q q hq lines rest at NoMemory u = tt
 
-pub left_last : {A : Type 0} (name : List ℕ) (Fits : A → Type 0) (text : A → List ℕ) (lines : Lines) (rest : List ℕ) (at : ℕ) (e : SheetFault) → IsStop (Section name Fits text) lines at e → IsLeft (Section name Fits text) lines rest at e
+pub left_last : {A : Type 0} (name : List ℕ) (Fits : A → Type 0) (text : A → List ℕ) (lines : Lines) (rest : List ℕ) (at : ℕ) (e : SheetFault)
+    → IsStop (Section name Fits text) lines at e → IsLeft (Section name Fits text) lines rest at e
 left_last name Fits text lines rest at (BadLine l) (k, (d, st)) = (k, (d, leaves_of rest (Section name Fits text) lines k st))
 left_last name Fits text lines rest at NoMemory u = tt
 
@@ -156,27 +174,60 @@ pub empty_places : IsPlaces (counted (codes "code") [])
 empty_places = record { items = []; fit = all_none FitsPlace; count = omega arith; lines = refl }
 
 pub empty_queries : FromQueries (counted (codes "queries") [] ++ counted (codes "code") [])
-empty_queries = record { first = counted (codes "queries") []; rest = counted (codes "code") []; lines = refl; is_first = record { items = []; fit = all_none IsSmallSpan; count = omega arith; lines = refl }; is_rest = empty_places }
+empty_queries = record {
+  first = counted (codes "queries") [];
+  rest = counted (codes "code") [];
+  lines = refl;
+  is_first = record { items = []; fit = all_none IsSmallSpan; count = omega arith; lines = refl };
+  is_rest = empty_places;
+}
 
 pub empty_entries : FromEntries (counted (codes "entries") [] ++ (counted (codes "queries") [] ++ counted (codes "code") []))
-empty_entries = record { first = counted (codes "entries") []; rest = counted (codes "queries") [] ++ counted (codes "code") []; lines = refl; is_first = record { items = []; fit = all_none IsSmallEntry; count = omega arith; lines = refl }; is_rest = empty_queries }
+empty_entries = record {
+  first = counted (codes "entries") [];
+  rest = counted (codes "queries") [] ++ counted (codes "code") [];
+  lines = refl;
+  is_first = record { items = []; fit = all_none IsSmallEntry; count = omega arith; lines = refl };
+  is_rest = empty_queries;
+}
 
 pub empty_ranges : FromRanges (counted (codes "ranges") [] ++ (counted (codes "entries") [] ++ (counted (codes "queries") [] ++ counted (codes "code") [])))
-empty_ranges = record { first = counted (codes "ranges") []; rest = counted (codes "entries") [] ++ (counted (codes "queries") [] ++ counted (codes "code") []); lines = refl; is_first = record { items = []; fit = all_none (All HasSize); count = omega arith; lines = refl }; is_rest = empty_entries }
+empty_ranges = record {
+  first = counted (codes "ranges") [];
+  rest = counted (codes "entries") [] ++ (counted (codes "queries") [] ++ counted (codes "code") []);
+  lines = refl;
+  is_first = record { items = []; fit = all_none (All HasSize); count = omega arith; lines = refl };
+  is_rest = empty_entries;
+}
 
 pub empty_atoms : FromAtoms (counted (codes "atoms") [] ++ (counted (codes "ranges") [] ++ (counted (codes "entries") [] ++ (counted (codes "queries") [] ++ counted (codes "code") []))))
-empty_atoms = record { first = counted (codes "atoms") []; rest = counted (codes "ranges") [] ++ (counted (codes "entries") [] ++ (counted (codes "queries") [] ++ counted (codes "code") [])); lines = refl; is_first = record { items = []; fit = all_none IsUtf8; count = omega arith; lines = refl }; is_rest = empty_ranges }
+empty_atoms = record {
+  first = counted (codes "atoms") [];
+  rest = counted (codes "ranges") [] ++ (counted (codes "entries") [] ++ (counted (codes "queries") [] ++ counted (codes "code") []));
+  lines = refl;
+  is_first = record { items = []; fit = all_none IsUtf8; count = omega arith; lines = refl };
+  is_rest = empty_ranges;
+}
 
 -- ---- the first line
 
 pub left_head : (lines : Lines) (rest : List ℕ) → ((behind : Lines) → ¬ (lines ≡ first_line ∷ behind)) → IsLeft (Headed first_line FromAtoms) lines rest 0 (BadLine 1)
-left_head lines rest none = (0, (omega arith, leaves_of rest (Headed first_line FromAtoms) lines 0 (head_stops first_line FromAtoms (counted (codes "atoms") [] ++ (counted (codes "ranges") [] ++ (counted (codes "entries") [] ++ (counted (codes "queries") [] ++ counted (codes "code") [])))) empty_atoms lines none)))
+left_head lines rest none = (
+  0,
+  (
+    omega arith,
+    leaves_of rest (Headed first_line FromAtoms) lines 0
+        (head_stops first_line FromAtoms (counted (codes "atoms") []
+        ++ (counted (codes "ranges") [] ++ (counted (codes "entries") [] ++ (counted (codes "queries") [] ++ counted (codes "code") [])))) empty_atoms lines none),
+  ),
+)
 
 pub left_behind : (lines behind : Lines) (rest : List ℕ) → lines ≡ first_line ∷ behind → (e : SheetFault) → IsLeft FromAtoms behind rest 1 e → IsLeft (Headed first_line FromAtoms) lines rest 0 e
 left_behind lines behind rest is (BadLine l) (k, (d, lv)) = (suc k, (omega (arith, d), leaves_head rest first_line FromAtoms lines behind is k lv))
 left_behind lines behind rest is NoMemory u = tt
 
-pub wrong_front : {A W : Type 0} (g : W → List ℕ) (Fits : A → Type 0) (text : A → List ℕ) (ws : List W) (d : W) → 1 ≤ length ws → ((x : A) → Fits x → ¬ (text x ≡ g (get_or ws 0 d))) → (x : A) (r : Lines) → Fits x → ¬ (map g ws ≡ text x ∷ r)
+pub wrong_front : {A W : Type 0} (g : W → List ℕ) (Fits : A → Type 0) (text : A → List ℕ) (ws : List W) (d : W) → 1 ≤ length ws
+    → ((x : A) → Fits x → ¬ (text x ≡ g (get_or ws 0 d))) → (x : A) (r : Lines) → Fits x → ¬ (map g ws ≡ text x ∷ r)
 wrong_front g Fits text [] d l none = absurd (omega (arith, l))
 wrong_front g Fits text (w ∷ ws) d l none = wrong_line Fits text (map g (w ∷ ws)) (map g ws) (g w) refl none
 

@@ -1,24 +1,26 @@
 -- The words of states.
-use Rattle.std.proofs.Common.{◌≡◌, ℕ, ◌<◌, ◌≤◌, Bool, true, false, ◌&&◌, nat_lt, List, [], ◌∷◌, ◌++◌, map, Option, Some, None, refl, sym, ap, ◌∙◌, subst, arith, All, codes, decimal}
+use Rattle.std.proofs.Common.{◌≡◌, ℕ, ◌<◌, ◌≤◌, Bool, true, false, ◌&&◌, nat_lt, List, [], ◌∷◌, ◌++◌, map, Option, Some, None, refl, sym, ap, ◌∙◌, subst, arith}
+use Rattle.std.proofs.Common.{All, codes, decimal}
 use Rattle.std.specs.List.{list_all}
 use Rattle.std.proofs.lemmas.Bool.{lt-ltb}
 use Rattle.wam_code.specs.Area.{Slot, Unset, Cell, Level, State}
 use Rattle.code_listing.specs.Words.{between, each_behind}
 use Rattle.code_listing.specs.Texts.{argument_word, frame_word, registers_word, slot_letter}
-use Rattle.listing_reader.specs.Fits.{IsNumber, IsSmallState}
+use Rattle.listing_reader.specs.NumberBounds.{IsNumber, IsSmallState}
 use Rattle.listing_reader.specs.Lists.{state_words}
 use Rattle.listing_reader.specs.Reading.{ReadsAs, has_byte, split}
-use Rattle.listing_reader.proofs.Alike.{Lines, all_head, all_tail}
+use Rattle.listing_reader.proofs.LinePrefixes.{Lines, all_head, all_tail}
 use Rattle.listing_reader.proofs.Digits.{and_true, decimal_all, digit_over, is_printed, join_all, without}
-use Rattle.listing_reader.proofs.Splitting.{AreWithout, between_split, some_word, split_between}
+use Rattle.listing_reader.proofs.Separators.{AreWithout, between_split, some_word, split_between}
 use Rattle.listing_reader.proofs.WordTexts.{ArePrinted, IsPrinted, one_argument, one_number, printed_argument, printed_join, printed_number, same_head}
-use Rattle.listing_reader.proofs.Worded.{one_list}
+use Rattle.listing_reader.proofs.LineWords.{one_list}
 
 -- ---- registers
 
 -- no comma stands in a register
 argument_without : (n : ℕ) → IsNumber n → has_byte 44 (argument_word n) ≡ false
-argument_without n h = without (λ b. nat_lt 44 b) 44 refl (argument_word n) (join_all (λ b. nat_lt 44 b) (codes "x") (decimal n) refl (decimal_all (λ b. nat_lt 44 b) (digit_over 44 (omega arith)) n h))
+argument_without n h = without (λ b. nat_lt 44 b) 44 refl (argument_word n)
+    (join_all (λ b. nat_lt 44 b) (codes "x") (decimal n) refl (decimal_all (λ b. nat_lt 44 b) (digit_over 44 (omega arith)) n h))
 
 arguments_without : (ns : List ℕ) → All IsNumber ns → AreWithout 44 (map argument_word ns)
 arguments_without [] h = tt
@@ -37,7 +39,8 @@ pub registers_read : (word : List ℕ) (ns : List ℕ) → ¬ (ns ≡ []) → ma
 registers_read word [] some e = absurd (some refl)
 registers_read word (n ∷ ns) some e = ap (between (44 ∷ [])) e ∙ between_split 44 word
 
-pub registers_none : (word : List ℕ) → ¬ (word ≡ codes "-") → ((ns : List ℕ) → All IsNumber ns → ¬ (map argument_word ns ≡ split 44 word)) → (ns : List ℕ) → All IsNumber ns → ¬ (registers_word ns ≡ word)
+pub registers_none : (word : List ℕ) → ¬ (word ≡ codes "-") → ((ns : List ℕ) → All IsNumber ns → ¬ (map argument_word ns ≡ split 44 word)) → (ns : List ℕ)
+    → All IsNumber ns → ¬ (registers_word ns ≡ word)
 registers_none word other none [] h e = other (sym e)
 registers_none word other none (n ∷ ns) h e = none (n ∷ ns) h (sym (split_registers n ns h) ∙ ap (split 44) e)
 
@@ -49,11 +52,14 @@ one_registers (m ∷ ms) (n ∷ ns) f g e = one_list IsNumber argument_word one_
 
 printed_behind : (ns : List ℕ) → All IsNumber ns → IsPrinted (each_behind (codes ",") (map argument_word ns))
 printed_behind [] h = refl
-printed_behind (n ∷ ns) h = printed_join (codes ",") (argument_word n ++ each_behind (codes ",") (map argument_word ns)) refl (printed_join (argument_word n) (each_behind (codes ",") (map argument_word ns)) (printed_argument n (all_head IsNumber n ns h)) (printed_behind ns (all_tail IsNumber n ns h)))
+printed_behind (n ∷ ns) h = printed_join (codes ",") (argument_word n ++ each_behind (codes ",") (map argument_word ns)) refl
+    (printed_join (argument_word n) (each_behind (codes ",") (map argument_word ns)) (printed_argument n (all_head IsNumber n ns h))
+    (printed_behind ns (all_tail IsNumber n ns h)))
 
 printed_registers : (ns : List ℕ) → All IsNumber ns → IsPrinted (registers_word ns)
 printed_registers [] h = refl
-printed_registers (n ∷ ns) h = printed_join (argument_word n) (each_behind (codes ",") (map argument_word ns)) (printed_argument n (all_head IsNumber n ns h)) (printed_behind ns (all_tail IsNumber n ns h))
+printed_registers (n ∷ ns) h = printed_join (argument_word n) (each_behind (codes ",") (map argument_word ns)) (printed_argument n (all_head IsNumber n ns h))
+    (printed_behind ns (all_tail IsNumber n ns h))
 
 -- ---- frames
 
@@ -105,7 +111,8 @@ pub frame_read : (word : List ℕ) (ss : List Slot) → ¬ (word ≡ []) → map
 frame_read word [] some e = absurd (some (sym e))
 frame_read word (s ∷ ss) some e = e
 
-pub frame_none : (word : List ℕ) → ¬ (word ≡ codes "-") → ¬ (word ≡ codes ".") → ((ss : List Slot) → Unit {0} → ¬ (map slot_letter ss ≡ word)) → (f : Option (List Slot)) → Unit {0} → ¬ (frame_word f ≡ word)
+pub frame_none : (word : List ℕ) → ¬ (word ≡ codes "-") → ¬ (word ≡ codes ".") → ((ss : List Slot) → Unit {0} → ¬ (map slot_letter ss ≡ word))
+    → (f : Option (List Slot)) → Unit {0} → ¬ (frame_word f ≡ word)
 frame_none word dash dot none None h e = dash (sym e)
 frame_none word dash dot none (Some []) h e = dot (sym e)
 frame_none word dash dot none (Some (s ∷ ss)) h e = none (s ∷ ss) tt e
@@ -131,6 +138,7 @@ one_state s t f g a b c =
 pub printed_state : (s : State) → IsSmallState s → ArePrinted (state_words s)
 printed_state s h = (printed_registers s.regs h.0, (printed_frame s.frame, (printed_number s.owed h.1, tt)))
 
-pub registers_reads : {V : Type 0} (word : List ℕ) → ¬ (word ≡ codes "-") → (told : V → List ℕ) (r : Option V) → ReadsAs told (All IsNumber) (map argument_word) (split 44 word) r → ReadsAs told (All IsNumber) registers_word word r
+pub registers_reads : {V : Type 0} (word : List ℕ) → ¬ (word ≡ codes "-") → (told : V → List ℕ) (r : Option V)
+    → ReadsAs told (All IsNumber) (map argument_word) (split 44 word) r → ReadsAs told (All IsNumber) registers_word word r
 registers_reads word other told None h = registers_none word other h
 registers_reads word other told (Some v) h = (h.0, registers_read word (told v) (λ e. some_word 44 word (sym h.1 ∙ ap (map argument_word) e)) h.1)

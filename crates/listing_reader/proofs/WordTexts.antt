@@ -1,5 +1,6 @@
 -- Words of one text are the same, and no word has a space.
-use Rattle.std.proofs.Common.{◌≡◌, ℕ, zero, suc, ◌+◌, ◌<◌, ◌^◌, ℤ, pos, negsuc, Bool, true, false, nat_lt, nat_eq, List, [], ◌∷◌, ◌++◌, map, Option, Some, None, refl, sym, ap, ◌∙◌, subst, arith, codes, decimal, FitsSigned, w64, append_assoc}
+use Rattle.std.proofs.Common.{◌≡◌, ℕ, zero, suc, ◌+◌, ◌<◌, ◌^◌, ℤ, pos, negsuc, Bool, true, false, nat_lt, nat_eq, List, [], ◌∷◌, ◌++◌, map, Option, Some, None}
+use Rattle.std.proofs.Common.{refl, sym, ap, ◌∙◌, subst, arith, codes, decimal, FitsSigned, w64, append_assoc}
 use Rattle.std.specs.Fmt.{signed_decimal}
 use Rattle.std.specs.Int.Signed.{mag}
 use Rattle.std.specs.List.{list_all}
@@ -9,7 +10,7 @@ use Rattle.term_pool.specs.declared.AtomId.{AtomId}
 use Rattle.wam_code.specs.declared.instruction.Register.{Register}
 use Rattle.wam_code.specs.declared.instruction.Register.TheVariants.{X, Y}
 use Rattle.code_listing.specs.Texts.{register_word, argument_word, slot_word, atom_number}
-use Rattle.listing_reader.specs.Fits.{IsNumber, IsArity, IsInteger, IsSmall}
+use Rattle.listing_reader.specs.NumberBounds.{IsNumber, IsArity, IsInteger, IsSmall}
 use Rattle.listing_reader.specs.Operands.{IsSmallAtom}
 use Rattle.listing_reader.proofs.Digits.{and_true, join_all, decimal_all, signed_all, is_printed, digit_over}
 

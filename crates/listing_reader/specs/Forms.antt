@@ -16,8 +16,8 @@ use Rattle.listing_reader.specs.declared.forms.Counted.{Counted}
 use Rattle.listing_reader.specs.declared.forms.Counted.TheVariants as counted
 use Rattle.listing_reader.specs.declared.forms.Slotted.{Slotted}
 use Rattle.listing_reader.specs.declared.forms.Slotted.TheVariants as slotted
-use Rattle.listing_reader.specs.declared.forms.Form.{Form}
-use Rattle.listing_reader.specs.declared.forms.Form.TheVariants as form
+use Rattle.listing_reader.specs.declared.forms.Operation.{Operation}
+use Rattle.listing_reader.specs.declared.forms.Operation.TheVariants as form
 use Rattle.term_pool.specs.declared.AtomId.{AtomId}
 use Rattle.wam_code.specs.declared.instruction.Register.{Register}
 use Rattle.wam_code.specs.declared.instruction.Code.{Code}
@@ -26,11 +26,11 @@ use Rattle.wam_code.specs.declared.instruction.Code.TheVariants.{SwitchOnConstan
 use Rattle.wam_code.specs.Area.{Table}
 use Rattle.code_listing.specs.Texts.{instruction_words}
 use Rattle.code_listing.specs.Sheets.{fits_switch}
-use Rattle.listing_reader.specs.Fits.{IsNumber, IsSmallKey, IsSmallCode}
+use Rattle.listing_reader.specs.NumberBounds.{IsNumber, IsSmallKey, IsSmallCode}
 use Rattle.listing_reader.specs.Reading.{ReadsAs}
 
 -- the name of an instruction
-abbrev pub form_name : Form → List ℕ
+abbrev pub form_name : Operation → List ℕ
 form_name (form.Two (two.Variable side.Get)) = codes "GetVariable"
 form_name (form.Two (two.Value side.Get)) = codes "GetValue"
 form_name (form.Two (two.Constant side.Get)) = codes "GetConstant"
@@ -75,7 +75,7 @@ form_name (form.One (one.Slotted slotted.TestOnly)) = codes "TestOnly"
 form_name (form.One (one.Slotted slotted.CutTo)) = codes "CutTo"
 form_name (form.Three three.EnterTest) = codes "EnterTest"
 
-abbrev pub IsAnyForm : Form → Type 0
+abbrev pub IsAnyForm : Operation → Type 0
 IsAnyForm f = Unit {0}
 
 abbrev pub counted_code : Counted → ℕ → Code
@@ -148,6 +148,6 @@ switch_code kind.Integers = SwitchOnInteger 0
 switch_code kind.Structures = SwitchOnStructure 0
 
 -- The result is the instruction of this form with these operands, where the form has no rows.
-abbrev pub ReadsPlain : Form → List (List ℕ) → Option Code → Type 0
+abbrev pub ReadsPlain : Operation → List (List ℕ) → Option Code → Type 0
 ReadsPlain (form.Switch k) ws r = Unit {0}
 ReadsPlain f ws r = ReadsAs without_rows FitsInstruction instruction_text (form_name f ∷ ws) r

@@ -5,7 +5,9 @@ use Rattle.fd_model.specs.declared.kinds.Relation.TheVariants.{Equal, Differ, Le
 use Rattle.fd_model.specs.declared.kinds.ConstraintKind.{ConstraintKind}
 use Rattle.fd_model.specs.declared.kinds.ConstraintKind.TheVariants.{Compare, AllDifferent, Element, Atmost, And, Or, Not, Reified}
 use Rattle.fd_model.specs.declared.kinds.BuiltinKind.{BuiltinKind}
-use Rattle.fd_model.specs.declared.kinds.BuiltinKind.TheVariants.{True, Fail, False, Unify, Same, NotSame, Is, NumEqual, NumDiffer, NumLess, NumAtMost, NumGreater, NumAtLeast, Var, Nonvar, Integer, Atom, Atomic, Compound, Write, Nl, FdMin, FdMax, FdSize, FdDom}
+use Rattle.fd_model.specs.declared.kinds.BuiltinKind.TheVariants.{True, Fail, False, Unify, Same, NotSame, Is, NumEqual, NumDiffer, NumLess, NumAtMost}
+use Rattle.fd_model.specs.declared.kinds.BuiltinKind.TheVariants.{NumGreater, NumAtLeast, Var, Nonvar, Integer, Atom, Atomic, Compound, Write, Nl, FdMin, FdMax}
+use Rattle.fd_model.specs.declared.kinds.BuiltinKind.TheVariants.{FdSize, FdDom}
 
 abbrev pub constraint_spelled : ConstraintKind → List ℕ
 constraint_spelled (Compare Equal) = codes "'#='/2"

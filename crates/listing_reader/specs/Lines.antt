@@ -2,7 +2,7 @@
 use Rattle.std.specs.Prelude.{◌≡◌, ℕ, zero, suc, ◌+◌, ◌<◌, List, [], ◌∷◌, ◌++◌, map, length, All, decimal}
 use Rattle.code_listing.specs.Words.{words}
 use Rattle.code_listing.specs.Listing.{counted}
-use Rattle.listing_reader.specs.Fits.{IsNumber}
+use Rattle.listing_reader.specs.NumberBounds.{IsNumber}
 use Rattle.listing_reader.specs.declared.fault.SheetFault.{SheetFault}
 use Rattle.listing_reader.specs.declared.fault.SheetFault.TheVariants.{BadLine, NoMemory}
 
@@ -71,7 +71,8 @@ pub record Follows {A : Type 0} (name : List ℕ) (Fits : A → Type 0) (text : 
   pub are : lines ≡ counted name (map text xs) ++ behind
   pub then : Then behind
 
--- Of a text with these lines, and this behind its last newline: the first k lines are those of something of the form, nothing of the form has the first k + 1, and the text is nothing of the form.
+-- Of a text with these lines, and this behind its last newline: the first k lines are those of something of the form, nothing of the form has the first k + 1,
+-- and the text is nothing of the form.
 pub record LeavesAt (Is : List (List ℕ) → Type 0) (lines : List (List ℕ)) (rest : List ℕ) (k : ℕ) : Type 0 where
   pub before : (b : List (List ℕ)) × (Is b × BeginAlike k b lines)
   pub bad : (b : List (List ℕ)) → Is b → ¬ BeginAlike (suc k) b lines

@@ -10,7 +10,7 @@ use Rattle.wam_code.specs.VerifiedCode.{is_atom, is_int, is_struct}
 use Rattle.code_listing.specs.Texts.{atom_number, frame_word, registers_word, row_word, place_text}
 use Rattle.listing_reader.specs.declared.forms.Kind.{Kind}
 use Rattle.listing_reader.specs.declared.forms.Kind.TheVariants.{Atoms, Integers, Structures}
-use Rattle.listing_reader.specs.Fits.{IsNumber, IsSmallKey, IsSmallState}
+use Rattle.listing_reader.specs.NumberBounds.{IsNumber, IsSmallKey, IsSmallState}
 use Rattle.listing_reader.specs.Forms.{FitsInstruction, IsSmallTable, instruction_text}
 
 -- the key is of the switch's kind

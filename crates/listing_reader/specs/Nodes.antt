@@ -3,7 +3,7 @@ use Rattle.std.specs.Prelude.{◌≡◌, ℕ, List, [], ◌∷◌, ◌++◌, cod
 use Rattle.std.specs.Fmt.{signed_decimal}
 use Rattle.fd_language.specs.declared.range_node.RangeNode.{RangeNode}
 use Rattle.fd_language.specs.declared.range_node.RangeNode.TheVariants as node
-use Rattle.listing_reader.specs.Fits.{HasSize}
+use Rattle.listing_reader.specs.NumberBounds.{HasSize}
 use Rattle.listing_reader.specs.declared.read_nodes.LoneNode.{LoneNode}
 use Rattle.listing_reader.specs.declared.read_nodes.LoneNode.TheVariants as lone
 use Rattle.listing_reader.specs.declared.read_nodes.SlotNode.{SlotNode}

@@ -4,7 +4,7 @@ use Rattle.code_listing.specs.States.{state_of, states_of}
 use Rattle.listing_reader.specs.declared.places.Parts.{Parts}
 use Rattle.listing_reader.specs.declared.places.Place.{Place}
 use Rattle.listing_reader.specs.Lists.{Placed}
-use Rattle.listing_reader.specs.Numbering.{codes_of, states_in, tables_of}
+use Rattle.listing_reader.specs.TableNumbers.{codes_of, states_in, tables_of}
 
 abbrev pub place_in : Place → Placed
 place_in p = (state_of p.state, (p.code, p.rows.items))

@@ -1,13 +1,13 @@
 -- The sections of a listing.
 use Rattle.std.specs.Prelude.{◌≡◌, ℕ, List, [], ◌∷◌, ◌++◌, codes, map, length, All, IsUtf8}
 use Rattle.fd_language.specs.Term.{Name}
-use Rattle.fd_language.specs.Writing.{Quoted, atom_text}
+use Rattle.fd_language.specs.TermTexts.{Quoted, atom_text}
 use Rattle.fd_language.specs.declared.range_node.RangeNode.{RangeNode}
 use Rattle.wam_code.specs.declared.parts.Entry.{Entry}
 use Rattle.wam_code.specs.Area.{Span}
 use Rattle.code_listing.specs.Listing.{counted}
 use Rattle.code_listing.specs.Texts.{entry_text, nodes_text, span_text}
-use Rattle.listing_reader.specs.Fits.{HasSize, IsNumber, IsSmallEntry, IsSmallSpan}
+use Rattle.listing_reader.specs.NumberBounds.{HasSize, IsNumber, IsSmallEntry, IsSmallSpan}
 use Rattle.listing_reader.specs.Lines.{Follows, Headed, Joined, Section}
 use Rattle.listing_reader.specs.Lists.{FitsPlace, Placed, placed_text}
 

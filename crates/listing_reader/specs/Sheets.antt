@@ -7,4 +7,12 @@ use Rattle.listing_reader.specs.declared.sheet.Sheet.{Sheet}
 
 -- what a sheet tells
 abbrev pub sheet_in : Sheet → listing.Sheet
-sheet_in s = record { atoms = map string_bytes s.atoms.items; ranges = map (λ r. r.items) s.ranges.items; entries = s.entries.items; queries = map span_of s.queries.items; tables = map (λ t. t.items) s.tables.items; states = states_of s.states.items; code = s.code.items }
+sheet_in s = record {
+  atoms = map string_bytes s.atoms.items;
+  ranges = map (λ r. r.items) s.ranges.items;
+  entries = s.entries.items;
+  queries = map span_of s.queries.items;
+  tables = map (λ t. t.items) s.tables.items;
+  states = states_of s.states.items;
+  code = s.code.items;
+}

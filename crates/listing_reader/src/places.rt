@@ -1,7 +1,7 @@
 //! Places with their states, and the tables that their switches name.
 
 ghost use Rattle.std.specs.Prelude.{◌≡◌, [], ◌++◌, IfOk, OnOk, length, map};
-ghost use Rattle.listing_reader.specs.Numbering.{numbered, tables_with};
+ghost use Rattle.listing_reader.specs.TableNumbers.{numbered, tables_with};
 ghost use Rattle.listing_reader.specs.Places.{AreParts, place_in};
 
 use code_listing::PlaceState;

@@ -7,8 +7,8 @@ ghost use Rattle.listing_reader.specs.Lines.{IsLeft};
 ghost use Rattle.listing_reader.specs.Places.{place_in};
 ghost use Rattle.listing_reader.specs.Sections.{FromAtoms, FromEntries, FromQueries, FromRanges, IsListing, IsPlaces, TellsAtoms, TellsEntries, TellsPlaces, TellsQueries, TellsRanges, first_line};
 ghost use Rattle.listing_reader.specs.Sheets.{sheet_in};
-ghost use Rattle.listing_reader.specs.Told.{TellsAll, TellsBehind, TellsListing, sheet_of_all};
-ghost use Rattle.listing_reader.specs.Telling.{IsSheetFault, OneSheet, Tells};
+ghost use Rattle.listing_reader.specs.LineContents.{TellsAll, TellsBehind, TellsListing, sheet_of_all};
+ghost use Rattle.listing_reader.specs.SheetTexts.{IsSheetFault, OneSheet, Tells};
 
 use crate::fault::SheetFault;
 use crate::places::{Place, apart};

@@ -1,18 +1,18 @@
 //! What lines tell.
 
 ghost use Rattle.std.specs.Prelude.{◌≡◌, ◌∷◌, All, IfOk, IsUtf8, map, MatchOption, string_bytes};
-ghost use Rattle.fd_language.specs.Writing.{Quoted, atom_text};
+ghost use Rattle.fd_language.specs.TermTexts.{Quoted, atom_text};
 ghost use Rattle.wam_code.specs.Area.{span_of};
 ghost use Rattle.code_listing.specs.Texts.{entry_text, nodes_text, span_text};
 ghost use Rattle.listing_reader.specs.Atoms.{written_name};
-ghost use Rattle.listing_reader.specs.declared.forms.Form.TheVariants as form;
-ghost use Rattle.listing_reader.specs.Fits.{HasSize, IsSmallEntry, IsSmallSpan};
+ghost use Rattle.listing_reader.specs.declared.forms.Operation.TheVariants as form;
+ghost use Rattle.listing_reader.specs.NumberBounds.{HasSize, IsSmallEntry, IsSmallSpan};
 ghost use Rattle.listing_reader.specs.Forms.{FitsInstruction, ReadsPlain, form_name, instruction_text, switch_code};
 ghost use Rattle.listing_reader.specs.Lists.{FitsPlace, entry_words, place_words, placed_text, span_words};
 ghost use Rattle.listing_reader.specs.Places.{place_in};
 ghost use Rattle.listing_reader.specs.Reading.{Reads, ReadsAs};
 
-use crate::forms::{Form, Kind, read_form};
+use crate::forms::{Kind, Operation, read_form};
 use crate::places::Place;
 use crate::read_nodes::read_nodes;
 use crate::read_operands::{
@@ -134,15 +134,17 @@ fn switch_code(kind: Kind) -> Code
 }
 
 /// The instruction of this form that has no rows.
-fn read_plain(form: Form, operands: &[&[u8]]) -> Option<Code>
+fn read_plain(form: Operation, operands: &[&[u8]]) -> Option<Code>
     ensures { ReadsPlain form (map (λ w. w.now) operands.now) result }
 {
     match (form, operands) {
-        (Form::Lone(lone), []) => Some(lone_code(lone)),
-        (Form::One(one), [first]) => read_one(one, first),
-        (Form::Two(two), [first, second]) => read_two(two, first, second),
-        (Form::Three(three), [first, second, third]) => read_three(three, first, second, third),
-        (Form::SwitchOnTerm, [v, c, i, s]) => read_switch_on_term(v, c, i, s),
+        (Operation::Lone(lone), []) => Some(lone_code(lone)),
+        (Operation::One(one), [first]) => read_one(one, first),
+        (Operation::Two(two), [first, second]) => read_two(two, first, second),
+        (Operation::Three(three), [first, second, third]) => read_three(
+            three, first, second, third,
+        ),
+        (Operation::SwitchOnTerm, [v, c, i, s]) => read_switch_on_term(v, c, i, s),
         _ => None,
     }
 }
@@ -166,13 +168,13 @@ fn read_switch(
 /// switch.
 fn read_form_operands(
     alloc: Global,
-    form: Form,
+    form: Operation,
     operands: &[&[u8]],
 ) -> Result<Option<(Code, Vec<(Key, usize)>)>, NoMemory>
     ensures { IfOk result (λ r. ReadsAs (λ x. (x.0, x.1.items)) FitsInstruction instruction_text
         (form_name form ∷ map (λ w. w.now) operands.now) r) }
 {
-    if let Form::Switch(kind) = form {
+    if let Operation::Switch(kind) = form {
         let read = read_switch(alloc, kind, operands)?;
         return Ok(read);
     }

@@ -1,7 +1,7 @@
 //! The nodes of ranges.
 
 ghost use Rattle.std.specs.Prelude.{◌≡◌, ◌<◌, ◌≤◌, All, drop, length, map, IfOk, MatchOption};
-ghost use Rattle.listing_reader.specs.Fits.{HasSize};
+ghost use Rattle.listing_reader.specs.NumberBounds.{HasSize};
 ghost use Rattle.listing_reader.specs.Nodes.{HasNoNode, HasNode, IsAnyForm, lone_node, node_name, nodes_words, slot_node};
 ghost use Rattle.listing_reader.specs.Reading.{Reads, ReadsAs};
 

@@ -3,8 +3,8 @@
 ghost use Rattle.std.specs.Prelude.{◌≡◌, [], ◌∷◌};
 ghost use Rattle.listing_reader.specs.Forms.{FitsInstruction, form_name, instruction_text, structure_code, constant_code, integer_code, value_code, variable_code, without_rows};
 ghost use Rattle.listing_reader.specs.Reading.{Reads, ReadsAs};
-ghost use Rattle.listing_reader.specs.Fits.{IsNumber};
-ghost use Rattle.listing_reader.specs.declared.forms.Form.TheVariants as form;
+ghost use Rattle.listing_reader.specs.NumberBounds.{IsNumber};
+ghost use Rattle.listing_reader.specs.declared.forms.Operation.TheVariants as form;
 ghost use Rattle.code_listing.specs.Texts.{atom_number};
 ghost use Rattle.listing_reader.specs.Operands.{IsSmallAtom};
 

@@ -3,7 +3,7 @@
 ghost use Rattle.std.specs.Prelude.{◌≡◌, ◌∷◌, [], All, IfOk, map, option_map};
 ghost use Rattle.code_listing.specs.Texts.{argument_word, frame_word, registers_word, slot_letter};
 ghost use Rattle.code_listing.specs.States.{slot_of, state_of};
-ghost use Rattle.listing_reader.specs.Fits.{IsNumber, IsSmallState};
+ghost use Rattle.listing_reader.specs.NumberBounds.{IsNumber, IsSmallState};
 ghost use Rattle.listing_reader.specs.Frames.{IsFrame, IsSlot, IsSlots, letters};
 ghost use Rattle.listing_reader.specs.Lists.{state_words};
 ghost use Rattle.listing_reader.specs.Reading.{Reads, ReadsAs};

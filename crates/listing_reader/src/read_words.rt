@@ -2,7 +2,7 @@
 
 ghost use Rattle.std.specs.Prelude.{◌≡◌, decimal};
 ghost use Rattle.std.specs.Fmt.{signed_decimal};
-ghost use Rattle.listing_reader.specs.Fits.{IsArity, IsInteger, IsNumber, IsSmall};
+ghost use Rattle.listing_reader.specs.NumberBounds.{IsArity, IsInteger, IsNumber, IsSmall};
 ghost use Rattle.listing_reader.specs.Reading.{Reads};
 ghost use Rattle.code_listing.specs.Texts.{argument_word, register_word, slot_word};
 

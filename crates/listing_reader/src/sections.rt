@@ -1,10 +1,10 @@
 //! The sections of a listing, line by line.
 
 ghost use Rattle.std.specs.Prelude.{◌≡◌, ◌∷◌, ◌+◌, ◌<◌, ◌^◌, ℕ, List, All, codes, false, IfErr, IfOk, IsUtf8, length, map, MatchOption, string_bytes};
-ghost use Rattle.fd_language.specs.Writing.{Quoted, atom_text};
+ghost use Rattle.fd_language.specs.TermTexts.{Quoted, atom_text};
 ghost use Rattle.wam_code.specs.Area.{span_of};
 ghost use Rattle.code_listing.specs.Texts.{entry_text, nodes_text, span_text};
-ghost use Rattle.listing_reader.specs.Fits.{HasSize, IsNumber, IsSmallEntry, IsSmallSpan};
+ghost use Rattle.listing_reader.specs.NumberBounds.{HasSize, IsNumber, IsSmallEntry, IsSmallSpan};
 ghost use Rattle.listing_reader.specs.Lines.{HasHeader, HasNoHeader, HasSection, IsStop, header};
 ghost use Rattle.listing_reader.specs.Lists.{FitsPlace, placed_text};
 ghost use Rattle.listing_reader.specs.Places.{place_in};

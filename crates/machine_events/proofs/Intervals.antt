@@ -7,7 +7,8 @@ use Rattle.fd_model.specs.Lines.{Interval, intervals, with_first}
 use Rattle.domain_ranges.specs.Spans.{Span, IsSpans, members}
 
 -- The intervals of a set: a run of numbers with a gap behind it is one of them.
-alone_case : (x y : ℕ) (i : Interval) (is : List Interval) → x + 2 ≤ y → (all : List Interval) (t : Bool) → (i.low == suc y) ≡ t → all ≡ with_first y (i ∷ is) → with_first x all ≡ record { low = x; high = x } ∷ all
+alone_case : (x y : ℕ) (i : Interval) (is : List Interval) → x + 2 ≤ y → (all : List Interval) (t : Bool) → (i.low == suc y) ≡ t → all ≡ with_first y (i ∷ is)
+    → with_first x all ≡ record { low = x; high = x } ∷ all
 alone_case x y i is l all true t e = rw e (rw (t, ne_eqb y (suc x) (λ f. omega arith)) refl)
 alone_case x y i is l all false t e = rw e (rw (t, ne_eqb y (suc x) (λ f. omega arith)) refl)
 

@@ -2,7 +2,7 @@
 use Rattle.std.specs.Prelude.{◌≡◌, ℕ, ◌<◌, ◌==◌, if◌then◌else◌, List, [], ◌∷◌, length, map, All, Option, Some, None}
 use Rattle.fd_language.specs.Term.{Name, Term, Terms, Atom, no_terms, term}
 use Rattle.fd_language.specs.Variables.{variables_of_all, distinct}
-use Rattle.fd_language.specs.Writing.{Plain, term_text}
+use Rattle.fd_language.specs.TermTexts.{Plain, term_text}
 use Rattle.fd_model.specs.Goal as model
 use Rattle.fd_model.specs.Goal.{Event}
 use Rattle.fd_model.specs.Lines.{as_terms, line_of, open_part, place_in}

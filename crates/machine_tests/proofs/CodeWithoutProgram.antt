@@ -1,12 +1,14 @@
 -- Code that is verified and stands for no program: a query that switches on a register into which it has just put an integer.
-use Rattle.std.proofs.Common.{◌≡◌, ℕ, zero, suc, pos, ◌<◌, Bool, true, false, ◌==◌, ◌||◌, IsTrue, List, [], ◌∷◌, Option, Some, None, slice_get, All, refl, sym, ◌∙◌, subst, inl, inr, arith}
+use Rattle.std.proofs.Common.{◌≡◌, ℕ, zero, suc, pos, ◌<◌, Bool, true, false, ◌==◌, ◌||◌, IsTrue, List, [], ◌∷◌, Option, Some, None, slice_get, All, refl, sym}
+use Rattle.std.proofs.Common.{◌∙◌, subst, inl, inr, arith}
 use Rattle.std.proofs.lemmas.Bool.{true≢false}
 use Rattle.std.proofs.lemmas.Bool.Decides.{nat_tests}
 use Rattle.fd_language.specs.Family.{has}
 use Rattle.term_pool.specs.Contents.{Contents}
 use Rattle.wam_code.specs.declared.instruction.Code.TheVariants.{PutInteger, Allocate, Execute, Proceed, AnswerNow, TryMeElse, RetryMeElse, SwitchOnTerm}
 use Rattle.wam_code.specs.Area.{Slot, State, Span, Area, Holds, HasState, HasQuery}
-use Rattle.wam_code.specs.VerifiedCode.{named, goes_on, Names, Falls, Covers, Leads, BeginsWith, IsQuery, is_other, is_before, is_behind, NamesOther, HoldsOne, AreChoices, IsAtom, IsThere, IsVerifiedBy, IsVerified}
+use Rattle.wam_code.specs.VerifiedCode.{named, goes_on, Names, Falls, Covers, Leads, BeginsWith, IsQuery, is_other, is_before, is_behind, NamesOther, HoldsOne}
+use Rattle.wam_code.specs.VerifiedCode.{AreChoices, IsAtom, IsThere, IsVerifiedBy, IsVerified}
 use Rattle.wam_code.proofs.Lemmas.{covers_self}
 
 abbrev at_state : List ℕ → Option (List Slot) → State
@@ -111,10 +113,20 @@ module _ (c : Contents) where
   leads_all = (
     on_one (Leads a its_states 0 (Allocate 0)) (at_state [] None) (at_state [] (Some []), refl, (λ to h. none_named to h), λ g. (at_state [] (Some []), refl, covers_self _)),
     (
-      on_one (Leads a its_states 1 (PutInteger (pos 1) 1)) (at_state [] (Some [])) (at_state (1 ∷ []) (Some []), refl, (λ to h. none_named to h), λ g. (at_state (1 ∷ []) (Some []), refl, covers_self _)),
+      on_one (Leads a its_states 1 (PutInteger (pos 1) 1)) (at_state [] (Some [])) (
+        at_state (1 ∷ []) (Some []),
+        refl,
+        (λ to h. none_named to h),
+        λ g. (at_state (1 ∷ []) (Some []), refl, covers_self _),
+      ),
       (
-        on_one (Leads a its_states 2 (SwitchOnTerm 3 3 3 3)) (at_state (1 ∷ []) (Some []))
-            (at_state (1 ∷ []) (Some []), refl, (λ to h. subst (λ n. (t : State) × HasState its_states n t × Covers (at_state (1 ∷ []) (Some [])) t) (sym (threes to h)) (at_state (1 ∷ []) (Some []), refl, covers_self _)), λ g. no_bool g),
+        on_one (Leads a its_states 2 (SwitchOnTerm 3 3 3 3)) (at_state (1 ∷ []) (Some [])) (
+          at_state (1 ∷ []) (Some []),
+          refl,
+          (λ to h. subst (λ n. (t : State) × HasState its_states n t × Covers (at_state (1 ∷ []) (Some [])) t)
+              (sym (threes to h)) (at_state (1 ∷ []) (Some []), refl, covers_self _)),
+          λ g. no_bool g,
+        ),
         (on_one (Leads a its_states 3 AnswerNow) (at_state (1 ∷ []) (Some [])) (at_state (1 ∷ []) (Some []), refl, (λ to h. none_named to h), λ g. no_bool g), tt),
       ),
     ),
@@ -131,7 +143,11 @@ module _ (c : Contents) where
     ahead = λ at to h. let w = names_only at to h in (omega (arith, w.0, w.1), omega (arith, w.1));
     next = λ at to h. let w = falls_only at to h in omega (arith, w.0, w.1);
     entries = λ n e h. absurd (cc);
-    firsts = λ n q h. subst (λ x. BeginsWith its_states x.at 0) (sym (one_query n q h).1) (at_state [] None, refl, record { regs = λ m. ((λ g. none_named m g), λ g. absurd (omega (arith, g.0, g.1))); frame = refl; owed = refl });
+    firsts = λ n q h. subst (λ x. BeginsWith its_states x.at 0) (sym (one_query n q h).1) (
+      at_state [] None,
+      refl,
+      record { regs = λ m. ((λ g. none_named m g), λ g. absurd (omega (arith, g.0, g.1))); frame = refl; owed = refl },
+    );
     queries = λ n q h. subst (IsQuery a its_states) (sym (one_query n q h).1) its_query;
     apart = λ n m at q r h g b d. (one_query n q h).0 ∙ sym (one_query m r g).0;
     answers = λ at h. (0, whole_span, refl, (let n = answers_last at h in let e : suc at ≡ 4 = omega (arith, n) in e));

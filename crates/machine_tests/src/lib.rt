@@ -2,6 +2,6 @@
 #![tactic(auto)]
 
 #[cfg(test)]
-mod runs;
+mod assertions;
 #[cfg(test)]
-mod same;
+mod runs;

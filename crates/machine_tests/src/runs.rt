@@ -4,7 +4,7 @@ ghost use Rattle.std.specs.Prelude.{◌≤◌};
 ghost use Rattle.fd_language.specs.declared.TheConstants.{INFINITY as TOP};
 ghost use Rattle.fd_model.specs.Run.{IsLimit};
 
-use crate::same::same;
+use crate::assertions::same;
 use clause_check::{Program, check_program};
 use clause_compiler::compile;
 use code_machine::Machine;
@@ -18,7 +18,7 @@ use std::rc::Rc;
 use std::test::Fail;
 use term_pool::Pool;
 use term_reader::read_sentences;
-use wam_code::{Code, CodeArea, CodeParts, Instr, QueryEntry};
+use wam_code::{Code, CodeArea, CodeParts, QueryEntry};
 
 /// The program of a text.
 fn program_of(alloc: Global, text: &str) -> Result<Program, Fail> {
@@ -278,7 +278,7 @@ fn verified_code_of_no_program(rt: HostRuntime) -> Result<(), Fail> {
     let code = unmeant_code(alloc)?;
     assert_eq!(rt; code.queries(), 1);
     assert_eq!(rt; code.pool().atoms(), 3);
-    assert!(rt; code.parts().code.len() > 3 && matches!(code.instr(3), Instr::AnswerNow));
+    assert!(rt; code.parts().code.len() > 3 && matches!(code.code_at(3), Code::AnswerNow));
     let lines = run_code(alloc, code, limits, Fifo::new(alloc), 2, 1)?;
     same(&rt, lines.as_str(), "answer 0; end; end; 0", "the code");
     Ok(())

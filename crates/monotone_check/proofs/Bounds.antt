@@ -40,4 +40,5 @@ capped_product_at C B x y h o = elim (cases_lt x C) [
 ]
 
 pub capped_product : (a b x y p m : ℕ) → p ≡ min (a * b) 340282366920938463463374607431768211455 → m ≡ min p 85070591730234615865843651857942052864 → a ≡ capped x → b ≡ capped y → m ≡ capped (x * y)
-capped_product a b x y p m h g e f = g ∙ (ap (λ n. min n (2 ^ 126)) h ∙ (two (λ k l. min (min (k * l) (2 ^ 128 - 1)) (2 ^ 126)) e f ∙ capped_product_at (2 ^ 126) (2 ^ 128 - 1) x y (omega arith) (omega arith)))
+capped_product a b x y p m h g e f = g ∙ (ap (λ n. min n (2 ^ 126)) h
+    ∙ (two (λ k l. min (min (k * l) (2 ^ 128 - 1)) (2 ^ 126)) e f ∙ capped_product_at (2 ^ 126) (2 ^ 128 - 1) x y (omega arith) (omega arith)))

@@ -19,8 +19,14 @@ both_found xs ys o e = ap (λ p. earlier p (first ys)) e ∙ sym (first-append x
 found_param : (x place : ℕ) (ps ys qs : List ℕ) (o : Option Offence) →
     ((xs zs : List ℕ) → AreSeen xs ys → AreSeen zs ps → o ≡ first (where_first_clash (has xs x) (has zs x) place)) → ((zs : List ℕ) → AreSeen zs ps → AreSeen (x ∷ zs) qs) →
     FindsAt place (node.Param x) ps ys qs ys o
-found_param x place ps ys qs o f g = λ at n ns ks bs e a b.
-    (x ∷ ks, bs, g ks a, b, both_found (where_first_clash (has bs x) (has ks x) (at n)) (clashes at (suc n) (x ∷ ks) bs ns) o (f bs ks b a ∙ ap (λ p. first (where_first_clash (has bs x) (has ks x) p)) (sym e)))
+found_param x place ps ys qs o f g = λ at n ns ks bs e a b. (
+  x ∷ ks,
+  bs,
+  g ks a,
+  b,
+  both_found (where_first_clash (has bs x) (has ks x) (at n)) (clashes at (suc n) (x ∷ ks) bs ns) o
+      (f bs ks b a ∙ ap (λ p. first (where_first_clash (has bs x) (has ks x) p)) (sym e)),
+)
 
 -- the node is a leaf that names y so
 abbrev pub Names : RangeNode → ℕ → Type 0
@@ -38,7 +44,8 @@ found_named m y place ps ys zs o names f g = λ at n ns ks bs e a b. (
       ∙ ap first (names (at n) ks bs (λ qs us. clashes at (suc n) qs us ns)),
 )
 
-pub loop_step : (at : ℕ → ℕ) (i : ℕ) (nodes : List RangeNode) (d : RangeNode) (place : ℕ) (clash found next whole : Option Offence) (old_ps old_ys new_ps new_ys : List ℕ) → i < length nodes → at i ≡ place →
+pub loop_step : (at : ℕ → ℕ) (i : ℕ) (nodes : List RangeNode) (d : RangeNode) (place : ℕ) (clash found next whole : Option Offence)
+    (old_ps old_ys new_ps new_ys : List ℕ) → i < length nodes → at i ≡ place →
     ((ps : List ℕ) × (ys : List ℕ) × AreSeen ps old_ps × AreSeen ys old_ys × (earlier clash (first (clashes at i ps ys (drop i nodes))) ≡ whole)) →
     FindsAt place (get_or nodes i d) old_ps old_ys new_ps new_ys found → next ≡ earlier clash found →
     (ps : List ℕ) × (ys : List ℕ) × AreSeen ps new_ps × AreSeen ys new_ys × (earlier next (first (clashes at (i + 1) ps ys (drop (i + 1) nodes))) ≡ whole)
@@ -73,8 +80,10 @@ Clashing x place other own o = (xs ys : List ℕ) → AreSeen xs other → AreSe
 abbrev pub Seeing : ℕ → List ℕ → List ℕ → Type 0
 Seeing x old new = (ys : List ℕ) → AreSeen ys old → AreSeen (x ∷ ys) new
 
-pub param_ok : {E : Type 0} (r : Result (Option Offence) E) (m : RangeNode) (x place : ℕ) (ps ys qs : List ℕ) → m ≡ node.Param x → IfOk r (Clashing x place ys ps) → OnOk r (Seeing x ps qs) → IfOk r (FindsAt place m ps ys qs ys)
-param_ok r m x place ps ys qs e h g = ok_both r (Clashing x place ys ps) (Seeing x ps qs) (FindsAt place m ps ys qs ys) h g (λ o f s. subst (λ k. FindsAt place k ps ys qs ys o) (sym e) (found_param x place ps ys qs o f s))
+pub param_ok : {E : Type 0} (r : Result (Option Offence) E) (m : RangeNode) (x place : ℕ) (ps ys qs : List ℕ) → m ≡ node.Param x
+    → IfOk r (Clashing x place ys ps) → OnOk r (Seeing x ps qs) → IfOk r (FindsAt place m ps ys qs ys)
+param_ok r m x place ps ys qs e h g = ok_both r (Clashing x place ys ps) (Seeing x ps qs) (FindsAt place m ps ys qs ys) h g
+    (λ o f s. subst (λ k. FindsAt place k ps ys qs ys o) (sym e) (found_param x place ps ys qs o f s))
 
 names : (m : RangeNode) (y : ℕ) → (m ≡ node.Min y) ⊎ ((m ≡ node.Max y) ⊎ ((m ≡ node.Val y) ⊎ (m ≡ node.Dom y))) → Names m y
 names m y (inl e) = subst (λ j. Names j y) (sym e) (λ p ks bs k. refl)
@@ -86,7 +95,8 @@ pub named_ok : {E : Type 0} (r : Result (Option Offence) E) (m : RangeNode) (y p
     → IfOk r (Clashing y place ps ys) → OnOk r (Seeing y ys zs) → IfOk r (FindsAt place m ps ys ps zs)
 named_ok r m y place ps ys zs is h g = ok_both r (Clashing y place ps ys) (Seeing y ys zs) (FindsAt place m ps ys ps zs) h g (λ o f s. found_named m y place ps ys zs o (names m y is) f s)
 
-pub found_none : (m : RangeNode) (place : ℕ) (ps ys : List ℕ) → ((x : ℕ) → m ≡ node.Param x → ⊥) → ((x : ℕ) → m ≡ node.Min x → ⊥) → ((x : ℕ) → m ≡ node.Max x → ⊥) → ((x : ℕ) → m ≡ node.Val x → ⊥) → ((x : ℕ) → m ≡ node.Dom x → ⊥) → FindsAt place m ps ys ps ys None
+pub found_none : (m : RangeNode) (place : ℕ) (ps ys : List ℕ) → ((x : ℕ) → m ≡ node.Param x → ⊥) → ((x : ℕ) → m ≡ node.Min x → ⊥)
+    → ((x : ℕ) → m ≡ node.Max x → ⊥) → ((x : ℕ) → m ≡ node.Val x → ⊥) → ((x : ℕ) → m ≡ node.Dom x → ⊥) → FindsAt place m ps ys ps ys None
 found_none (node.Param x) place ps ys a b c d e = absurd (a x refl)
 found_none (node.Min y) place ps ys a b c d e = absurd (b y refl)
 found_none (node.Max y) place ps ys a b c d e = absurd (c y refl)

@@ -1,9 +1,10 @@
 -- Needs that are put together place by place are those of the definition.
-use Rattle.std.proofs.Common.{◌≡◌, ℕ, Bool, true, false, cond, not, ◌||◌, ◌&&◌, ◌==◌, List, [], ◌∷◌, ◌++◌, map, filter, refl, sym, ◌∙◌, ap, subst, arith, eqb-true, eq-eqb}
+use Rattle.std.proofs.Common.{◌≡◌, ℕ, Bool, true, false, cond, not, ◌||◌, ◌&&◌, ◌==◌, List, [], ◌∷◌, ◌++◌, map, filter, refl, sym, ◌∙◌, ap, subst, arith}
+use Rattle.std.proofs.Common.{eqb-true, eq-eqb}
 use Rattle.std.specs.Prelude.{Result, IfOk}
 use Rattle.std.proofs.lemmas.Result.{IfOk-weaker}
 use Rattle.fd_language.specs.declared.range_node.RangeNode.{RangeNode}
-use Rattle.fd_language.specs.Flat.{nodes_of, spelled_range, spelled_range-nodes}
+use Rattle.fd_language.specs.PostfixRanges.{nodes_of, spelled_range, spelled_range-nodes}
 use Rattle.std.proofs.lemmas.Bool.{cases_Bool, true≢false, or_from}
 use Rattle.std.proofs.Common.{◌⊎◌, inl, inr}
 use Rattle.std.proofs.lemmas.List.{map_push}
@@ -93,7 +94,8 @@ right_false a b h = grind arith
 
 put_new : (x : ℕ) (n : Need) (es : List (ℕ × Need)) → has (keys es) x ≡ false → put es x n ≡ es ++ (x, n) ∷ []
 put_new x n [] h = refl
-put_new x n (e ∷ es) h = ap (λ b. cond b ((e.0, stronger e.1 n) ∷ es) (e ∷ put es x n)) (left_false (e.0 == x) (has (keys es) x) h) ∙ ap (λ l. e ∷ l) (put_new x n es (right_false (e.0 == x) (has (keys es) x) h))
+put_new x n (e ∷ es) h = ap (λ b. cond b ((e.0, stronger e.1 n) ∷ es) (e ∷ put es x n)) (left_false (e.0 == x) (has (keys es) x) h)
+    ∙ ap (λ l. e ∷ l) (put_new x n es (right_false (e.0 == x) (has (keys es) x) h))
 
 has_snoc : (xs : List ℕ) (x z : ℕ) → has (xs ++ x ∷ []) z ≡ (has xs z || (x == z))
 has_snoc [] x z = or-false (x == z)
@@ -110,7 +112,8 @@ put_distinct x n (e ∷ es) d = elim (cases_Bool (e.0 == x)) [
 ] where
   stays : (has (keys es) x ≡ true) ⊎ (has (keys es) x ≡ false) → (e.0 == x) ≡ false → has (keys (put es x n)) e.0 ≡ false
   stays (inl h) i = ap (λ l. has l e.0) (put_keys x n es h) ∙ d.0
-  stays (inr h) i = ap (λ l. has (keys l) e.0) (put_new x n es h) ∙ (ap (λ l. has l e.0) (map_push (λ c. c.0) es (x, n)) ∙ (has_snoc (keys es) x e.0 ∙ or_from (has (keys es) e.0) (x == e.0) d.0 (eq_sym x e.0 ∙ i)))
+  stays (inr h) i = ap (λ l. has (keys l) e.0) (put_new x n es h)
+      ∙ (ap (λ l. has l e.0) (map_push (λ c. c.0) es (x, n)) ∙ (has_snoc (keys es) x e.0 ∙ or_from (has (keys es) e.0) (x == e.0) d.0 (eq_sym x e.0 ∙ i)))
 
 filter_two : (p q r : ℕ → Bool) → ((z : ℕ) → r z ≡ (p z && q z)) → (l : List ℕ) → filter p (filter q l) ≡ filter r l
 filter_two p q r f [] = refl
@@ -125,7 +128,8 @@ filter_two p q r f (z ∷ l) = elim (cases_Bool (q z)) [
 map_same : (f g : ℕ → ℕ × Need) (r : ℕ → Bool) → ((z : ℕ) → r z ≡ true → f z ≡ g z) → (l : List ℕ) → map f (filter r l) ≡ map g (filter r l)
 map_same f g r h [] = refl
 map_same f g r h (z ∷ l) = elim (cases_Bool (r z)) [
-  | inl i ↦ ap (λ b. map f (cond b (z ∷ filter r l) (filter r l))) i ∙ (ap (λ v. v ∷ map f (filter r l)) (h z i) ∙ (ap (λ k. g z ∷ k) (map_same f g r h l) ∙ sym (ap (λ b. map g (cond b (z ∷ filter r l) (filter r l))) i)))
+  | inl i ↦ ap (λ b. map f (cond b (z ∷ filter r l) (filter r l))) i
+      ∙ (ap (λ v. v ∷ map f (filter r l)) (h z i) ∙ (ap (λ k. g z ∷ k) (map_same f g r h l) ∙ sym (ap (λ b. map g (cond b (z ∷ filter r l) (filter r l))) i)))
   | inr i ↦ ap (λ b. map f (cond b (z ∷ filter r l) (filter r l))) i ∙ (map_same f g r h l ∙ sym (ap (λ b. map g (cond b (z ∷ filter r l) (filter r l))) i))
 ]
 
@@ -160,7 +164,9 @@ put_step x n cs es d = elim (cases_Bool (has (keys es) x)) [
       ∙ (regroup (map (with_later cs) es) (with_later cs (x, n)) (map (fresh cs) (filter r l))
       ∙ (ap (λ k. k ++ with_later cs (x, n) ∷ map (fresh cs) (filter r l)) (sym (unaffected x n cs es h))
       ∙ ap (λ k. map (with_later ((x, n) ∷ cs)) es ++ k)
-      (ap (λ k. with_later cs (x, n) ∷ k) (map_same (fresh cs) (fresh ((x, n) ∷ cs)) r (λ z g. fresh_same x n cs z (apart_from (has (keys es) z) (x == z) (sym (ap not (has_snoc (keys es) x z)) ∙ g))) l ∙ ap (map (fresh ((x, n) ∷ cs))) (sym (filter_two p q r split l)))
+      (ap (λ k. with_later cs (x, n) ∷ k) (map_same (fresh cs) (fresh ((x, n) ∷ cs)) r
+      (λ z g. fresh_same x n cs z (apart_from (has (keys es) z) (x == z) (sym (ap not (has_snoc (keys es) x z)) ∙ g))) l
+      ∙ ap (map (fresh ((x, n) ∷ cs))) (sym (filter_two p q r split l)))
       ∙ (ap (λ b. (x, cond b (stronger n (strongest cs x)) (strongest cs x)) ∷ map (fresh ((x, n) ∷ cs)) (filter p (filter q l))) (sym (eq-eqb x x refl))
       ∙ ap (λ b. map (fresh ((x, n) ∷ cs)) (cond (not b) (x ∷ filter p (filter q l)) (filter p (filter q l)))) (sym h)))))))
 ] where
@@ -197,6 +203,7 @@ gathers r = put_all_is (asks r) [] tt ∙ ap (map (fresh (asks r))) (all_absent 
 told_asks : (r q : Range) (ps places : List Asked) (ns : List RangeNode) → ps ≡ places → told 0 places ≡ asks (spelled_range ns) → ns ≡ nodes_of q → q ≡ r → put_all [] (told 0 ps) ≡ needs r
 told_asks r q ps places ns e f g h = ap (λ l. put_all [] (told 0 l)) e ∙ (ap (put_all []) (f ∙ ap asks (ap spelled_range g ∙ (spelled_range-nodes q ∙ h))) ∙ gathers r)
 
-pub needs_ok : {X E : Type 0} (res : Result X E) (items : X → List (ℕ × Need)) (r q : Range) (ps places : List Asked) (ns : List RangeNode) → ps ≡ places → told 0 places ≡ asks (spelled_range ns) → ns ≡ nodes_of q → q ≡ r →
+pub needs_ok : {X E : Type 0} (res : Result X E) (items : X → List (ℕ × Need)) (r q : Range) (ps places : List Asked) (ns : List RangeNode) → ps ≡ places
+    → told 0 places ≡ asks (spelled_range ns) → ns ≡ nodes_of q → q ≡ r →
     IfOk res (λ v. items v ≡ put_all [] (told 0 ps)) → IfOk res (λ v. items v ≡ needs r)
 needs_ok res items r q ps places ns e f g h k = IfOk-weaker res (λ v. items v ≡ put_all [] (told 0 ps)) (λ v. items v ≡ needs r) (λ v i. i ∙ told_asks r q ps places ns e f g h) k

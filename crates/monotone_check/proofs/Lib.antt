@@ -5,7 +5,7 @@ mod Ranges
 mod NodeChecks
 mod NodeWalk
 mod Clashes
-mod Whole
+mod RangeVerdict
 mod PlaceNeeds
 mod NodeNeeds
 mod LastItems

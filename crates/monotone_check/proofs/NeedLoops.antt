@@ -1,5 +1,6 @@
 -- The loops that put needs together.
-use Rattle.std.proofs.Common.{◌≡◌, ℕ, zero, suc, ◌+◌, ◌-◌, ◌<◌, ◌≤◌, Bool, true, false, cond, not, ◌||◌, ◌==◌, nat_eq, List, [], ◌∷◌, ◌++◌, length, map, reverse, take, get_or, refl, sym, ◌∙◌, ap, arith, inl, inr}
+use Rattle.std.proofs.Common.{◌≡◌, ℕ, zero, suc, ◌+◌, ◌-◌, ◌<◌, ◌≤◌, Bool, true, false, cond, not, ◌||◌, ◌==◌, nat_eq, List, [], ◌∷◌, ◌++◌, length, map}
+use Rattle.std.proofs.Common.{reverse, take, get_or, refl, sym, ◌∙◌, ap, arith, inl, inr}
 use Rattle.std.specs.Prelude.{slice_set}
 use Rattle.std.specs.List.{list_any, position_or_len}
 use Rattle.std.proofs.lemmas.Bool.{cases_Bool}
@@ -19,13 +20,16 @@ pub join_found : (es : List (ℕ × Need)) (d : ℕ × Need) (x : ℕ) (n : Need
 join_found [] d x n k l e = absurd (omega arith)
 join_found (c ∷ es) d x n k l e = elim (cases_Bool (x == c.0)) [
   | inl i ↦ here k (e ∙ ap (λ b. cond (not b) (1 + position_or_len (nat_eq x) (keys es)) 0) i) ∙ ap (λ b. cond b ((c.0, stronger c.1 n) ∷ es) (c ∷ put es x n)) (sym (eq_sym c.0 x ∙ i))
-  | inr i ↦ later k l (e ∙ ap (λ b. cond (not b) (1 + position_or_len (nat_eq x) (keys es)) 0) i) (join_found es d x n) ∙ ap (λ b. cond b ((c.0, stronger c.1 n) ∷ es) (c ∷ put es x n)) (sym (eq_sym c.0 x ∙ i))
+  | inr i ↦ later k l (e ∙ ap (λ b. cond (not b) (1 + position_or_len (nat_eq x) (keys es)) 0) i) (join_found es d x n)
+      ∙ ap (λ b. cond b ((c.0, stronger c.1 n) ∷ es) (c ∷ put es x n)) (sym (eq_sym c.0 x ∙ i))
 ] where
   here : (k : ℕ) → k ≡ 0 → slice_set (c ∷ es) k ((get_or (c ∷ es) k d).0, stronger (get_or (c ∷ es) k d).1 n) ≡ (c.0, stronger c.1 n) ∷ es
   here zero h = refl
   here (suc k) h = absurd (omega arith)
 
-  later : (k : ℕ) → k < suc (length es) → k ≡ 1 + position_or_len (nat_eq x) (keys es) → ((m : ℕ) → m < length es → m ≡ position_or_len (nat_eq x) (keys es) → slice_set es m ((get_or es m d).0, stronger (get_or es m d).1 n) ≡ put es x n) → slice_set (c ∷ es) k ((get_or (c ∷ es) k d).0, stronger (get_or (c ∷ es) k d).1 n) ≡ c ∷ put es x n
+  later : (k : ℕ) → k < suc (length es) → k ≡ 1 + position_or_len (nat_eq x) (keys es)
+      → ((m : ℕ) → m < length es → m ≡ position_or_len (nat_eq x) (keys es) → slice_set es m ((get_or es m d).0, stronger (get_or es m d).1 n) ≡ put es x n)
+      → slice_set (c ∷ es) k ((get_or (c ∷ es) k d).0, stronger (get_or (c ∷ es) k d).1 n) ≡ c ∷ put es x n
   later zero l h again = absurd (omega arith)
   later (suc k) l h again = ap (λ m. c ∷ m) (again k (omega arith) (omega arith))
 
@@ -34,7 +38,8 @@ join_new [] x n k l e = refl
 join_new (c ∷ es) x n k l e = elim (cases_Bool (x == c.0)) [
   | inl i ↦ absurd (far (length es) k l (e ∙ ap (λ b. cond (not b) (1 + position_or_len (nat_eq x) (keys es)) 0) i))
   | inr i ↦
-      ap (λ m. c ∷ m) (join_new es x n (position_or_len (nat_eq x) (keys es)) (less (length es) k (position_or_len (nat_eq x) (keys es)) l (e ∙ ap (λ b. cond (not b) (1 + position_or_len (nat_eq x) (keys es)) 0) i)) refl)
+      ap (λ m. c ∷ m) (join_new es x n (position_or_len (nat_eq x) (keys es))
+      (less (length es) k (position_or_len (nat_eq x) (keys es)) l (e ∙ ap (λ b. cond (not b) (1 + position_or_len (nat_eq x) (keys es)) 0) i)) refl)
       ∙ ap (λ b. cond b ((c.0, stronger c.1 n) ∷ es) (c ∷ put es x n)) (sym (eq_sym c.0 x ∙ i))
 ] where
   far : (m k : ℕ) → suc m ≤ k → k ≡ 0 → ⊥
@@ -49,7 +54,8 @@ pub gather_step : (asked : List (ℕ × Need)) (d c : ℕ × Need) (left : ℕ) 
 gather_step asked d c zero ds new whole h l e f g = absurd (omega arith)
 gather_step asked d c (suc k) ds new whole h l e f g =
     let i : suc k - 1 ≡ k = less k in
-    let front : take (suc k) asked ≡ take k asked ++ c ∷ [] = ap (λ n. take n asked) (sym (add-one k)) ∙ (take_more asked k d (below k (length asked) l) ∙ ap (λ w. take k asked ++ w ∷ []) (sym (e ∙ ap (λ n. get_or asked n d) i))) in
+    let front : take (suc k) asked ≡ take k asked ++ c ∷ [] = ap (λ n. take n asked) (sym (add-one k))
+    ∙ (take_more asked k d (below k (length asked) l) ∙ ap (λ w. take k asked ++ w ∷ []) (sym (e ∙ ap (λ n. get_or asked n d) i))) in
     let turn : reverse (take (suc k) asked) ≡ c ∷ reverse (take k asked) = ap reverse front ∙ reverse-append (take k asked) (c ∷ []) in
     ap (λ m. put_all m (reverse (take (suc k - 1) asked))) f ∙ (ap (λ n. put_all (put ds c.0 c.1) (reverse (take n asked))) i ∙ (sym (ap (put_all ds) turn) ∙ g))
   where
@@ -71,7 +77,8 @@ gather_start asked left told ks ds l k d a = (
 pub put_keys : (es : List (ℕ × Need)) (x : ℕ) (n : Need) → keys (put es x n) ≡ cond (list_any (nat_eq x) (keys es)) (keys es) (keys es ++ x ∷ [])
 put_keys [] x n = refl
 put_keys (c ∷ es) x n = elim (cases_Bool (x == c.0)) [
-  | inl i ↦ ap (λ b. keys (cond b ((c.0, stronger c.1 n) ∷ es) (c ∷ put es x n))) (eq_sym c.0 x ∙ i) ∙ ap (λ b. cond (b || list_any (nat_eq x) (keys es)) (c.0 ∷ keys es) (c.0 ∷ (keys es ++ x ∷ []))) (sym i)
+  | inl i ↦ ap (λ b. keys (cond b ((c.0, stronger c.1 n) ∷ es) (c ∷ put es x n))) (eq_sym c.0 x ∙ i)
+      ∙ ap (λ b. cond (b || list_any (nat_eq x) (keys es)) (c.0 ∷ keys es) (c.0 ∷ (keys es ++ x ∷ []))) (sym i)
   | inr i ↦ ap (λ b. keys (cond b ((c.0, stronger c.1 n) ∷ es) (c ∷ put es x n))) (eq_sym c.0 x ∙ i) ∙ (ap (λ l. c.0 ∷ l) (put_keys es x n)
       ∙ (inside (list_any (nat_eq x) (keys es)) (keys es) (keys es ++ x ∷ []) ∙ ap (λ b. cond (b || list_any (nat_eq x) (keys es)) (c.0 ∷ keys es) (c.0 ∷ (keys es ++ x ∷ []))) (sym i)))
 ] where
@@ -79,7 +86,8 @@ put_keys (c ∷ es) x n = elim (cases_Bool (x == c.0)) [
   inside true xs ys = refl
   inside false xs ys = refl
 
-pub join_at : (es : List (ℕ × Need)) (v : ℕ × Need) (x : ℕ) (n m : Need) (k : ℕ) → k < length es → v ≡ get_or es k v → m ≡ stronger v.1 n → k ≡ position_or_len (nat_eq x) (keys es) → slice_set es k (v.0, m) ≡ put es x n
+pub join_at : (es : List (ℕ × Need)) (v : ℕ × Need) (x : ℕ) (n m : Need) (k : ℕ) → k < length es → v ≡ get_or es k v → m ≡ stronger v.1 n
+    → k ≡ position_or_len (nat_eq x) (keys es) → slice_set es k (v.0, m) ≡ put es x n
 join_at es v x n m k l e f g =
     ap (λ r. slice_set es k (v.0, r)) f ∙ (ap (λ w. slice_set es k (w.0, stronger w.1 n)) e ∙ join_found es v x n k l g)
 

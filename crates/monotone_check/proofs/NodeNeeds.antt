@@ -1,5 +1,6 @@
 -- What is asked stays told as nodes are read.
-use Rattle.std.proofs.Common.{◌≡◌, ℕ, ℤ, suc, ◌+◌, ◌<◌, ◌≤◌, Bool, true, false, cond, ◌||◌, ◌&&◌, nat_lt, List, [], ◌∷◌, ◌++◌, length, Option, Some, None, refl, sym, ◌∙◌, ap, subst, arith, ◌⊎◌, inl, inr}
+use Rattle.std.proofs.Common.{◌≡◌, ℕ, ℤ, suc, ◌+◌, ◌<◌, ◌≤◌, Bool, true, false, cond, ◌||◌, ◌&&◌, nat_lt, List, [], ◌∷◌, ◌++◌, length, Option, Some, None, refl}
+use Rattle.std.proofs.Common.{sym, ◌∙◌, ap, subst, arith, ◌⊎◌, inl, inr}
 use Rattle.std.proofs.lemmas.Bool.{true≢false, and_parts}
 use Rattle.fd_language.specs.declared.range_node.Need.{Need}
 use Rattle.fd_language.specs.declared.range_node.Need.TheVariants.{Whole, Natural, Divisor}
@@ -8,13 +9,13 @@ use Rattle.fd_language.specs.declared.range_node.RangeNode.TheVariants as node
 use Rattle.fd_language.specs.Range.{Range, Expr, Number, Infinity, Param, Min, Max, Val, Add, Sub, Mul, DivDown, DivUp}
 use Rattle.fd_language.specs.Needs.{is_literal, quotient_asks, expr_asks, asks}
 use Rattle.fd_language.specs.Check.{is_parameter}
-use Rattle.fd_language.specs.Flat.{term_alone, term_of_terms, put, built, built_behind, spelled_range, IsSpelled}
+use Rattle.fd_language.specs.PostfixRanges.{term_alone, term_of_terms, put, built, built_behind, spelled_range, IsSpelled}
 use Rattle.std.proofs.Common.{get_or, drop}
 use Rattle.std.proofs.lemmas.List.{at_drop_more, drop_all, append-nil, append_assoc}
 use Rattle.std.proofs.lemmas.Option.{same_Some}
 use Rattle.monotone_check.specs.declared.parameter_places.Asked.{Asked}
-use Rattle.monotone_check.specs.declared.asks.OpenTerm.{OpenTerm}
-use Rattle.monotone_check.specs.declared.asks.AskReader.{AskReader}
+use Rattle.monotone_check.specs.declared.parameter_asks.OpenTerm.{OpenTerm}
+use Rattle.monotone_check.specs.declared.parameter_asks.AskReader.{AskReader}
 use Rattle.monotone_check.specs.PlaceNeeds.{joins, AsksOf, raise, raise_all, told, raised, asks_now, Opens, OpensParameter, Operates}
 use Rattle.monotone_check.specs.OpenTerms.{IsAsking, FollowsAsking, TakesAsks, IsAskedSoFar}
 use Rattle.monotone_check.proofs.NodeWalk.{builds_all}
@@ -45,7 +46,8 @@ either_raised false xs ys us e f = f
 stays_raised : (xs us : List (ℕ × Need)) → xs ≡ raise_all us → xs ≡ raise_all xs
 stays_raised xs us e = e ∙ (sym (raise_again us) ∙ ap raise_all (sym e))
 
-raised_quotient : (b : Expr) (plain left right us : List (ℕ × Need)) → plain ≡ raise_all us → left ++ right ≡ raise_all (left ++ right) → quotient_asks b plain left right ≡ raise_all (quotient_asks b us left right)
+raised_quotient : (b : Expr) (plain left right us : List (ℕ × Need)) → plain ≡ raise_all us → left ++ right ≡ raise_all (left ++ right)
+    → quotient_asks b plain left right ≡ raise_all (quotient_asks b us left right)
 raised_quotient (Param x) plain left right us e f = raise_two plain ((x, Divisor) ∷ []) us ((x, Divisor) ∷ []) e refl
 raised_quotient b plain left right us e f = either_raised (is_literal b) plain (left ++ right) us e f
 
@@ -54,13 +56,16 @@ natural_asks (Add a b) = raise_two (expr_asks a true) (expr_asks b true) (expr_a
 natural_asks (Sub a b) = raise_two (expr_asks a true) (expr_asks b true) (expr_asks a false) (expr_asks b false) (natural_asks a) (natural_asks b)
 natural_asks (Mul a b) =
     let both = raise_two (expr_asks a true) (expr_asks b true) (expr_asks a false) (expr_asks b false) (natural_asks a) (natural_asks b) in
-    either_raised (is_literal a || is_literal b) (expr_asks a true ++ expr_asks b true) (expr_asks a true ++ expr_asks b true) (expr_asks a false ++ expr_asks b false) both (stays_raised (expr_asks a true ++ expr_asks b true) (expr_asks a false ++ expr_asks b false) both)
+    either_raised (is_literal a || is_literal b) (expr_asks a true ++ expr_asks b true) (expr_asks a true ++ expr_asks b true)
+    (expr_asks a false ++ expr_asks b false) both (stays_raised (expr_asks a true ++ expr_asks b true) (expr_asks a false ++ expr_asks b false) both)
 natural_asks (DivDown a b) =
     let both = raise_two (expr_asks a true) (expr_asks b true) (expr_asks a false) (expr_asks b false) (natural_asks a) (natural_asks b) in
-    raised_quotient b (expr_asks a true) (expr_asks a true) (expr_asks b true) (expr_asks a false) (natural_asks a) (stays_raised (expr_asks a true ++ expr_asks b true) (expr_asks a false ++ expr_asks b false) both)
+    raised_quotient b (expr_asks a true) (expr_asks a true) (expr_asks b true) (expr_asks a false) (natural_asks a)
+    (stays_raised (expr_asks a true ++ expr_asks b true) (expr_asks a false ++ expr_asks b false) both)
 natural_asks (DivUp a b) =
     let both = raise_two (expr_asks a true) (expr_asks b true) (expr_asks a false) (expr_asks b false) (natural_asks a) (natural_asks b) in
-    raised_quotient b (expr_asks a true) (expr_asks a true) (expr_asks b true) (expr_asks a false) (natural_asks a) (stays_raised (expr_asks a true ++ expr_asks b true) (expr_asks a false ++ expr_asks b false) both)
+    raised_quotient b (expr_asks a true) (expr_asks a true) (expr_asks b true) (expr_asks a false) (natural_asks a)
+    (stays_raised (expr_asks a true ++ expr_asks b true) (expr_asks a false ++ expr_asks b false) both)
 natural_asks e = refl
 
 literal_asks : (e : Expr) → is_literal e ≡ true → expr_asks e false ≡ []
@@ -70,7 +75,8 @@ literal_asks (Add a b) h = ap (λ l. l ++ expr_asks b false) (literal_asks a ((a
 literal_asks (Sub a b) h = ap (λ l. l ++ expr_asks b false) (literal_asks a ((and_parts (is_literal a) (is_literal b) h).0)) ∙ literal_asks b ((and_parts (is_literal a) (is_literal b) h).1)
 literal_asks (Mul a b) h =
     let l = (and_parts (is_literal a) (is_literal b) h).0 in
-    ap (λ c. cond (c || is_literal b) (expr_asks a false ++ expr_asks b false) (expr_asks a true ++ expr_asks b true)) l ∙ (ap (λ k. k ++ expr_asks b false) (literal_asks a l) ∙ literal_asks b ((and_parts (is_literal a) (is_literal b) h).1))
+    ap (λ c. cond (c || is_literal b) (expr_asks a false ++ expr_asks b false) (expr_asks a true ++ expr_asks b true)) l
+    ∙ (ap (λ k. k ++ expr_asks b false) (literal_asks a l) ∙ literal_asks b ((and_parts (is_literal a) (is_literal b) h).1))
 literal_asks e h = absurd (true≢false (sym h))
 
 -- what is raised from a number on
@@ -88,14 +94,16 @@ raised_front i f [] ys h = behind i f ys (from i f h) where
   behind : (i f : ℕ) (ys : List (ℕ × Need)) → f ≤ i → raised f i ys ≡ raise_all ys
   behind i f [] h = refl
   behind i f (y ∷ ys) h = ap (λ b. (y.0, cond b y.1 (raise y.1)) ∷ raised f (suc i) ys) (not_below i f h) ∙ ap (λ l. (y.0, raise y.1) ∷ l) (behind (suc i) f ys (further i f h))
-raised_front i f (x ∷ xs) ys h = ap (λ b. (x.0, cond b x.1 (raise x.1)) ∷ raised f (suc i) (xs ++ ys)) (below i (length xs) f h) ∙ ap (λ l. x ∷ l) (raised_front (suc i) f xs ys (next i (length xs) f h)) where
-  below : (i n f : ℕ) → i + suc n ≡ f → nat_lt i f ≡ true
-  below i n f h = grind arith
+raised_front i f (x ∷ xs) ys h = ap (λ b. (x.0, cond b x.1 (raise x.1)) ∷ raised f (suc i) (xs ++ ys)) (below i (length xs) f h)
+    ∙ ap (λ l. x ∷ l) (raised_front (suc i) f xs ys (next i (length xs) f h)) where
+      below : (i n f : ℕ) → i + suc n ≡ f → nat_lt i f ≡ true
+      below i n f h = grind arith
 
-  next : (i n f : ℕ) → i + suc n ≡ f → suc i + n ≡ f
-  next i n f h = omega arith
+      next : (i n f : ℕ) → i + suc n ≡ f → suc i + n ≡ f
+      next i n f h = omega arith
 
-raised_both : (mid : List (ℕ × Need)) (f : ℕ) (a b : Expr) (now : List (ℕ × Need)) → f ≡ length mid → now ≡ mid ++ (expr_asks a false ++ expr_asks b false) → raised f 0 now ≡ mid ++ (expr_asks a true ++ expr_asks b true)
+raised_both : (mid : List (ℕ × Need)) (f : ℕ) (a b : Expr) (now : List (ℕ × Need)) → f ≡ length mid → now ≡ mid ++ (expr_asks a false ++ expr_asks b false)
+    → raised f 0 now ≡ mid ++ (expr_asks a true ++ expr_asks b true)
 raised_both mid f a b now h e =
     ap (λ l. raised f 0 l) e ∙ (raised_front 0 f mid (expr_asks a false ++ expr_asks b false) (from (length mid) f h)
     ∙ ap (λ l. mid ++ l) (sym (raise_two (expr_asks a true) (expr_asks b true) (expr_asks a false) (expr_asks b false) (natural_asks a) (natural_asks b))))
@@ -108,20 +116,25 @@ product_now : (c : Bool) (mid now new : List (ℕ × Need)) (f : ℕ) (a b : Exp
 product_now true mid now new f a b h e g = g ∙ e
 product_now false mid now new f a b h e g = g ∙ raised_both mid f a b now h e
 
-plain_now : (c : Bool) (mid now new : List (ℕ × Need)) (f : ℕ) (a b : Expr) → f ≡ length mid → now ≡ mid ++ (expr_asks a false ++ expr_asks b false) → (c ≡ true → expr_asks b false ≡ []) → new ≡ cond c now (raised f 0 now) →
+plain_now : (c : Bool) (mid now new : List (ℕ × Need)) (f : ℕ) (a b : Expr) → f ≡ length mid → now ≡ mid ++ (expr_asks a false ++ expr_asks b false)
+    → (c ≡ true → expr_asks b false ≡ []) → new ≡ cond c now (raised f 0 now) →
     new ≡ mid ++ cond c (expr_asks a false) (expr_asks a true ++ expr_asks b true)
 plain_now true mid now new f a b h e k g = g ∙ (e ∙ ap (λ l. mid ++ l) (ap (λ l. expr_asks a false ++ l) (k refl) ∙ append-nil (expr_asks a false)))
 plain_now false mid now new f a b h e k g = g ∙ raised_both mid f a b now h e
 
-quotient_now : (b : Expr) (lit par : Bool) (mid now new : List (ℕ × Need)) (f : ℕ) (a : Expr) → f ≡ length mid → now ≡ mid ++ (expr_asks a false ++ expr_asks b false) → lit ≡ is_literal b → par ≡ is_parameter b →
+quotient_now : (b : Expr) (lit par : Bool) (mid now new : List (ℕ × Need)) (f : ℕ) (a : Expr) → f ≡ length mid
+    → now ≡ mid ++ (expr_asks a false ++ expr_asks b false) → lit ≡ is_literal b → par ≡ is_parameter b →
     (par ≡ true → (front : List (ℕ × Need)) (x : ℕ) (n : Need) → now ≡ front ++ (x, n) ∷ [] → new ≡ front ++ (x, Divisor) ∷ []) → (par ≡ false → new ≡ cond lit now (raised f 0 now)) →
     new ≡ mid ++ quotient_asks b (expr_asks a false) (expr_asks a true) (expr_asks b true)
-quotient_now (Param x) lit par mid now new f a h e l q g k = g q (mid ++ expr_asks a false) x Whole (e ∙ sym (append_assoc mid (expr_asks a false) ((x, Whole) ∷ []))) ∙ append_assoc mid (expr_asks a false) ((x, Divisor) ∷ [])
+quotient_now (Param x) lit par mid now new f a h e l q g k = g q (mid ++ expr_asks a false) x Whole
+    (e ∙ sym (append_assoc mid (expr_asks a false) ((x, Whole) ∷ []))) ∙ append_assoc mid (expr_asks a false) ((x, Divisor) ∷ [])
 quotient_now (Add c d) lit par mid now new f a h e l q g k = plain_now (is_literal (Add c d)) mid now new f a (Add c d) h e (literal_asks (Add c d)) (k q ∙ ap (λ c. cond c now (raised f 0 now)) l)
 quotient_now (Sub c d) lit par mid now new f a h e l q g k = plain_now (is_literal (Sub c d)) mid now new f a (Sub c d) h e (literal_asks (Sub c d)) (k q ∙ ap (λ c. cond c now (raised f 0 now)) l)
 quotient_now (Mul c d) lit par mid now new f a h e l q g k = plain_now (is_literal (Mul c d)) mid now new f a (Mul c d) h e (literal_asks (Mul c d)) (k q ∙ ap (λ c. cond c now (raised f 0 now)) l)
-quotient_now (DivDown c d) lit par mid now new f a h e l q g k = plain_now (is_literal (DivDown c d)) mid now new f a (DivDown c d) h e (literal_asks (DivDown c d)) (k q ∙ ap (λ c. cond c now (raised f 0 now)) l)
-quotient_now (DivUp c d) lit par mid now new f a h e l q g k = plain_now (is_literal (DivUp c d)) mid now new f a (DivUp c d) h e (literal_asks (DivUp c d)) (k q ∙ ap (λ c. cond c now (raised f 0 now)) l)
+quotient_now (DivDown c d) lit par mid now new f a h e l q g k = plain_now (is_literal (DivDown c d)) mid now new f a (DivDown c d) h e
+    (literal_asks (DivDown c d)) (k q ∙ ap (λ c. cond c now (raised f 0 now)) l)
+quotient_now (DivUp c d) lit par mid now new f a h e l q g k = plain_now (is_literal (DivUp c d)) mid now new f a (DivUp c d) h e (literal_asks (DivUp c d))
+    (k q ∙ ap (λ c. cond c now (raised f 0 now)) l)
 quotient_now b lit par mid now new f a h e l q g k = plain_now (is_literal b) mid now new f a b h e (literal_asks b) (k q ∙ ap (λ c. cond c now (raised f 0 now)) l)
 
 follows : (ns : List RangeNode) (rs : List Range) (ts : List Expr) (o : Option Range) (q : AskReader) → o ≡ built ns rs ts → IsAsking rs ts q → FollowsAsking ns o q
@@ -135,9 +148,19 @@ either_same : (s t a b : Bool) (xs ys : List (ℕ × Need)) → s ≡ a → t �
 either_same s t a b xs ys e f = cc
 
 module _ (ns : List RangeNode) (old new : AskReader) where
-  opened : (rs : List Range) (ts : List Expr) (e : Expr) (literal : Bool) → expr_asks e false ≡ [] → literal ≡ is_literal e → false ≡ is_parameter e → IsAsking rs ts old → Opens literal old new → IsAsking rs (e ∷ ts) new
-  opened rs ts e literal none l q i (s, terms, lit, par, from, now) =
-      (old.terms.items, s, asks_now old, terms, now ∙ (sym (append-nil (asks_now old)) ∙ ap (λ k. asks_now old ++ k) (sym none)), from ∙ sym (length-told 0 old.asking.places.items), lit ∙ l, par ∙ q, i)
+  opened : (rs : List Range) (ts : List Expr) (e : Expr) (literal : Bool) → expr_asks e false ≡ [] → literal ≡ is_literal e → false ≡ is_parameter e
+      → IsAsking rs ts old → Opens literal old new → IsAsking rs (e ∷ ts) new
+  opened rs ts e literal none l q i (s, terms, lit, par, from, now) = (
+    old.terms.items,
+    s,
+    asks_now old,
+    terms,
+    now ∙ (sym (append-nil (asks_now old)) ∙ ap (λ k. asks_now old ++ k) (sym none)),
+    from ∙ sym (length-told 0 old.asking.places.items),
+    lit ∙ l,
+    par ∙ q,
+    i,
+  )
 
   ask_leaf : (e : Expr) (literal : Bool) → expr_asks e false ≡ [] → literal ≡ is_literal e → false ≡ is_parameter e → (rs : List Range) (ts : List Expr) → IsAsking rs ts old → Opens literal old new
       → FollowsAsking ns (built_behind ns (put (term_alone e) rs ts)) new
@@ -149,7 +172,8 @@ module _ (ns : List RangeNode) (old new : AskReader) where
 
   -- An operator of two terms: what it asks comes from what its operands ask, and it is a literal where its node joins literals.
   ask_operator : (m : RangeNode) (make : Expr → Expr → Expr)
-      → ((a b : Expr) (s t : OpenTerm) (mid now later : List (ℕ × Need)) → s.from ≡ length mid → now ≡ mid ++ (expr_asks a false ++ expr_asks b false) → s.literal ≡ is_literal a → t.literal ≡ is_literal b → t.parameter ≡ is_parameter b
+      → ((a b : Expr) (s t : OpenTerm) (mid now later : List (ℕ × Need)) → s.from ≡ length mid → now ≡ mid ++ (expr_asks a false ++ expr_asks b false)
+      → s.literal ≡ is_literal a → t.literal ≡ is_literal b → t.parameter ≡ is_parameter b
       → AsksOf m s t now later → later ≡ mid ++ expr_asks (make a b) false)
       → ((a b : Expr) (k l : Bool) → k ≡ is_literal a → l ≡ is_literal b → (joins m && (k && l)) ≡ is_literal (make a b)) → ((a b : Expr) → false ≡ is_parameter (make a b))
       → (rs : List Range) (ts : List Expr) → IsAsking rs ts old → Operates m old new → FollowsAsking ns (built_behind ns (put (term_of_terms make) rs ts)) new
@@ -171,26 +195,55 @@ module _ (ns : List RangeNode) (old new : AskReader) where
 
   ask_mul : (rs : List Range) (ts : List Expr) → IsAsking rs ts old → Operates node.Mul old new → FollowsAsking ns (built (node.Mul ∷ ns) rs ts) new
   ask_mul rs ts i f = ask_operator node.Mul Mul
-      (λ a b s t mid now later h e k l q g. product_now (is_literal a || is_literal b) mid now later s.from a b h e (g ∙ either_same s.literal t.literal (is_literal a) (is_literal b) now (raised s.from 0 now) k l))
+      (λ a b s t mid now later h e k l q g. product_now (is_literal a || is_literal b) mid now later s.from a b h e
+      (g ∙ either_same s.literal t.literal (is_literal a) (is_literal b) now (raised s.from 0 now) k l))
       (λ a b k l e g. both_same k l (is_literal a) (is_literal b) e g) (λ a b. refl) rs ts i f
 
   ask_div_down : (rs : List Range) (ts : List Expr) → IsAsking rs ts old → Operates node.DivDown old new → FollowsAsking ns (built (node.DivDown ∷ ns) rs ts) new
-  ask_div_down rs ts i f = ask_operator node.DivDown DivDown (λ a b s t mid now later h e k l q g. quotient_now b t.literal t.parameter mid now later s.from a h e l q g.0 g.1) (λ a b k l e g. refl) (λ a b. refl) rs ts i f
+  ask_div_down rs ts i f = ask_operator node.DivDown DivDown
+      (λ a b s t mid now later h e k l q g. quotient_now b t.literal t.parameter mid now later s.from a h e l q g.0 g.1) (λ a b k l e g. refl)
+      (λ a b. refl) rs ts i f
 
   ask_div_up : (rs : List Range) (ts : List Expr) → IsAsking rs ts old → Operates node.DivUp old new → FollowsAsking ns (built (node.DivUp ∷ ns) rs ts) new
-  ask_div_up rs ts i f = ask_operator node.DivUp DivUp (λ a b s t mid now later h e k l q g. quotient_now b t.literal t.parameter mid now later s.from a h e l q g.0 g.1) (λ a b k l e g. refl) (λ a b. refl) rs ts i f
+  ask_div_up rs ts i f = ask_operator node.DivUp DivUp
+      (λ a b s t mid now later h e k l q g. quotient_now b t.literal t.parameter mid now later s.from a h e l q g.0 g.1) (λ a b k l e g. refl)
+      (λ a b. refl) rs ts i f
 
 via : (m k : RangeNode) (old new : AskReader) → k ≡ m → TakesAsks m old new → TakesAsks k old new
 via m k old new e f = subst (λ j. TakesAsks j old new) (sym e) f
 
 pub open_true_takes : (m : RangeNode) (old new : AskReader) → (((z : ℤ) × (m ≡ node.Int z)) ⊎ (m ≡ node.Infinity)) → Opens true old new → TakesAsks m old new
-open_true_takes m old new is f = elim is [ inl e0 ↦ via (node.Int e0.0) m old new e0.1 (λ ns rs ts i. ask_leaf ns old new (Number e0.0) true refl refl refl rs ts i f) | inr h0 ↦ via node.Infinity m old new h0 (λ ns rs ts i. ask_leaf ns old new Infinity true refl refl refl rs ts i f) ]
+open_true_takes m old new is f = elim is [
+  | inl e0 ↦ via (node.Int e0.0) m old new e0.1
+      (λ ns rs ts i. ask_leaf ns old new (Number e0.0) true refl refl refl rs ts i f)
+  | inr h0 ↦ via node.Infinity m old new h0 (λ ns rs ts i. ask_leaf ns old new Infinity true refl refl refl rs ts i f)
+]
 
-pub open_false_takes : (m : RangeNode) (old new : AskReader) → (((y : ℕ) × (m ≡ node.Min y)) ⊎ (((y : ℕ) × (m ≡ node.Max y)) ⊎ ((y : ℕ) × (m ≡ node.Val y)))) → Opens false old new → TakesAsks m old new
-open_false_takes m old new is f = elim is [ inl e0 ↦ via (node.Min e0.0) m old new e0.1 (λ ns rs ts i. ask_leaf ns old new (Min e0.0) false refl refl refl rs ts i f) | inr h0 ↦ elim h0 [ inl e1 ↦ via (node.Max e1.0) m old new e1.1 (λ ns rs ts i. ask_leaf ns old new (Max e1.0) false refl refl refl rs ts i f) | inr h1 ↦ via (node.Val h1.0) m old new h1.1 (λ ns rs ts i. ask_leaf ns old new (Val h1.0) false refl refl refl rs ts i f) ] ]
+pub open_false_takes : (m : RangeNode) (old new : AskReader) → (((y : ℕ) × (m ≡ node.Min y)) ⊎ (((y : ℕ) × (m ≡ node.Max y)) ⊎ ((y : ℕ) × (m ≡ node.Val y))))
+    → Opens false old new → TakesAsks m old new
+open_false_takes m old new is f = elim is [
+  | inl e0 ↦ via (node.Min e0.0) m old new e0.1
+      (λ ns rs ts i. ask_leaf ns old new (Min e0.0) false refl refl refl rs ts i f)
+  | inr h0 ↦ elim h0 [
+    | inl e1 ↦ via (node.Max e1.0) m old new e1.1 (λ ns rs ts i. ask_leaf ns old new (Max e1.0) false refl refl refl rs ts i f)
+    | inr h1 ↦ via (node.Val h1.0) m old new h1.1 (λ ns rs ts i. ask_leaf ns old new (Val h1.0) false refl refl refl rs ts i f)
+  ]
+]
 
 pub operate_takes : (m : RangeNode) (old new : AskReader) → ((m ≡ node.Add) ⊎ ((m ≡ node.Sub) ⊎ ((m ≡ node.Mul) ⊎ ((m ≡ node.DivDown) ⊎ (m ≡ node.DivUp))))) → Operates m old new → TakesAsks m old new
-operate_takes m old new is f = elim is [ inl e0 ↦ via node.Add m old new e0 (λ ns rs ts i. ask_add ns old new rs ts i (subst (λ j. Operates j old new) e0 f)) | inr h0 ↦ elim h0 [ inl e1 ↦ via node.Sub m old new e1 (λ ns rs ts i. ask_sub ns old new rs ts i (subst (λ j. Operates j old new) e1 f)) | inr h1 ↦ elim h1 [ inl e2 ↦ via node.Mul m old new e2 (λ ns rs ts i. ask_mul ns old new rs ts i (subst (λ j. Operates j old new) e2 f)) | inr h2 ↦ elim h2 [ inl e3 ↦ via node.DivDown m old new e3 (λ ns rs ts i. ask_div_down ns old new rs ts i (subst (λ j. Operates j old new) e3 f)) | inr h3 ↦ via node.DivUp m old new h3 (λ ns rs ts i. ask_div_up ns old new rs ts i (subst (λ j. Operates j old new) h3 f)) ] ] ] ]
+operate_takes m old new is f = elim is [
+  | inl e0 ↦ via node.Add m old new e0 (λ ns rs ts i. ask_add ns old new rs ts i (subst (λ j. Operates j old new) e0 f))
+  | inr h0 ↦ elim h0 [
+    | inl e1 ↦ via node.Sub m old new e1 (λ ns rs ts i. ask_sub ns old new rs ts i (subst (λ j. Operates j old new) e1 f))
+    | inr h1 ↦ elim h1 [
+      | inl e2 ↦ via node.Mul m old new e2 (λ ns rs ts i. ask_mul ns old new rs ts i (subst (λ j. Operates j old new) e2 f))
+      | inr h2 ↦ elim h2 [
+        | inl e3 ↦ via node.DivDown m old new e3 (λ ns rs ts i. ask_div_down ns old new rs ts i (subst (λ j. Operates j old new) e3 f))
+        | inr h3 ↦ via node.DivUp m old new h3 (λ ns rs ts i. ask_div_up ns old new rs ts i (subst (λ j. Operates j old new) h3 f))
+      ]
+    ]
+  ]
+]
 
 pub param_takes : (m : RangeNode) (x : ℕ) (old new : AskReader) → m ≡ node.Param x → OpensParameter x old new → TakesAsks m old new
 param_takes m x old new e f = via (node.Param x) m old new e (λ ns rs ts i. ask_param ns old new x rs ts i f)
@@ -198,10 +251,12 @@ param_takes m x old new e f = via (node.Param x) m old new e (λ ns rs ts i. ask
 pub asks_start : (nodes : List RangeNode) (q : AskReader) → IsSpelled nodes → q.terms.items ≡ [] → q.asking.places.items ≡ [] → IsAskedSoFar 0 nodes q
 asks_start nodes q s t p = ([], [], builds_all nodes s, (t, ap (λ l. told 0 l) p))
 
-from_follows : (ns : List RangeNode) (r : Range) (o : Option Range) (q : AskReader) → Some r ≡ o → FollowsAsking ns o q → (rs : List Range) × (ts : List Expr) × (Some r ≡ built ns rs ts) × IsAsking rs ts q
+from_follows : (ns : List RangeNode) (r : Range) (o : Option Range) (q : AskReader) → Some r ≡ o → FollowsAsking ns o q
+    → (rs : List Range) × (ts : List Expr) × (Some r ≡ built ns rs ts) × IsAsking rs ts q
 from_follows ns r o q e f = subst (λ p. FollowsAsking ns p q) (sym e) f
 
-pub asks_step : (i : ℕ) (nodes : List RangeNode) (d : RangeNode) (old new : AskReader) → i < length nodes → IsAskedSoFar i nodes old → TakesAsks (get_or nodes i d) old new → IsAskedSoFar (i + 1) nodes new
+pub asks_step : (i : ℕ) (nodes : List RangeNode) (d : RangeNode) (old new : AskReader) → i < length nodes → IsAskedSoFar i nodes old
+    → TakesAsks (get_or nodes i d) old new → IsAskedSoFar (i + 1) nodes new
 asks_step i nodes d old new l (rs, ts, e, p) f =
     let g : Some (spelled_range nodes) ≡ built (get_or nodes i d ∷ drop (i + 1) nodes) rs ts = e ∙ at_drop_more (λ ns. built ns rs ts) nodes i d l in
     from_follows (drop (i + 1) nodes) (spelled_range nodes) _ new g (f (drop (i + 1) nodes) rs ts p)

@@ -7,10 +7,10 @@ use Rattle.std.proofs.Math.Numerals.{suc-eq-add-one}
 use Rattle.fd_language.specs.declared.range_node.RangeNode.{RangeNode}
 use Rattle.fd_language.specs.declared.TheConstants.{INFINITY}
 use Rattle.fd_language.specs.Range.{Range, Expr}
-use Rattle.fd_language.specs.Flat.{built, spelled_range, IsSpelled, builds_range, spelled_range-nodes}
+use Rattle.fd_language.specs.PostfixRanges.{built, spelled_range, IsSpelled, builds_range, spelled_range-nodes}
 use Rattle.fd_language.specs.RangeVerdict.{range_size}
 use Rattle.fd_language.proofs.Lemmas.{spells_back, count_nodes}
-use Rattle.monotone_check.specs.declared.pending.Pending.{Pending}
+use Rattle.monotone_check.specs.declared.pending_checks.Pending.{Pending}
 use Rattle.monotone_check.specs.declared.summary.RangeCheck.{RangeCheck}
 use Rattle.monotone_check.specs.Summary.{IsRange}
 use Rattle.monotone_check.specs.PendingChecks.{IsPending, Follows}
@@ -22,7 +22,8 @@ builds_all nodes (r, e) = subst (λ ns. Some (spelled_range ns) ≡ built ns [] 
 pub walk_start : (at : ℕ → ℕ) (nodes : List RangeNode) (p : Pending) → IsSpelled nodes → p.ranges.items ≡ [] → p.terms.items ≡ [] → IsWalked at 0 nodes p
 walk_start at nodes p s r t = ([], [], builds_all nodes s, record { terms = t; ranges = r })
 
-from_follows : (at : ℕ → ℕ) (n : ℕ) (ns : List RangeNode) (r : Range) (o : Option Range) (p : Pending) → Some r ≡ o → Follows INFINITY at n ns o p → (rs : List Range) × (ts : List Expr) × (Some r ≡ built ns rs ts) × IsPending INFINITY at (suc n) rs ts p
+from_follows : (at : ℕ → ℕ) (n : ℕ) (ns : List RangeNode) (r : Range) (o : Option Range) (p : Pending) → Some r ≡ o → Follows INFINITY at n ns o p
+    → (rs : List Range) × (ts : List Expr) × (Some r ≡ built ns rs ts) × IsPending INFINITY at (suc n) rs ts p
 from_follows at n ns r o p e f = subst (λ q. Follows INFINITY at n ns q p) (sym e) f
 
 pub walk_step : (at : ℕ → ℕ) (i : ℕ) (nodes : List RangeNode) (d : RangeNode) (old new : Pending) → i < length nodes → IsWalked at i nodes old →
@@ -63,7 +64,8 @@ last_one s x [] e = cc
 last_one s x (y ∷ []) e = absurd cc
 last_one s x (y ∷ z ∷ ys) e = absurd cc
 
-pub walk_gives : (at : ℕ → ℕ) (i : ℕ) (nodes : List RangeNode) (p : Pending) (front : List RangeCheck) (o : Option RangeCheck) (x : RangeCheck) → length nodes ≤ i → i ≤ length nodes → IsSpelled nodes → IsWalked at i nodes p →
+pub walk_gives : (at : ℕ → ℕ) (i : ℕ) (nodes : List RangeNode) (p : Pending) (front : List RangeCheck) (o : Option RangeCheck) (x : RangeCheck)
+    → length nodes ≤ i → i ≤ length nodes → IsSpelled nodes → IsWalked at i nodes p →
     p.ranges.items ≡ front ++ option_to_list o → o ≡ Some x → IsRange INFINITY at (range_size (spelled_range nodes) - 1) (spelled_range nodes) x
 walk_gives at i nodes p front o x h g s w e f =
     let (k, items, whole) = walk_end at i nodes p h g s w in

@@ -1,5 +1,6 @@
 -- What is kept of an operator's term follows from what is kept of its operands.
-use Rattle.std.proofs.Common.{◌≡◌, ℕ, ◌-◌, ◌^◌, ◌≤◌, ◌<◌, Bool, true, false, cond, not, ◌&&◌, ℤ, pos, ◌+ℤ◌, ◌-ℤ◌, ◌*ℤ◌, int_le, nat_abs, List, ◌++◌, Option, Some, None, IfSome, FitsSigned, refl, sym, ◌∙◌, ap, subst, arith}
+use Rattle.std.proofs.Common.{◌≡◌, ℕ, ◌-◌, ◌^◌, ◌≤◌, ◌<◌, Bool, true, false, cond, not, ◌&&◌, ℤ, pos, ◌+ℤ◌, ◌-ℤ◌, ◌*ℤ◌, int_le, nat_abs, List, ◌++◌, Option}
+use Rattle.std.proofs.Common.{Some, None, IfSome, FitsSigned, refl, sym, ◌∙◌, ap, subst, arith}
 use Rattle.std.specs.Int.{w128}
 use Rattle.std.proofs.lemmas.Int.{fits_signed_from_abs}
 use Rattle.std.proofs.lemmas.Bool.{true≢false, and_parts}
@@ -9,17 +10,22 @@ use Rattle.fd_language.specs.declared.range_node.Offence.{Offence}
 use Rattle.fd_language.specs.Range.{Expr, Number, Infinity, Add, Sub, Mul, DivDown, DivUp}
 use Rattle.fd_language.specs.Needs.{is_literal}
 use Rattle.fd_language.specs.Check.{Wish, turn, literal_value, is_parameter}
-use Rattle.fd_language.specs.RangeVerdict.{expr_size, bound, wide_in_expr, where_too_wide, over_limit, where_below_zero, where_natural, unless_divides, scaled, expr_offences, quotient_offences, expr_within, earlier, first}
+use Rattle.fd_language.specs.RangeVerdict.{expr_size, bound, wide_in_expr, where_too_wide, over_limit, where_below_zero, where_natural, unless_divides, scaled}
+use Rattle.fd_language.specs.RangeVerdict.{expr_offences, quotient_offences, expr_within, earlier, first}
 use Rattle.monotone_check.specs.declared.summary.TermCheck.{TermCheck}
-use Rattle.monotone_check.specs.Summary.{capped, literal_of, IsTerm, operator_bound, both_literal, operator_literal, kept, product_first, quotient_first, operands_first, operator_first, IsOperated}
+use Rattle.monotone_check.specs.Summary.{capped, literal_of, IsTerm, operator_bound, both_literal, operator_literal, kept, product_first, quotient_first}
+use Rattle.monotone_check.specs.Summary.{operands_first, operator_first, IsOperated}
 use Rattle.fd_language.proofs.Lemmas.{abs_add, abs_mul, abs_sub, not_over, products, sums, first_two, first_three, within_left, within_right, within_here}
 
 pub literal_bound : (M : ℕ) (e : Expr) → is_literal e ≡ true → nat_abs (literal_value M e) ≤ bound M e
 literal_bound M (Number z) h = omega arith
 literal_bound M Infinity h = omega arith
-literal_bound M (Add a b) h = sums _ _ _ _ _ (abs_add (literal_value M a) (literal_value M b)) (literal_bound M a ((and_parts (is_literal a) (is_literal b) h).0)) (literal_bound M b ((and_parts (is_literal a) (is_literal b) h).1))
-literal_bound M (Sub a b) h = sums _ _ _ _ _ (abs_sub (literal_value M a) (literal_value M b)) (literal_bound M a ((and_parts (is_literal a) (is_literal b) h).0)) (literal_bound M b ((and_parts (is_literal a) (is_literal b) h).1))
-literal_bound M (Mul a b) h = products _ _ _ _ _ (abs_mul (literal_value M a) (literal_value M b)) (literal_bound M a ((and_parts (is_literal a) (is_literal b) h).0)) (literal_bound M b ((and_parts (is_literal a) (is_literal b) h).1))
+literal_bound M (Add a b) h = sums _ _ _ _ _ (abs_add (literal_value M a) (literal_value M b))
+    (literal_bound M a ((and_parts (is_literal a) (is_literal b) h).0)) (literal_bound M b ((and_parts (is_literal a) (is_literal b) h).1))
+literal_bound M (Sub a b) h = sums _ _ _ _ _ (abs_sub (literal_value M a) (literal_value M b))
+    (literal_bound M a ((and_parts (is_literal a) (is_literal b) h).0)) (literal_bound M b ((and_parts (is_literal a) (is_literal b) h).1))
+literal_bound M (Mul a b) h = products _ _ _ _ _ (abs_mul (literal_value M a) (literal_value M b))
+    (literal_bound M a ((and_parts (is_literal a) (is_literal b) h).0)) (literal_bound M b ((and_parts (is_literal a) (is_literal b) h).1))
 literal_bound M e h = absurd (true≢false (sym h))
 
 small : (m n : ℕ) → m ≤ n → n ≤ 2 ^ 126 - 1 → m < 2 ^ 127
@@ -34,7 +40,8 @@ both_literals f true true va vb x y e g = ap (λ o. both_literal f o y) e ∙ ap
 both_literals f true false va vb x y e g = ap (λ o. both_literal f o y) e ∙ ap (λ o. both_literal f (Some va) o) g
 both_literals f false lb va vb x y e g = ap (λ o. both_literal f o y) e
 
-literal_is : (c : Bool) (v : ℤ) (o l : Option ℤ) → o ≡ cond c (Some v) None → IfSome o (λ z. FitsSigned w128 z → l ≡ Some z) → (o ≡ None → l ≡ None) → (c ≡ true → FitsSigned w128 v) → l ≡ cond c (Some v) None
+literal_is : (c : Bool) (v : ℤ) (o l : Option ℤ) → o ≡ cond c (Some v) None → IfSome o (λ z. FitsSigned w128 z → l ≡ Some z) → (o ≡ None → l ≡ None)
+    → (c ≡ true → FitsSigned w128 v) → l ≡ cond c (Some v) None
 literal_is true v o l e f g h = (subst (λ p. IfSome p (λ z. FitsSigned w128 z → l ≡ Some z)) e f) (h refl)
 literal_is false v o l e f g h = g e
 
@@ -49,16 +56,22 @@ by_factor : (la lb : Bool) (va vb : ℤ) (x y : Option ℤ) (a b : TermCheck) (w
     ((v : Wish) (n : Bool) → kept n a v ≡ first (A v n)) → ((v : Wish) (n : Bool) → kept n b v ≡ first (B v n)) →
     product_first x y a b w natural ≡ first (cond la (A w natural ++ B (scaled va w) natural) (cond lb (A (scaled vb w) natural ++ B w natural) (A w true ++ B w true)))
 by_factor true lb va vb x y a b w natural A B e f g h = ap (λ o. product_first o y a b w natural) e ∙ first_two (A w natural) (B (scaled va w) natural) _ _ (g w natural) (h (scaled va w) natural)
-by_factor false true va vb x y a b w natural A B e f g h = ap (λ o. product_first o y a b w natural) e ∙ (ap (λ o. product_first None o a b w natural) f ∙ first_two (A (scaled vb w) natural) (B w natural) _ _ (g (scaled vb w) natural) (h w natural))
-by_factor false false va vb x y a b w natural A B e f g h = ap (λ o. product_first o y a b w natural) e ∙ (ap (λ o. product_first None o a b w natural) f ∙ first_two (A w true) (B w true) _ _ (g w true) (h w true))
+by_factor false true va vb x y a b w natural A B e f g h = ap (λ o. product_first o y a b w natural) e
+    ∙ (ap (λ o. product_first None o a b w natural) f ∙ first_two (A (scaled vb w) natural) (B w natural) _ _ (g (scaled vb w) natural) (h w natural))
+by_factor false false va vb x y a b w natural A B e f g h = ap (λ o. product_first o y a b w natural) e
+    ∙ (ap (λ o. product_first None o a b w natural) f ∙ first_two (A w true) (B w true) _ _ (g w true) (h w true))
 
 by_divisor : (lb par : Bool) (vb : ℤ) (y : Option ℤ) (a b : TermCheck) (place : ℕ) (w : Wish) (natural : Bool) (A B : Wish → Bool → List Offence) →
     y ≡ cond lb (Some vb) None → b.parameter ≡ par → b.place ≡ place →
     ((v : Wish) (n : Bool) → kept n a v ≡ first (A v n)) → ((v : Wish) (n : Bool) → kept n b v ≡ first (B v n)) →
     quotient_first y a b w natural ≡ first (cond lb (A w natural ++ unless_divides (int_le (pos 1) vb) place) (cond par (A w natural) (A w true ++ B (turn w) true)))
-by_divisor true par vb y a b place w natural A B e f i g h = ap (λ o. quotient_first o a b w natural) e ∙ first_two (A w natural) (unless_divides (int_le (pos 1) vb) place) _ _ (g w natural) (ap (λ q. first (unless_divides (int_le (pos 1) vb) q)) i)
-by_divisor false true vb y a b place w natural A B e f i g h = ap (λ o. quotient_first o a b w natural) e ∙ (ap (λ c. cond c (kept natural a w) (earlier (kept true a w) (kept true b (turn w)))) f ∙ g w natural)
-by_divisor false false vb y a b place w natural A B e f i g h = ap (λ o. quotient_first o a b w natural) e ∙ (ap (λ c. cond c (kept natural a w) (earlier (kept true a w) (kept true b (turn w)))) f ∙ first_two (A w true) (B (turn w) true) _ _ (g w true) (h (turn w) true))
+by_divisor true par vb y a b place w natural A B e f i g h = ap (λ o. quotient_first o a b w natural) e
+    ∙ first_two (A w natural) (unless_divides (int_le (pos 1) vb) place) _ _ (g w natural) (ap (λ q. first (unless_divides (int_le (pos 1) vb) q)) i)
+by_divisor false true vb y a b place w natural A B e f i g h = ap (λ o. quotient_first o a b w natural) e
+    ∙ (ap (λ c. cond c (kept natural a w) (earlier (kept true a w) (kept true b (turn w)))) f ∙ g w natural)
+by_divisor false false vb y a b place w natural A B e f i g h = ap (λ o. quotient_first o a b w natural) e
+    ∙ (ap (λ c. cond c (kept natural a w) (earlier (kept true a w) (kept true b (turn w)))) f
+    ∙ first_two (A w true) (B (turn w) true) _ _ (g w true) (h (turn w) true))
 
 either : (M : ℕ) (n : RangeNode) (a b : TermCheck) (p : ℕ) (r : TermCheck) → IsOperated M n a b p r → (w : Wish) (natural : Bool) → kept natural r w ≡ operator_first r.literal n a b p w natural
 either M n a b p r o w true = o.natural w
@@ -108,15 +121,21 @@ module _ (M : ℕ) (at : ℕ → ℕ) (n : ℕ) (a b : Expr) (s t r : TermCheck)
 
   pub mul_is : IsOperated M node.Mul s t (at n) r → IsTerm M at n (Mul a b) r
   mul_is o = operated_is node.Mul (Mul a b) (is_literal a && is_literal b) (literal_value M (Mul a b))
-      (λ w k. cond (is_literal a) (A w k ++ B (scaled (literal_value M a) w) k) (cond (is_literal b) (A (scaled (literal_value M b) w) k ++ B w k) (A w true ++ B w true))) refl refl refl refl refl (λ w k. refl)
+      (λ w k. cond (is_literal a) (A w k ++ B (scaled (literal_value M a) w) k)
+      (cond (is_literal b) (A (scaled (literal_value M b) w) k ++ B w k) (A w true ++ B w true))) refl refl refl refl refl (λ w k. refl)
       (λ wa wb. both_literals (λ x y. x *ℤ y) (is_literal a) (is_literal b) (literal_value M a) (literal_value M b) s.literal t.literal (i.literal wa) (j.literal wb)) (literal_bound M (Mul a b))
-      (λ wa wb w k. by_factor (is_literal a) (is_literal b) (literal_value M a) (literal_value M b) s.literal t.literal s t w k A B (i.literal wa) (j.literal wb) (λ v m. i.offences wa v m) (λ v m. j.offences wb v m)) o
+      (λ wa wb w k. by_factor (is_literal a) (is_literal b) (literal_value M a) (literal_value M b) s.literal t.literal s t w k A B (i.literal wa)
+      (j.literal wb) (λ v m. i.offences wa v m) (λ v m. j.offences wb v m)) o
 
-  quotient_operands : expr_within M a ≡ true → expr_within M b ≡ true → (w : Wish) (k : Bool) → quotient_first t.literal s t w k ≡ first (quotient_offences M (at (n - 1)) b (A w k) (A w true) (B (turn w) true))
-  quotient_operands wa wb w k = by_divisor (is_literal b) (is_parameter b) (literal_value M b) t.literal s t (at (n - 1)) w k A B (j.literal wb) j.parameter j.place (λ v m. i.offences wa v m) (λ v m. j.offences wb v m)
+  quotient_operands : expr_within M a ≡ true → expr_within M b ≡ true → (w : Wish) (k : Bool)
+      → quotient_first t.literal s t w k ≡ first (quotient_offences M (at (n - 1)) b (A w k) (A w true) (B (turn w) true))
+  quotient_operands wa wb w k = by_divisor (is_literal b) (is_parameter b) (literal_value M b) t.literal s t (at (n - 1)) w k A B (j.literal wb) j.parameter
+      j.place (λ v m. i.offences wa v m) (λ v m. j.offences wb v m)
 
   pub div_down_is : IsOperated M node.DivDown s t (at n) r → IsTerm M at n (DivDown a b) r
-  div_down_is o = operated_is node.DivDown (DivDown a b) false (pos 0) (λ w k. quotient_offences M (at (n - 1)) b (A w k) (A w true) (B (turn w) true)) refl refl refl refl refl (λ w k. refl) (λ wa wb. refl) (λ l. absurd (true≢false (sym l))) quotient_operands o
+  div_down_is o = operated_is node.DivDown (DivDown a b) false (pos 0) (λ w k. quotient_offences M (at (n - 1)) b (A w k) (A w true) (B (turn w) true)) refl
+      refl refl refl refl (λ w k. refl) (λ wa wb. refl) (λ l. absurd (true≢false (sym l))) quotient_operands o
 
   pub div_up_is : IsOperated M node.DivUp s t (at n) r → IsTerm M at n (DivUp a b) r
-  div_up_is o = operated_is node.DivUp (DivUp a b) false (pos 0) (λ w k. quotient_offences M (at (n - 1)) b (A w k) (A w true) (B (turn w) true)) refl refl refl refl refl (λ w k. refl) (λ wa wb. refl) (λ l. absurd (true≢false (sym l))) quotient_operands o
+  div_up_is o = operated_is node.DivUp (DivUp a b) false (pos 0) (λ w k. quotient_offences M (at (n - 1)) b (A w k) (A w true) (B (turn w) true)) refl refl refl
+      refl refl (λ w k. refl) (λ wa wb. refl) (λ l. absurd (true≢false (sym l))) quotient_operands o

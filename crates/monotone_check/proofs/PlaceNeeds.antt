@@ -1,5 +1,6 @@
 -- What is told of the places of parameters as they are added, raised and made divisors.
-use Rattle.std.proofs.Common.{◌≡◌, ℕ, zero, suc, ◌+◌, ◌-◌, ◌<◌, ◌≤◌, Bool, true, false, cond, not, ◌||◌, nat_lt, min, List, [], ◌∷◌, ◌++◌, length, get_or, refl, sym, ◌∙◌, ap, arith}
+use Rattle.std.proofs.Common.{◌≡◌, ℕ, zero, suc, ◌+◌, ◌-◌, ◌<◌, ◌≤◌, Bool, true, false, cond, not, ◌||◌, nat_lt, min, List, [], ◌∷◌, ◌++◌, length, get_or, refl}
+use Rattle.std.proofs.Common.{sym, ◌∙◌, ap, arith}
 use Rattle.std.proofs.Math.Bool.{or_assoc}
 use Rattle.std.specs.Prelude.{slice_set}
 use Rattle.std.proofs.lemmas.Bool.{true≢false}
@@ -46,21 +47,26 @@ lowered_told i f [] = refl
 lowered_told i f (e ∷ []) = ap (λ n. (e.variable, n) ∷ []) (head_raised i f e [] (lowered f (e ∷ [])) (lowered_reaches i f e []))
 lowered_told i f (e ∷ d ∷ es) =
     ap (λ n. (e.variable, n) ∷ told (suc i) (lowered f (d ∷ es))) (head_raised i f e (d ∷ es) (lowered f (e ∷ d ∷ es)) (lowered_reaches i f e (d ∷ es)))
-    ∙ ap (λ l. (e.variable, cond (nat_lt i f) (cond (reaches i (e ∷ d ∷ es)) (raise e.need) e.need) (raise (cond (reaches i (e ∷ d ∷ es)) (raise e.need) e.need))) ∷ l) (lowered_told (suc i) f (d ∷ es))
+    ∙ ap (λ l. (
+      e.variable,
+      cond (nat_lt i f) (cond (reaches i (e ∷ d ∷ es)) (raise e.need) e.need)
+          (raise (cond (reaches i (e ∷ d ∷ es)) (raise e.need) e.need)),
+    ) ∷ l) (lowered_told (suc i) f (d ∷ es))
 
 -- nothing is raised behind the end
 nothing_raised : (f i : ℕ) (es : List Asked) → i + length es ≤ f → raised f i (told i es) ≡ told i es
 nothing_raised f i [] h = refl
-nothing_raised f i (e ∷ es) h = same (nat_lt i f) (cond (reaches i (e ∷ es)) (raise e.need) e.need) (before i f (length es) h) ∙ ap (λ l. (e.variable, cond (reaches i (e ∷ es)) (raise e.need) e.need) ∷ l) (nothing_raised f (suc i) es (next i f (length es) h)) where
-  before : (i f n : ℕ) → i + suc n ≤ f → nat_lt i f ≡ true
-  before i f n h = grind arith
+nothing_raised f i (e ∷ es) h = same (nat_lt i f) (cond (reaches i (e ∷ es)) (raise e.need) e.need) (before i f (length es) h)
+    ∙ ap (λ l. (e.variable, cond (reaches i (e ∷ es)) (raise e.need) e.need) ∷ l) (nothing_raised f (suc i) es (next i f (length es) h)) where
+      before : (i f n : ℕ) → i + suc n ≤ f → nat_lt i f ≡ true
+      before i f n h = grind arith
 
-  next : (i f n : ℕ) → i + suc n ≤ f → suc i + n ≤ f
-  next i f n h = omega arith
+      next : (i f n : ℕ) → i + suc n ≤ f → suc i + n ≤ f
+      next i f n h = omega arith
 
-  same : (b : Bool) (n : Need) → b ≡ true → (e.variable, cond b n (raise n)) ∷ raised f (suc i) (told (suc i) es) ≡ (e.variable, n) ∷ raised f (suc i) (told (suc i) es)
-  same true n h = refl
-  same false n h = absurd (true≢false (sym h))
+      same : (b : Bool) (n : Need) → b ≡ true → (e.variable, cond b n (raise n)) ∷ raised f (suc i) (told (suc i) es) ≡ (e.variable, n) ∷ raised f (suc i) (told (suc i) es)
+      same true n h = refl
+      same false n h = absurd (true≢false (sym h))
 
 set_lowered : (f : ℕ) (d : Asked) (es : List Asked) (k : ℕ) → suc k ≡ length es → slice_set es k (record (get_or es k d) { floor = min (get_or es k d).floor f }) ≡ lowered f es
 set_lowered f d [] k h = absurd (omega arith)
@@ -134,7 +140,8 @@ pub divide_tells : (es ns : List Asked) (d : Asked) (k : ℕ) → suc k ≡ leng
     (front : List (ℕ × Need)) (x : ℕ) (n : Need) → told 0 es ≡ front ++ (x, n) ∷ [] → told 0 ns ≡ front ++ (x, Divisor) ∷ []
 divide_tells es ns d k h e front x n t = ap (λ l. told 0 l) (e ∙ set_divided d es k h) ∙ (divided_told 0 es ∙ (ap last_divisor t ∙ last_of front x n))
 
-pub raise_tells : (es ns : List Asked) (d : Asked) (k f : ℕ) → suc k ≡ length es → ns ≡ slice_set es k (record (get_or es k d) { floor = min (get_or es k d).floor f }) → told 0 ns ≡ raised f 0 (told 0 es)
+pub raise_tells : (es ns : List Asked) (d : Asked) (k f : ℕ) → suc k ≡ length es
+    → ns ≡ slice_set es k (record (get_or es k d) { floor = min (get_or es k d).floor f }) → told 0 ns ≡ raised f 0 (told 0 es)
 raise_tells es ns d k f h e = ap (λ l. told 0 l) (e ∙ set_lowered f d es k h) ∙ lowered_told 0 f es
 
 pub raise_none : (es : List Asked) (f : ℕ) → length es ≤ f → told 0 es ≡ raised f 0 (told 0 es)

@@ -8,10 +8,12 @@ use Rattle.fd_language.specs.declared.range_node.Offence.{Offence}
 use Rattle.fd_language.specs.Range.{Range, Span, One, Union, Inter, Outside, Plus, Minus, Times, Over, Expr, Param}
 use Rattle.fd_language.specs.Needs.{is_literal}
 use Rattle.fd_language.specs.Check.{Rising, Falling, Constant, literal_value, is_parameter}
-use Rattle.fd_language.specs.RangeVerdict.{expr_size, range_size, bound, earlier, wide_in_expr, wide_in_range, where_too_wide, unless_divides, expr_offences, range_offences, expr_within, range_within, first}
+use Rattle.fd_language.specs.RangeVerdict.{expr_size, range_size, bound, earlier, wide_in_expr, wide_in_range, where_too_wide, unless_divides, expr_offences}
+use Rattle.fd_language.specs.RangeVerdict.{range_offences, expr_within, range_within, first}
 use Rattle.monotone_check.specs.declared.summary.TermCheck.{TermCheck}
 use Rattle.monotone_check.specs.declared.summary.RangeCheck.{RangeCheck}
-use Rattle.monotone_check.specs.Summary.{IsTerm, IsRange, by_growth, pointwise_over, pointwise_first, divisor_first, IsSpan, IsSingle, IsCombined, IsComplement, IsPointwise}
+use Rattle.monotone_check.specs.Summary.{IsTerm, IsRange, by_growth, pointwise_over, pointwise_first, divisor_first, IsSpan, IsSingle, IsCombined, IsComplement}
+use Rattle.monotone_check.specs.Summary.{IsPointwise}
 
 no_parameter : (c : Expr) → is_literal c ≡ true → is_parameter c ≡ false
 no_parameter (Param x) h = absurd (true≢false (sym h))
@@ -47,7 +49,8 @@ module _ (M : ℕ) (at : ℕ → ℕ) (n : ℕ) where
   }
 
   -- the range g of an operator of two ranges
-  combined_is : (g r q : Range) (s t u : RangeCheck) → wide_in_range M at (n - 1 - range_size q) r ++ wide_in_range M at (n - 1) q ≡ wide_in_range M at n g → range_within M g ≡ (range_within M r && range_within M q)
+  combined_is : (g r q : Range) (s t u : RangeCheck) → wide_in_range M at (n - 1 - range_size q) r ++ wide_in_range M at (n - 1) q ≡ wide_in_range M at n g
+      → range_within M g ≡ (range_within M r && range_within M q)
       → ((w : Bool) → range_offences M at (n - 1 - range_size q) r w ++ range_offences M at (n - 1) q w ≡ range_offences M at n g w)
       → IsRange M at (n - 1 - range_size q) r s → IsRange M at (n - 1) q t → IsCombined s t u → IsRange M at n g u
   combined_is g r q s t u wide within offends i j o = record {
@@ -78,7 +81,8 @@ module _ (M : ℕ) (at : ℕ → ℕ) (n : ℕ) where
       → ((w : Bool) → range_offences M at (n - 1 - expr_size c) r w ++ xs ≡ range_offences M at n g w) → (expr_within M c ≡ true → pointwise_first m t ≡ first xs)
       → IsRange M at (n - 1 - expr_size c) r s → IsTerm M at (n - 1) c t → IsPointwise M m s t (at n) u → IsRange M at n g u
   spread_is m g r c xs s t u wide within offends own i j o = record {
-    wide = o.wide (bound M c) j.size ∙ (first_three (wide_in_range M at (n - 1 - expr_size c) r) (wide_in_expr M at (n - 1) c) (where_too_wide (pointwise_over M m (bound M c)) (at n)) _ _ _ i.wide j.wide refl ∙ ap first wide);
+    wide = o.wide (bound M c) j.size ∙ (first_three (wide_in_range M at (n - 1 - expr_size c) r) (wide_in_expr M at (n - 1) c)
+        (where_too_wide (pointwise_over M m (bound M c)) (at n)) _ _ _ i.wide j.wide refl ∙ ap first wide);
     offences = λ h.
         let all : ((range_within M r && expr_within M c) && not (pointwise_over M m (bound M c))) ≡ true = sym within ∙ h in
         let wr : range_within M r ≡ true = within_left (range_within M r) (expr_within M c) (not (pointwise_over M m (bound M c))) all in
@@ -88,15 +92,19 @@ module _ (M : ℕ) (at : ℕ → ℕ) (n : ℕ) where
         growth u _ _ (λ w. range_offences M at n g w) o.shrinking o.growing (at_growth true) (at_growth false);
   }
 
-  pub plus_is : (r : Range) (c : Expr) (s : RangeCheck) (t : TermCheck) (u : RangeCheck) → IsRange M at (n - 1 - expr_size c) r s → IsTerm M at (n - 1) c t → IsPointwise M node.Plus s t (at n) u → IsRange M at n (Plus r c) u
+  pub plus_is : (r : Range) (c : Expr) (s : RangeCheck) (t : TermCheck) (u : RangeCheck) → IsRange M at (n - 1 - expr_size c) r s → IsTerm M at (n - 1) c t
+      → IsPointwise M node.Plus s t (at n) u → IsRange M at n (Plus r c) u
   plus_is r c s t u i j o = spread_is node.Plus (Plus r c) r c (expr_offences M at (n - 1) c Constant false) s t u refl refl (λ w. refl) (λ h. j.offences h Constant false) i j o
 
-  pub minus_is : (r : Range) (c : Expr) (s : RangeCheck) (t : TermCheck) (u : RangeCheck) → IsRange M at (n - 1 - expr_size c) r s → IsTerm M at (n - 1) c t → IsPointwise M node.Minus s t (at n) u → IsRange M at n (Minus r c) u
+  pub minus_is : (r : Range) (c : Expr) (s : RangeCheck) (t : TermCheck) (u : RangeCheck) → IsRange M at (n - 1 - expr_size c) r s → IsTerm M at (n - 1) c t
+      → IsPointwise M node.Minus s t (at n) u → IsRange M at n (Minus r c) u
   minus_is r c s t u i j o = spread_is node.Minus (Minus r c) r c (expr_offences M at (n - 1) c Constant false) s t u refl refl (λ w. refl) (λ h. j.offences h Constant false) i j o
 
-  pub times_is : (r : Range) (c : Expr) (s : RangeCheck) (t : TermCheck) (u : RangeCheck) → IsRange M at (n - 1 - expr_size c) r s → IsTerm M at (n - 1) c t → IsPointwise M node.Times s t (at n) u → IsRange M at n (Times r c) u
+  pub times_is : (r : Range) (c : Expr) (s : RangeCheck) (t : TermCheck) (u : RangeCheck) → IsRange M at (n - 1 - expr_size c) r s → IsTerm M at (n - 1) c t
+      → IsPointwise M node.Times s t (at n) u → IsRange M at n (Times r c) u
   times_is r c s t u i j o = spread_is node.Times (Times r c) r c (expr_offences M at (n - 1) c Constant false) s t u refl refl (λ w. refl) (λ h. j.offences h Constant false) i j o
 
-  pub over_is : (r : Range) (c : Expr) (s : RangeCheck) (t : TermCheck) (u : RangeCheck) → IsRange M at (n - 1 - expr_size c) r s → IsTerm M at (n - 1) c t → IsPointwise M node.Over s t (at n) u → IsRange M at n (Over r c) u
+  pub over_is : (r : Range) (c : Expr) (s : RangeCheck) (t : TermCheck) (u : RangeCheck) → IsRange M at (n - 1 - expr_size c) r s → IsTerm M at (n - 1) c t
+      → IsPointwise M node.Over s t (at n) u → IsRange M at n (Over r c) u
   over_is r c s t u i j o = spread_is node.Over (Over r c) r c (unless_divides (is_parameter c || (is_literal c && int_le (pos 1) (literal_value M c))) (at (n - 1))) s t u refl refl (λ w. refl)
       (λ h. divisor (is_literal c) (is_parameter c) (literal_value M c) (at (n - 1)) t.literal t (j.literal h) j.parameter j.place (no_parameter c)) i j o

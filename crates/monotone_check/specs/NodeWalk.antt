@@ -3,8 +3,8 @@ use Rattle.std.specs.Prelude.{◌≡◌, ℕ, List, Some, drop}
 use Rattle.fd_language.specs.declared.range_node.RangeNode.{RangeNode}
 use Rattle.fd_language.specs.declared.TheConstants.{INFINITY}
 use Rattle.fd_language.specs.Range.{Range, Expr}
-use Rattle.fd_language.specs.Flat.{built, spelled_range}
-use Rattle.monotone_check.specs.declared.pending.Pending.{Pending}
+use Rattle.fd_language.specs.PostfixRanges.{built, spelled_range}
+use Rattle.monotone_check.specs.declared.pending_checks.Pending.{Pending}
 use Rattle.monotone_check.specs.PendingChecks.{IsPending}
 
 -- the nodes from the number n on build the range on top of what waits

@@ -5,9 +5,9 @@ use Rattle.fd_language.specs.declared.range_node.RangeNode.{RangeNode}
 use Rattle.fd_language.specs.Range.{Range, Expr}
 use Rattle.fd_language.specs.Needs.{is_literal, expr_asks, asks}
 use Rattle.fd_language.specs.Check.{is_parameter}
-use Rattle.fd_language.specs.Flat.{built, spelled_range}
-use Rattle.monotone_check.specs.declared.asks.OpenTerm.{OpenTerm}
-use Rattle.monotone_check.specs.declared.asks.AskReader.{AskReader}
+use Rattle.fd_language.specs.PostfixRanges.{built, spelled_range}
+use Rattle.monotone_check.specs.declared.parameter_asks.OpenTerm.{OpenTerm}
+use Rattle.monotone_check.specs.declared.parameter_asks.AskReader.{AskReader}
 use Rattle.monotone_check.specs.PlaceNeeds.{asks_now}
 
 -- the terms, the last one first; before them so much is asked, and with them so much

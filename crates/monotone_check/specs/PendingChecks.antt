@@ -2,11 +2,11 @@
 use Rattle.std.specs.Prelude.{◌≡◌, ℕ, suc, ◌-◌, List, [], ◌∷◌, ◌++◌, Option, Some, None}
 use Rattle.fd_language.specs.declared.range_node.RangeNode.{RangeNode}
 use Rattle.fd_language.specs.Range.{Range, Expr}
-use Rattle.fd_language.specs.Flat.{built}
+use Rattle.fd_language.specs.PostfixRanges.{built}
 use Rattle.fd_language.specs.RangeVerdict.{expr_size, range_size}
 use Rattle.monotone_check.specs.declared.summary.TermCheck.{TermCheck}
 use Rattle.monotone_check.specs.declared.summary.RangeCheck.{RangeCheck}
-use Rattle.monotone_check.specs.declared.pending.Pending.{Pending}
+use Rattle.monotone_check.specs.declared.pending_checks.Pending.{Pending}
 use Rattle.monotone_check.specs.Summary.{IsTerm, IsRange}
 
 -- The terms, the last one first, whose nodes end before the number n.

@@ -7,8 +7,8 @@ use Rattle.fd_language.specs.Needs.{stronger}
 use Rattle.fd_language.specs.declared.range_node.RangeNode.{RangeNode}
 use Rattle.fd_language.specs.declared.range_node.RangeNode.TheVariants as node
 use Rattle.monotone_check.specs.declared.parameter_places.Asked.{Asked}
-use Rattle.monotone_check.specs.declared.asks.OpenTerm.{OpenTerm}
-use Rattle.monotone_check.specs.declared.asks.AskReader.{AskReader}
+use Rattle.monotone_check.specs.declared.parameter_asks.OpenTerm.{OpenTerm}
+use Rattle.monotone_check.specs.declared.parameter_asks.AskReader.{AskReader}
 
 abbrev pub raise : Need → Need
 raise n = stronger n Natural
@@ -50,10 +50,12 @@ abbrev pub asks_now : AskReader → List (ℕ × Need)
 asks_now r = told 0 r.asking.places.items
 
 abbrev pub Opens : Bool → AskReader → AskReader → Type 0
-Opens literal old new = (s : OpenTerm) × (new.terms.items ≡ old.terms.items ++ s ∷ []) × (s.literal ≡ literal) × (s.parameter ≡ false) × (s.from ≡ length old.asking.places.items) × (asks_now new ≡ asks_now old)
+Opens literal old new = (s : OpenTerm) × (new.terms.items ≡ old.terms.items ++ s ∷ []) × (s.literal ≡ literal) × (s.parameter ≡ false)
+    × (s.from ≡ length old.asking.places.items) × (asks_now new ≡ asks_now old)
 
 abbrev pub OpensParameter : ℕ → AskReader → AskReader → Type 0
-OpensParameter x old new = (s : OpenTerm) × (new.terms.items ≡ old.terms.items ++ s ∷ []) × (s.literal ≡ false) × (s.parameter ≡ true) × (s.from ≡ length old.asking.places.items) × (asks_now new ≡ asks_now old ++ (x, Whole) ∷ [])
+OpensParameter x old new = (s : OpenTerm) × (new.terms.items ≡ old.terms.items ++ s ∷ []) × (s.literal ≡ false) × (s.parameter ≡ true)
+    × (s.from ≡ length old.asking.places.items) × (asks_now new ≡ asks_now old ++ (x, Whole) ∷ [])
 
 abbrev pub Operates : RangeNode → AskReader → AskReader → Type 0
 Operates n old new = (front : List OpenTerm) (a b : OpenTerm) → old.terms.items ≡ (front ++ a ∷ []) ++ b ∷ [] →
@@ -64,4 +66,5 @@ Closes old new = (new.terms.items ≡ []) × (asks_now new ≡ asks_now old)
 
 abbrev pub ClosesQuotient : AskReader → AskReader → Type 0
 ClosesQuotient old new = (front : List OpenTerm) (c : OpenTerm) → old.terms.items ≡ front ++ c ∷ [] →
-    (new.terms.items ≡ []) × (c.parameter ≡ true → (ds : List (ℕ × Need)) (x : ℕ) (n : Need) → asks_now old ≡ ds ++ (x, n) ∷ [] → asks_now new ≡ ds ++ (x, Divisor) ∷ []) × (c.parameter ≡ false → asks_now new ≡ asks_now old)
+    (new.terms.items ≡ []) × (c.parameter ≡ true → (ds : List (ℕ × Need)) (x : ℕ) (n : Need) → asks_now old ≡ ds ++ (x, n) ∷ []
+    → asks_now new ≡ ds ++ (x, Divisor) ∷ []) × (c.parameter ≡ false → asks_now new ≡ asks_now old)

@@ -4,7 +4,7 @@ use Rattle.fd_language.specs.declared.range_node.RangeNode.{RangeNode}
 use Rattle.fd_language.specs.declared.TheConstants.{INFINITY}
 use Rattle.monotone_check.specs.declared.summary.TermCheck.{TermCheck}
 use Rattle.monotone_check.specs.declared.summary.RangeCheck.{RangeCheck}
-use Rattle.monotone_check.specs.declared.pending.Pending.{Pending}
+use Rattle.monotone_check.specs.declared.pending_checks.Pending.{Pending}
 use Rattle.monotone_check.specs.Summary.{IsLeaf, IsOperated, IsSpan, IsSingle, IsDomain, IsCombined, IsComplement, IsPointwise}
 
 abbrev pub PushesLeaf : RangeNode → ℕ → Pending → Pending → Type 0

@@ -1,5 +1,6 @@
 -- What the check keeps of a term and of a range.
-use Rattle.std.specs.Prelude.{◌≡◌, ℕ, ◌+◌, ◌*◌, ◌^◌, min, max, Bool, true, false, if◌then◌else◌, ℤ, pos, ◌+ℤ◌, ◌-ℤ◌, ◌*ℤ◌, int_le, Option, Some, None, IfSome, FitsSigned}
+use Rattle.std.specs.Prelude.{◌≡◌, ℕ, ◌+◌, ◌*◌, ◌^◌, min, max, Bool, true, false, if◌then◌else◌, ℤ, pos, ◌+ℤ◌, ◌-ℤ◌, ◌*ℤ◌, int_le, Option, Some, None, IfSome}
+use Rattle.std.specs.Prelude.{FitsSigned}
 use Rattle.std.specs.Int.{w128}
 use Rattle.fd_language.specs.declared.range_node.RangeNode.{RangeNode}
 use Rattle.fd_language.specs.declared.range_node.RangeNode.TheVariants as node
@@ -8,7 +9,8 @@ use Rattle.fd_language.specs.declared.range_node.Offence.TheVariants.{NotMonoton
 use Rattle.fd_language.specs.Range.{Range, Expr, Number, Infinity, Param, Min, Max, Val}
 use Rattle.fd_language.specs.Needs.{is_literal}
 use Rattle.fd_language.specs.Check.{Wish, turn, literal_value, is_parameter}
-use Rattle.fd_language.specs.RangeVerdict.{bound, wide_in_expr, wide_in_range, where_too_wide, over_limit, factor_over_limit, where_below_zero, where_natural, unless_divides, scaled, expr_offences, range_offences, expr_within, range_within, earlier, first}
+use Rattle.fd_language.specs.RangeVerdict.{bound, wide_in_expr, wide_in_range, where_too_wide, over_limit, factor_over_limit, where_below_zero, where_natural}
+use Rattle.fd_language.specs.RangeVerdict.{unless_divides, scaled, expr_offences, range_offences, expr_within, range_within, earlier, first}
 use Rattle.monotone_check.specs.declared.offences.Wishes.{Wishes}
 use Rattle.monotone_check.specs.declared.summary.TermCheck.{TermCheck}
 use Rattle.monotone_check.specs.declared.summary.RangeCheck.{RangeCheck}

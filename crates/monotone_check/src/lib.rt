@@ -3,25 +3,25 @@
 #![tactic(auto)]
 
 ghost use Rattle.std.specs.Prelude.{◌≡◌, length, IsTrue, MatchResult, IfOk, Some, None};
-ghost use Rattle.fd_language.specs.Flat.{nodes_of};
+ghost use Rattle.fd_language.specs.PostfixRanges.{nodes_of};
 ghost use Rattle.fd_language.specs.Needs.{needs as needs_of};
 ghost use Rattle.fd_language.specs.RangeVerdict.{verdict, is_accepted};
 ghost use Rattle.monotone_check.specs.Faults.{IsFaultOf};
 
-mod asks;
 mod clash;
-mod gather;
+mod node_walk;
 mod offences;
+mod parameter_asks;
 mod parameter_places;
-mod pending;
+mod pending_checks;
+mod strongest_needs;
 mod summary;
-mod walk;
 
-use crate::asks::read_asks;
 use crate::clash::first_clash;
-use crate::gather::gather;
+use crate::node_walk::summarize;
 use crate::offences::earlier;
-use crate::walk::summarize;
+use crate::parameter_asks::read_asks;
+use crate::strongest_needs::gather;
 use fd_language::{FlatRange, INFINITY, Need, NoMemory, Offence};
 use std::alloc::Global;
 use std::marker::Model;
@@ -59,7 +59,7 @@ impl Model for Checked {
     ghost use Rattle.std.specs.Coded.{code_by, coded_list};
     ghost use Rattle.fd_language.specs.contracts.range_node.RangeNode as node;
     ghost use Rattle.fd_language.specs.Range.{Range};
-    ghost use Rattle.fd_language.specs.Flat.{nodes_of, spelled_range, spelled_range-nodes};
+    ghost use Rattle.fd_language.specs.PostfixRanges.{nodes_of, spelled_range, spelled_range-nodes};
 
     ghost Value = { Range };
 

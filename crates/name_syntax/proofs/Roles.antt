@@ -11,6 +11,7 @@ some_map f None = refl
 some_map f (Some x) = refl
 
 -- the roles of a name tell whether it is an operator's
-pub roles_tell : (name : Name) (f g : Option Operator) → option_map (operator_of name) f ≡ infix_of name → option_map (operator_of name) g ≡ prefix_of name → (is_some f || is_some g) ≡ is_operator name
+pub roles_tell : (name : Name) (f g : Option Operator) → option_map (operator_of name) f ≡ infix_of name → option_map (operator_of name) g ≡ prefix_of name
+    → (is_some f || is_some g) ≡ is_operator name
 unfolding is_operator
 roles_tell name f g h k = rw (← h, ← k, some_map (operator_of name) f, some_map (operator_of name) g) refl

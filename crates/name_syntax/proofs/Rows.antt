@@ -1,5 +1,6 @@
 -- The rows of the table, found by bisection.
-use Rattle.std.proofs.Common.{◌≡◌, ◌∙◌, sym, ap, subst, ℕ, zero, suc, ◌<◌, ◌≤◌, List, [], ◌∷◌, length, get_or, Option, Some, None, Bool, true, false, cond, refl, arith, add-one, Ordering, Less, Equal, Greater, Err}
+use Rattle.std.proofs.Common.{◌≡◌, ◌∙◌, sym, ap, subst, ℕ, zero, suc, ◌<◌, ◌≤◌, List, [], ◌∷◌, length, get_or, Option, Some, None, Bool, true, false, cond}
+use Rattle.std.proofs.Common.{refl, arith, add-one, Ordering, Less, Equal, Greater, Err}
 use Rattle.std.specs.Prelude.{find, map, option_map}
 use Rattle.std.specs.Cmp.Lexicographic.{slice_cmp}
 use Rattle.std.specs.List.{list_any, HoldsAt}
@@ -73,10 +74,12 @@ module _ (rs : List Row) (are : AreRows rs) (name : Name) where
     named = same_name (name_of (get_or rs i d)) name (equal d)
 
     pub found_infix : option_map (operator_of name) (get_or rs i d).roles.infix ≡ infix_of name
-    found_infix = subst (λ (n : Name). option_map (operator_of n) (get_or rs i d).roles.infix ≡ infix_of n) named (at (λ r. option_map (operator_of (name_of r)) r.roles.infix) (λ r. infix_of (name_of r)) rs i d within are.between)
+    found_infix = subst (λ (n : Name). option_map (operator_of n) (get_or rs i d).roles.infix ≡ infix_of n) named
+        (at (λ r. option_map (operator_of (name_of r)) r.roles.infix) (λ r. infix_of (name_of r)) rs i d within are.between)
 
     pub found_prefix : option_map (operator_of name) (get_or rs i d).roles.prefix ≡ prefix_of name
-    found_prefix = subst (λ (n : Name). option_map (operator_of n) (get_or rs i d).roles.prefix ≡ prefix_of n) named (at (λ r. option_map (operator_of (name_of r)) r.roles.prefix) (λ r. prefix_of (name_of r)) rs i d within are.before)
+    found_prefix = subst (λ (n : Name). option_map (operator_of n) (get_or rs i d).roles.prefix ≡ prefix_of n) named
+        (at (λ r. option_map (operator_of (name_of r)) r.roles.prefix) (λ r. prefix_of (name_of r)) rs i d within are.before)
 
   -- ---- a name that isn't
 

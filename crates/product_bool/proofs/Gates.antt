@@ -37,13 +37,15 @@ three_second rows x y z n m q h g =
     ap (λ r. of_both (λ p c. Ok (on_three rows n p.0 p.1 c)) (of_both pair_of r (as_member y)) (as_member z)) h
     ∙ ap (λ r. of_both (λ p c. Ok (on_three rows n p.0 p.1 c)) (of_both pair_of (Ok m) r) (as_member z)) g
 
-pub three_third : (rows : ℕ → ℕ → ℕ → List Indexical) (x y z : Term) (n : ℕ) (m k : Member) (q : QueryFault) → as_member x ≡ Ok m → as_member y ≡ Ok k → as_member z ≡ Err q → of_three rows x y z n ≡ Err q
+pub three_third : (rows : ℕ → ℕ → ℕ → List Indexical) (x y z : Term) (n : ℕ) (m k : Member) (q : QueryFault) → as_member x ≡ Ok m → as_member y ≡ Ok k
+    → as_member z ≡ Err q → of_three rows x y z n ≡ Err q
 three_third rows x y z n m k q h g f =
     ap (λ r. of_both (λ p c. Ok (on_three rows n p.0 p.1 c)) (of_both pair_of r (as_member y)) (as_member z)) h
     ∙ (ap (λ r. of_both (λ p c. Ok (on_three rows n p.0 p.1 c)) (of_both pair_of (Ok m) r) (as_member z)) g
     ∙ ap (λ (r : Result Member QueryFault). of_both (λ (p : Member × Member) c. Ok (on_three rows n p.0 p.1 c)) (Ok (m, k)) r) f)
 
-pub three_made : (rows : ℕ → ℕ → ℕ → List Indexical) (x y z : Term) (n : ℕ) (m k l : Member) → as_member x ≡ Ok m → as_member y ≡ Ok k → as_member z ≡ Ok l → of_three rows x y z n ≡ Ok (on_three rows n m k l)
+pub three_made : (rows : ℕ → ℕ → ℕ → List Indexical) (x y z : Term) (n : ℕ) (m k l : Member) → as_member x ≡ Ok m → as_member y ≡ Ok k → as_member z ≡ Ok l
+    → of_three rows x y z n ≡ Ok (on_three rows n m k l)
 three_made rows x y z n m k l h g f =
     ap (λ r. of_both (λ p c. Ok (on_three rows n p.0 p.1 c)) (of_both pair_of r (as_member y)) (as_member z)) h
     ∙ (ap (λ r. of_both (λ p c. Ok (on_three rows n p.0 p.1 c)) (of_both pair_of (Ok m) r) (as_member z)) g

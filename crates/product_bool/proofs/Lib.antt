@@ -1,6 +1,6 @@
-mod Adding
+mod SumSizes
 mod Arguments
 mod Factors
 mod Gates
-mod Telling
-mod Told
+mod TellingSums
+mod ReifiedParts

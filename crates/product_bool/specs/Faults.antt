@@ -6,7 +6,7 @@ use Rattle.fd_model.specs.declared.kinds.ListCause.{ListCause}
 use Rattle.fd_model.specs.declared.kinds.ListCause.TheVariants as cause
 use Rattle.linear_forms.specs.declared.LinearFault.{LinearFault}
 use Rattle.linear_forms.specs.declared.LinearFault.TheVariants as linear
-use Rattle.linear_forms.specs.Form as form
+use Rattle.linear_forms.specs.LinearForm as form
 use Rattle.product_bool.specs.declared.faults.SplitFault.{SplitFault}
 use Rattle.product_bool.specs.declared.faults.SplitFault.TheVariants as fault
 

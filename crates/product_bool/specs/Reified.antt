@@ -9,7 +9,7 @@ use Rattle.fd_model.specs.Linear.{Comparison, IsEqual, IsOther, IsAtMost, turned
 use Rattle.fd_model.specs.ReifiedRows.{formed, read_comparison, magnitudes, told_by, both_sums, reified_ranges, reified_end}
 use Rattle.fd_model.specs.Splitting as splitting
 use Rattle.linear_forms.specs.declared.Linear.{Linear}
-use Rattle.linear_forms.specs.Form.{form_of}
+use Rattle.linear_forms.specs.LinearForm.{form_of}
 use Rattle.term_pool.specs.declared.TermId.{TermId}
 use Rattle.term_pool.specs.Contents.{Contents}
 use Rattle.term_pool.specs.Terms.{term_of}

@@ -5,8 +5,8 @@ use Rattle.fd_model.specs.Linear as linear
 use Rattle.fd_model.specs.Linear.{with_product, in_integers}
 use Rattle.fd_model.specs.ReifiedRows.{told_by}
 use Rattle.linear_forms.specs.declared.Linear.{Linear}
-use Rattle.linear_forms.specs.Form.{form_of}
-use Rattle.linear_forms.specs.Inside.{AreIntegers, IsInside}
+use Rattle.linear_forms.specs.LinearForm.{form_of}
+use Rattle.linear_forms.specs.IntegerSums.{AreIntegers, IsInside}
 use Rattle.product_bool.specs.declared.faults.SplitFault.{SplitFault}
 use Rattle.product_bool.specs.Faults.{IsFaultOf}
 

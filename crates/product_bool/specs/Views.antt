@@ -2,7 +2,7 @@
 use Rattle.std.specs.Prelude.{◌≡◌, map, Option, Some, None, MatchOption, MatchResult, Result, Ok, Err}
 use Rattle.fd_model.specs.declared.kinds.QueryFault.{QueryFault}
 use Rattle.fd_model.specs.Splitting as splitting
-use Rattle.linear_forms.specs.Form.{form_of}
+use Rattle.linear_forms.specs.LinearForm.{form_of}
 use Rattle.product_bool.specs.declared.parts.Split.{Split}
 use Rattle.product_bool.specs.declared.faults.SplitFault.{SplitFault}
 use Rattle.product_bool.specs.declared.faults.SplitFault.TheVariants as fault

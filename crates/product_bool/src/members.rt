@@ -3,7 +3,7 @@
 ghost use Rattle.std.specs.Prelude.{◌≡◌, ◌<◌, ◌+◌, ◌^◌, ◌++◌, [], ◌∷◌, length, IfOk, OnOk};
 ghost use Rattle.fd_model.specs.Members.{as_member, place_of, after, equated_from};
 ghost use Rattle.term_pool.specs.Terms.{term_of};
-ghost use Rattle.term_pool.specs.Valid.{IsPool};
+ghost use Rattle.term_pool.specs.PoolInvariant.{IsPool};
 ghost use Rattle.product_bool.specs.Members.{member_of, Reads, Places};
 
 use fd_language::NoMemory;

@@ -1,7 +1,7 @@
 //! Ranges as they are posted.
 
 ghost use Rattle.std.specs.Prelude.{◌≡◌, ◌++◌, [], ◌∷◌, IsTrue, OnOk};
-ghost use Rattle.fd_language.specs.Flat.{nodes_of, spelled_range};
+ghost use Rattle.fd_language.specs.PostfixRanges.{nodes_of, spelled_range};
 ghost use Rattle.fd_language.specs.RangeVerdict.{is_accepted};
 ghost use Rattle.fd_model.specs.BooleanRows.{bit as bit_row};
 ghost use Rattle.fd_model.specs.ProductRows.{product as product_row};

@@ -4,7 +4,7 @@ ghost use Rattle.std.specs.Prelude.{◌≡◌, ◌<◌, ◌+◌, ◌^◌, ◌∷
 ghost use Rattle.fd_model.specs.ProductRows.{factors as factors_of, with_result as with_result_of, product_form as form_of, product_ranges, quotient as quotient_row};
 ghost use Rattle.fd_model.specs.Splitting.{product_of};
 ghost use Rattle.term_pool.specs.Terms.{term_of};
-ghost use Rattle.term_pool.specs.Valid.{IsPool};
+ghost use Rattle.term_pool.specs.PoolInvariant.{IsPool};
 ghost use Rattle.product_bool.specs.Posts.{Posts};
 ghost use Rattle.product_bool.specs.Products.{variable_at, FindsForm};
 ghost use Rattle.product_bool.specs.Views.{Splits};

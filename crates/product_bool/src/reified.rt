@@ -5,7 +5,7 @@ ghost use Rattle.fd_language.specs.declared.TheConstants.{INFINITY};
 ghost use Rattle.fd_model.specs.Linear.{comparison, IsEqual, IsOther, IsAtMost};
 ghost use Rattle.fd_model.specs.ReifiedRows.{relation_named, reach as reach_of, equal_ranges};
 ghost use Rattle.fd_model.specs.Splitting.{reified as reified_of};
-ghost use Rattle.linear_forms.specs.Form.{form_of};
+ghost use Rattle.linear_forms.specs.LinearForm.{form_of};
 ghost use Rattle.term_pool.specs.Terms.{term_of};
 ghost use Rattle.product_bool.specs.Posts.{Posts};
 ghost use Rattle.product_bool.specs.Reified.{FindsSides, IsFar, TellsBoth, told_parts};

@@ -3,9 +3,9 @@
 ghost use Rattle.std.specs.Prelude.{◌≡◌, true, pos, nat_abs, MatchOption, IfOk};
 ghost use Rattle.fd_model.specs.ReifiedRows.{magnitudes as magnitudes_of, reach as reach_of};
 ghost use Rattle.fd_language.specs.declared.TheConstants.{INFINITY};
-ghost use Rattle.linear_forms.specs.Form.{form_of};
+ghost use Rattle.linear_forms.specs.LinearForm.{form_of};
 ghost use Rattle.fd_model.specs.Linear.{in_integers};
-ghost use Rattle.linear_forms.specs.Inside.{AreIntegers, IsInside};
+ghost use Rattle.linear_forms.specs.IntegerSums.{AreIntegers, IsInside};
 ghost use Rattle.linear_forms.specs.Shares.{IsWithin};
 ghost use Rattle.product_bool.specs.Reified.{IsFar};
 ghost use Rattle.product_bool.specs.Sums.{IsNormal, FindsProduct, Exceeds, Adds, Tells};

@@ -2,8 +2,8 @@
 #![tactic(auto)]
 
 #[cfg(test)]
-mod runs;
+mod assertions;
 #[cfg(test)]
-mod same;
+mod runs;
 #[cfg(test)]
 mod words;

@@ -1,6 +1,6 @@
 //! What runs write, over ends in memory.
 
-use crate::same::same;
+use crate::assertions::same;
 use byte_ports::{MemorySink, MemorySource, SmallSink, SmallSource};
 use fd_model::Status;
 use std::alloc::Global;

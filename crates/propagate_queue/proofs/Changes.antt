@@ -3,7 +3,7 @@ use Rattle.std.proofs.Common.{◌≡◌, ℕ, Bool, ◌||◌, ◌&&◌, ◌==◌
 use Rattle.fd_language.specs.declared.range_node.Feature.{Feature}
 use Rattle.fd_language.specs.declared.range_node.Feature.TheVariants as feature
 use Rattle.fd_model.specs.Changes.{is_changed, sees_change}
-use Rattle.dependency_chains.specs.Waking.{change_of, wakes, is_woken}
+use Rattle.dependency_chains.specs.WokenAgents.{change_of, wakes, is_woken}
 
 same_wake : (old new : List ℕ) (f : Feature) → is_changed old new f ≡ wakes (change_of old new) f
 same_wake old new feature.Min = refl

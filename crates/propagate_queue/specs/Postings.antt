@@ -10,7 +10,7 @@ use Rattle.range_code.specs.contracts.frame.Arg as arg
 use Rattle.range_code.specs.Frames.{IsFrame, posted}
 use Rattle.dependency_chains.specs.declared.Change.{Change}
 use Rattle.dependency_chains.specs.AgentReads.{AgentRead}
-use Rattle.dependency_chains.specs.Waking.{wakes, is_woken}
+use Rattle.dependency_chains.specs.WokenAgents.{wakes, is_woken}
 
 pub record Posting : Type 0 where
   pub range : Range
@@ -18,7 +18,8 @@ pub record Posting : Type 0 where
   pub args : List Arg
 
 abbrev pub posting_coded : Coded Posting
-posting_coded = code_by (Range × (ℕ × List Arg)) (coded× range_coded (coded× coded_ℕ (coded_list arg.the_row.coded))) (λ p. (p.range, (p.target, p.args))) (λ d. record { range = d.0; target = d.1.0; args = d.1.1 }) (λ _. refl)
+posting_coded = code_by (Range × (ℕ × List Arg)) (coded× range_coded (coded× coded_ℕ (coded_list arg.the_row.coded))) (λ p. (p.range, (p.target, p.args)))
+    (λ d. record { range = d.0; target = d.1.0; args = d.1.1 }) (λ _. refl)
 
 abbrev pub postings_coded : Coded (List Posting)
 postings_coded = coded_list posting_coded
@@ -48,4 +49,5 @@ IsPosting count p = (p.target < count) × IsFrame count p.range p.args
 -- the agents that a change of x wakes are those that read what changed
 pub record AreReaders (ps : List Indexical) (reads : List AgentRead) : Type 0 where
   pub known : All (λ r. r.agent < length ps) reads
-  pub same : (a : ℕ) (d : Indexical) (x : ℕ) (c : Change) → a < length ps → list_any (λ r. (r.agent == a) && ((r.var == x) && wakes c r.feature)) reads ≡ is_woken c x (range_features (slice_index_or ps a d).range)
+  pub same : (a : ℕ) (d : Indexical) (x : ℕ) (c : Change) → a < length ps
+      → list_any (λ r. (r.agent == a) && ((r.var == x) && wakes c r.feature)) reads ≡ is_woken c x (range_features (slice_index_or ps a d).range)

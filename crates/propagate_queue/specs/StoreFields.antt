@@ -5,7 +5,7 @@ use Rattle.fd_language.specs.Family.{universe}
 use Rattle.fd_language.specs.Range.{Indexical}
 use Rattle.fd_model.specs.Weights.{weights, whole_weights}
 use Rattle.range_code.specs.Frames.{family_of}
-use Rattle.fd_model.specs.Closed.{AllPosted}
+use Rattle.fd_model.specs.ClosedFamilies.{AllPosted}
 use Rattle.fd_language.specs.Monotonicity.{IsMonotone}
 use Rattle.dependency_chains.specs.AgentReads.{AgentRead, AgentReads}
 use Rattle.domain_trail.specs.Stores.{Stores}
@@ -13,7 +13,7 @@ use Rattle.propagate_queue.specs.declared.store.Posted.{Posted}
 use Rattle.propagate_queue.specs.declared.store.Posted.TheVariants.{Kept, Failed}
 use Rattle.propagate_queue.specs.Postings.{Posting, ranges_of, IsPosting, AreReaders}
 use Rattle.propagate_queue.specs.Queues.{AreQueued}
-use Rattle.propagate_queue.specs.Running.{AreDomains, HasNone}
+use Rattle.propagate_queue.specs.PropagationInvariant.{AreDomains, HasNone}
 use Rattle.fd_model.specs.Levels.{Level, Levels}
 
 -- how many ranges were posted at each mark, the newest first, with the sets there

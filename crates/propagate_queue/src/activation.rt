@@ -6,7 +6,7 @@ ghost use Rattle.fd_language.specs.Family.{IsFamily};
 ghost use Rattle.fd_language.specs.Range.{is_none_left};
 ghost use Rattle.range_code.specs.Frames.{family_of};
 ghost use Rattle.propagate_queue.specs.Postings.{ranged, posting_at, IsPosting};
-ghost use Rattle.propagate_queue.specs.Running.{Activated};
+ghost use Rattle.propagate_queue.specs.PropagationInvariant.{Activated};
 
 use crate::agents::Agents;
 use domain_ranges::View;

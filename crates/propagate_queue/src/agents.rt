@@ -3,11 +3,11 @@
 ghost use Rattle.std.specs.Prelude.{◌≡◌, ◌<◌, ◌+◌, ◌-◌, ◌^◌, ◌++◌, ◌∷◌, [], ℕ, min, false, length, take, OnOk, OnErr, IfOk};
 ghost use Rattle.fd_language.specs.declared.TheConstants.{INFINITY as TOP};
 ghost use Rattle.fd_language.specs.Family.{IsFamily};
-ghost use Rattle.fd_language.specs.Flat.{nodes_of};
+ghost use Rattle.fd_language.specs.PostfixRanges.{nodes_of};
 ghost use Rattle.fd_language.specs.Range.{set_of, is_none_left};
 ghost use Rattle.domain_ranges.specs.Narrowing.{IsNarrowed};
 ghost use Rattle.range_code.specs.Frames.{family_of, IsFrame};
-ghost use Rattle.range_code.specs.Reaching.{IsReach};
+ghost use Rattle.range_code.specs.SetReaches.{IsReach};
 ghost use Rattle.propagate_queue.specs.Instances.{posting_of};
 ghost use Rattle.propagate_queue.specs.Postings.{Posting, ranged, posting_at};
 

@@ -3,16 +3,16 @@
 #![tactic(auto)]
 
 mod activation;
-mod adding;
 mod agenda;
 mod agents;
-mod cheapest;
+mod cost_agenda;
 mod instance;
 mod marked;
+mod new_agents;
 mod propagation;
 mod store;
 
 pub use crate::agenda::{Agenda, Fifo};
-pub use crate::cheapest::Cheapest;
+pub use crate::cost_agenda::Cheapest;
 pub use crate::instance::Instance;
 pub use crate::store::{Posted, Store};

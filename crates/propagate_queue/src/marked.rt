@@ -3,18 +3,18 @@
 ghost use Rattle.std.specs.Prelude.{◌≡◌, ◌<◌, ◌≤◌, ◌+◌, ◌++◌, ◌∷◌, [], ℕ, List, true, false, map, take, drop, filter, nat_lt, length, All, IfOk, OnOk, OnErr, MatchBool};
 ghost use Rattle.fd_language.specs.declared.TheConstants.{INFINITY as TOP};
 ghost use Rattle.fd_language.specs.Monotonicity.{IsMonotone};
-ghost use Rattle.fd_model.specs.Closed.{AllPosted};
+ghost use Rattle.fd_model.specs.ClosedFamilies.{AllPosted};
 ghost use Rattle.fd_model.specs.Weights.{weights};
 ghost use Rattle.range_code.specs.Frames.{family_of};
 ghost use Rattle.propagate_queue.specs.Instances.{posting, posting_of, posted_by, IsInstance};
 ghost use Rattle.propagate_queue.specs.Postings.{Posting, ranged, ranges_of, IsPosting, AreReaders, IsAdded};
 ghost use Rattle.propagate_queue.specs.Queues.{AreQueued};
-ghost use Rattle.propagate_queue.specs.Running.{AreDomains, HasNone};
+ghost use Rattle.propagate_queue.specs.PropagationInvariant.{AreDomains, HasNone};
 
-use crate::adding::{add_agents, add_one};
 use crate::agenda::Agenda;
 use crate::agents::Agents;
 use crate::instance::Instance;
+use crate::new_agents::{add_agents, add_one};
 use crate::propagation::{clear, empty, propagate};
 use crate::store::Posted;
 use dependency_chains::Chains;

@@ -4,12 +4,12 @@ ghost use Rattle.std.specs.Prelude.{◌≡◌, ◌<◌, ◌≤◌, ◌+◌, ◌|
 ghost use Rattle.fd_language.specs.declared.TheConstants.{INFINITY as TOP};
 ghost use Rattle.fd_language.specs.Family.{has, IsFamily};
 ghost use Rattle.fd_language.specs.Monotonicity.{IsMonotone};
-ghost use Rattle.fd_model.specs.Closed.{AllPosted};
+ghost use Rattle.fd_model.specs.ClosedFamilies.{AllPosted};
 ghost use Rattle.fd_model.specs.Weights.{weights};
 ghost use Rattle.range_code.specs.Frames.{family_of};
 ghost use Rattle.propagate_queue.specs.Postings.{ranges_of, IsPosting, AreReaders};
 ghost use Rattle.propagate_queue.specs.Queues.{flag_at, flagged, AreQueued};
-ghost use Rattle.propagate_queue.specs.Running.{IsRunning, AreDomains, HasNone};
+ghost use Rattle.propagate_queue.specs.PropagationInvariant.{IsRunning, AreDomains, HasNone};
 
 use crate::activation::activate;
 use crate::agenda::Agenda;

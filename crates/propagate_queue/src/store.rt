@@ -6,11 +6,11 @@
 ghost use Rattle.std.specs.Prelude.{◌≡◌, ◌<◌, ◌≤◌, ◌+◌, ◌++◌, ◌∷◌, [], true, false, drop, length, replicate, All, IfOk, OnOk, OnErr};
 ghost use Rattle.fd_language.specs.declared.TheConstants.{INFINITY as TOP};
 ghost use Rattle.fd_language.specs.Monotonicity.{IsMonotone};
-ghost use Rattle.fd_model.specs.Closed.{AllPosted};
+ghost use Rattle.fd_model.specs.ClosedFamilies.{AllPosted};
 ghost use Rattle.range_code.specs.Frames.{family_of};
 ghost use Rattle.propagate_queue.specs.Instances.{posting_of, posted_by, IsInstance};
 ghost use Rattle.propagate_queue.specs.Postings.{ranged, IsPosting};
-ghost use Rattle.propagate_queue.specs.Running.{AreDomains, HasNone};
+ghost use Rattle.propagate_queue.specs.PropagationInvariant.{AreDomains, HasNone};
 
 use crate::agenda::Agenda;
 use crate::instance::Instance;

@@ -1,5 +1,6 @@
 -- How the nodes of a range are read as a choice, and how numbers are chosen.
-use Rattle.std.proofs.Common.{◌≡◌, ℕ, ◌*◌, ◌≤◌, length, Bool, true, false, ◌&&◌, ◌||◌, ◌==◌, eqb-true, eq-eqb, ℤ, pos, ◌+ℤ◌, ◌*ℤ◌, List, [], ◌∷◌, ◌++◌, filter, sym, ◌∙◌, ap, subst, arith}
+use Rattle.std.proofs.Common.{◌≡◌, ℕ, ◌*◌, ◌≤◌, length, Bool, true, false, ◌&&◌, ◌||◌, ◌==◌, eqb-true, eq-eqb, ℤ, pos, ◌+ℤ◌, ◌*ℤ◌, List, [], ◌∷◌, ◌++◌, filter}
+use Rattle.std.proofs.Common.{sym, ◌∙◌, ap, subst, arith}
 use Rattle.fd_language.proofs.Lemmas.{some_from}
 use Rattle.std.specs.List.{All}
 use Rattle.std.specs.List.Sorted.{IsPermutation}
@@ -18,7 +19,7 @@ use Rattle.fd_language.specs.declared.range_node.RangeNode.{RangeNode}
 use Rattle.fd_language.specs.declared.range_node.RangeNode.TheVariants as node
 use Rattle.fd_language.specs.Family.{Family, has, universe}
 use Rattle.fd_language.specs.Range.{Range, Union, some_number}
-use Rattle.fd_language.specs.Flat.{nodes_of, range_nodes, built, builds_range}
+use Rattle.fd_language.specs.PostfixRanges.{nodes_of, range_nodes, built, builds_range}
 use Rattle.domain_ranges.proofs.Lemmas.{set_same, some_has, int_same, same_int, pos_same, times_zero}
 use Rattle.range_code.specs.declared.frame.Arg.{Arg}
 use Rattle.range_code.specs.declared.choice.Choice.{Choice}
@@ -65,7 +66,8 @@ module _ (S : Family) (p : ℕ → ℤ) (m : Part) (n : ℕ) (low : n ≤ INFINI
       some_has INFINITY from_zero 0 (omega arith)
       (and_from (some_number INFINITY (from_key 0)) (int_eq (pos 0 +ℤ m.number) (pos n))
       (some_has INFINITY (from_key 0) k high
-      (and_from (key_there k) (int_eq (pos k *ℤ pos 0) (pos 0)) (and_from (int_eq m.key (pos k)) (has (S m.slot) k) (int_same m.key (pos k) is) h) (int_same (pos (k * 0)) (pos 0) (ap pos (times_zero k)))))
+      (and_from (key_there k) (int_eq (pos k *ℤ pos 0) (pos 0)) (and_from (int_eq m.key (pos k)) (has (S m.slot) k) (int_same m.key (pos k) is) h)
+      (int_same (pos (k * 0)) (pos 0) (ap pos (times_zero k)))))
       (int_same (pos 0 +ℤ m.number) (pos n) number))
 
   none_there : ((k j : ℕ) → k ≤ INFINITY → j ≤ INFINITY → m.key ≡ pos k → m.number ≡ pos j → ⊥) → is_in S p (part_range m) n ≡ false
@@ -108,7 +110,8 @@ choosing_first ns rest m ds e a = record {
   seen = λ count args h. third_seen count args m rest (subst (All (IsReadable count args)) e h);
 }
 
-pub choosing_more : (ns rest behind : List RangeNode) (slot : ℕ) (m : Part) (old new : List (ℕ × ℕ)) → IsChoosing ns slot old rest → rest ≡ range_nodes (part_range m) (node.Union ∷ behind) → m.slot ≡ slot → IsPairAdded m old new → IsChoosing ns slot new behind
+pub choosing_more : (ns rest behind : List RangeNode) (slot : ℕ) (m : Part) (old new : List (ℕ × ℕ)) → IsChoosing ns slot old rest
+    → rest ≡ range_nodes (part_range m) (node.Union ∷ behind) → m.slot ≡ slot → IsPairAdded m old new → IsChoosing ns slot new behind
 choosing_more ns rest behind slot m old new f e s a = record {
   range = Union f.range (part_range m);
   nodes = f.nodes ∙ (ap (λ l. built l (f.range ∷ []) []) e ∙ builds_range (part_range m) (node.Union ∷ behind) (f.range ∷ []));
@@ -117,12 +120,14 @@ choosing_more ns rest behind slot m old new f e s a = record {
   seen = f.seen;
 }
 
-pub choosing_whole : (ns rest : List RangeNode) (ds : List (ℕ × ℕ)) (c : Choice) → IsChoosing ns c.slot ds rest → length rest ≡ 0 → IsPermutation ds c.pairs.items → AreRising c.pairs.items → (r : Range) → ns ≡ nodes_of r → IsChoice r c
+pub choosing_whole : (ns rest : List RangeNode) (ds : List (ℕ × ℕ)) (c : Choice) → IsChoosing ns c.slot ds rest → length rest ≡ 0
+    → IsPermutation ds c.pairs.items → AreRising c.pairs.items → (r : Range) → ns ≡ nodes_of r → IsChoice r c
 choosing_whole ns rest ds c f none perm rise r e =
     let is : r ≡ f.range = same_Some r f.range (sym (ap (λ l. built l [] []) e ∙ builds_range r [] []) ∙ (f.nodes ∙ ap (λ l. built l (f.range ∷ []) []) (nil_from_length rest none))) in
     record {
       set = λ S p. ap (λ q. filter (is_in S p q) (universe INFINITY)) is
-          ∙ set_same INFINITY (is_in S p f.range) (is_chosen (S c.slot) c.pairs.items) (λ n low. f.same S p n low ∙ list_any-IsPermutation (λ d. has (S c.slot) d.0 && (d.1 == n)) ds c.pairs.items perm);
+          ∙ set_same INFINITY (is_in S p f.range) (is_chosen (S c.slot) c.pairs.items)
+          (λ n low. f.same S p n low ∙ list_any-IsPermutation (λ d. has (S c.slot) d.0 && (d.1 == n)) ds c.pairs.items perm);
       high = All-permutation IsHigh ds c.pairs.items perm f.high;
       rising = rise;
       seen = λ count args h. f.seen count args (subst (All (IsReadable count args)) (sym e) h);

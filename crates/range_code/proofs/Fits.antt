@@ -1,5 +1,6 @@
 -- An accepted range fits, once its parameters meet their needs.
-use Rattle.std.proofs.Common.{◌≡◌, ℕ, Bool, true, false, ◌||◌, ◌&&◌, ◌==◌, eq-eqb, ℤ, pos, ◌+ℤ◌, ◌-ℤ◌, ◌*ℤ◌, ◌≤ℤ◌, int_le, List, [], ◌∷◌, ◌++◌, map, refl, sym, ap, subst}
+use Rattle.std.proofs.Common.{◌≡◌, ℕ, Bool, true, false, ◌||◌, ◌&&◌, ◌==◌, eq-eqb, ℤ, pos, ◌+ℤ◌, ◌-ℤ◌, ◌*ℤ◌, ◌≤ℤ◌, int_le, List, [], ◌∷◌, ◌++◌, map, refl, sym}
+use Rattle.std.proofs.Common.{ap, subst}
 use Rattle.std.specs.List.{All}
 use Rattle.std.proofs.lemmas.Int.{ints}
 use Rattle.std.proofs.lemmas.Bool.{true≢false, or_left, and_parts}
@@ -7,7 +8,8 @@ use Rattle.std.proofs.Common.{arith}
 use Rattle.std.proofs.lemmas.List.Elements.{All-nil, All-cons, All-head, All-tail, All-append}
 use Rattle.fd_language.specs.declared.TheConstants.{INFINITY}
 use Rattle.fd_language.specs.Family.{Family, has, universe}
-use Rattle.fd_language.specs.Range.{Range, Span, One, Dom, Union, Inter, Outside, Plus, Minus, Times, Over, Expr, Number, Infinity, Param, Min, Max, Val, Add, Sub, Mul, DivDown, DivUp, value, div_down, div_up, least, greatest, reads, expr_reads}
+use Rattle.fd_language.specs.Range.{Range, Span, One, Dom, Union, Inter, Outside, Plus, Minus, Times, Over, Expr, Number, Infinity, Param, Min, Max, Val, Add}
+use Rattle.fd_language.specs.Range.{Sub, Mul, DivDown, DivUp, value, div_down, div_up, least, greatest, reads, expr_reads}
 use Rattle.fd_language.specs.Needs.{is_literal}
 use Rattle.fd_language.specs.Check.{Constant, fill, fill_range, literal_value, is_parameter, expr_fits, range_fits}
 use Rattle.fd_language.specs.EvaluatedValues.{expr_values, expr_divisors, range_values, range_divisors}
@@ -82,9 +84,12 @@ module _ (S : Family) (p : ℕ → ℤ) where
   no_divisors (Min y) h = absurd (true≢false (sym h))
   no_divisors (Max y) h = absurd (true≢false (sym h))
   no_divisors (Val y) h = absurd (true≢false (sym h))
-  no_divisors (Add a b) h = All-append NotNegative (expr_divisors INFINITY S (fill p a)) (expr_divisors INFINITY S (fill p b)) (no_divisors a ((and_parts (is_literal a) (is_literal b) h).0)) (no_divisors b ((and_parts (is_literal a) (is_literal b) h).1))
-  no_divisors (Sub a b) h = All-append NotNegative (expr_divisors INFINITY S (fill p a)) (expr_divisors INFINITY S (fill p b)) (no_divisors a ((and_parts (is_literal a) (is_literal b) h).0)) (no_divisors b ((and_parts (is_literal a) (is_literal b) h).1))
-  no_divisors (Mul a b) h = All-append NotNegative (expr_divisors INFINITY S (fill p a)) (expr_divisors INFINITY S (fill p b)) (no_divisors a ((and_parts (is_literal a) (is_literal b) h).0)) (no_divisors b ((and_parts (is_literal a) (is_literal b) h).1))
+  no_divisors (Add a b) h = All-append NotNegative (expr_divisors INFINITY S (fill p a)) (expr_divisors INFINITY S (fill p b))
+      (no_divisors a ((and_parts (is_literal a) (is_literal b) h).0)) (no_divisors b ((and_parts (is_literal a) (is_literal b) h).1))
+  no_divisors (Sub a b) h = All-append NotNegative (expr_divisors INFINITY S (fill p a)) (expr_divisors INFINITY S (fill p b))
+      (no_divisors a ((and_parts (is_literal a) (is_literal b) h).0)) (no_divisors b ((and_parts (is_literal a) (is_literal b) h).1))
+  no_divisors (Mul a b) h = All-append NotNegative (expr_divisors INFINITY S (fill p a)) (expr_divisors INFINITY S (fill p b))
+      (no_divisors a ((and_parts (is_literal a) (is_literal b) h).0)) (no_divisors b ((and_parts (is_literal a) (is_literal b) h).1))
   no_divisors (DivDown a b) h = absurd (true≢false (sym h))
   no_divisors (DivUp a b) h = absurd (true≢false (sym h))
 
@@ -203,14 +208,22 @@ module _ (f : ℕ → ℕ) (S T : Family) (p : ℕ → ℤ) where
       let d = All-tail NotNegative (filled_value S given b) (Divisors a ++ Divisors b) g in (
         term_fits a (agree_left (expr_reads a) (expr_reads b) s) l (front_all NotNegative (Divisors a) (Divisors b) d),
         term_fits b (agree_right (expr_reads a) (expr_reads b) s) (right_values a b (filled_value S given (DivDown a b)) h) (back_all NotNegative (Divisors a) (Divisors b) d),
-        (own a (agree_left (expr_reads a) (expr_reads b) s) l, subst NotNegative (value_moves b (agree_right (expr_reads a) (expr_reads b) s)) (All-head NotNegative (filled_value S given b) (Divisors a ++ Divisors b) g)),
+        (
+          own a (agree_left (expr_reads a) (expr_reads b) s) l,
+          subst NotNegative (value_moves b (agree_right (expr_reads a) (expr_reads b) s))
+              (All-head NotNegative (filled_value S given b) (Divisors a ++ Divisors b) g),
+        ),
       )
   term_fits (DivUp a b) s h g =
       let l = left_values a b (filled_value S given (DivUp a b)) h in
       let d = All-tail NotNegative (filled_value S given b) (Divisors a ++ Divisors b) g in (
         term_fits a (agree_left (expr_reads a) (expr_reads b) s) l (front_all NotNegative (Divisors a) (Divisors b) d),
         term_fits b (agree_right (expr_reads a) (expr_reads b) s) (right_values a b (filled_value S given (DivUp a b)) h) (back_all NotNegative (Divisors a) (Divisors b) d),
-        (own a (agree_left (expr_reads a) (expr_reads b) s) l, subst NotNegative (value_moves b (agree_right (expr_reads a) (expr_reads b) s)) (All-head NotNegative (filled_value S given b) (Divisors a ++ Divisors b) g)),
+        (
+          own a (agree_left (expr_reads a) (expr_reads b) s) l,
+          subst NotNegative (value_moves b (agree_right (expr_reads a) (expr_reads b) s))
+              (All-head NotNegative (filled_value S given b) (Divisors a ++ Divisors b) g),
+        ),
       )
 
   abbrev RangeValues : Range → List ℤ

@@ -1,5 +1,6 @@
 -- How the nodes of a range are read as a form.
-use Rattle.std.proofs.Common.{SFits, drop_of_length-le, ◌≡◌, ℕ, zero, suc, ◌+◌, ◌*◌, ◌-◌, ◌^◌, ◌<◌, ◌≤◌, length, take, drop, get_or, not, ℤ, pos, negsuc, neg_ℤ, nat_abs, ◌+ℤ◌, ◌-ℤ◌, ◌*ℤ◌, ◌≤ℤ◌, List, [], ◌∷◌, ◌++◌, Some, refl, sym, ◌∙◌, ap, subst, ◌⊎◌, inl, inr, arith}
+use Rattle.std.proofs.Common.{SFits, drop_of_length-le, ◌≡◌, ℕ, zero, suc, ◌+◌, ◌*◌, ◌-◌, ◌^◌, ◌<◌, ◌≤◌, length, take, drop, get_or, not, ℤ, pos, negsuc, neg_ℤ}
+use Rattle.std.proofs.Common.{nat_abs, ◌+ℤ◌, ◌-ℤ◌, ◌*ℤ◌, ◌≤ℤ◌, List, [], ◌∷◌, ◌++◌, Some, refl, sym, ◌∙◌, ap, subst, ◌⊎◌, inl, inr, arith}
 use Rattle.std.proofs.Math.Nat.{div-one}
 use Rattle.std.proofs.Math.IntN.{+ℤ_assoc, +ℤ_comm, +ℤ_idl, neg_ℤ-neg_ℤ}
 use Rattle.std.proofs.lemmas.Int.{ints, fits_signed_from_abs}
@@ -15,7 +16,8 @@ use Rattle.fd_language.specs.Family.{Family, has, universe, IsRising}
 use Rattle.fd_language.specs.Range.{Range, Expr, least, greatest, down_by, Infinity, Min, Max, Val, Add, Sub, Mul, DivDown, DivUp, Span, One, Outside, in_range}
 use Rattle.fd_language.specs.Range.{Number as Literal}
 use Rattle.fd_language.specs.Check.{fill_range}
-use Rattle.fd_language.specs.Flat.{nodes_of, built, built_behind, put, shape_of, term_alone, term_of_terms, builds_range, spelled_range, spelled_range-nodes, IsSpelled}
+use Rattle.fd_language.specs.PostfixRanges.{nodes_of, built, built_behind, put, shape_of, term_alone, term_of_terms, builds_range, spelled_range}
+use Rattle.fd_language.specs.PostfixRanges.{spelled_range-nodes, IsSpelled}
 use Rattle.fd_language.proofs.Lemmas.{has_high, two, greatest_in, abs_add, abs_mul, products}
 use Rattle.std.proofs.lemmas.List.{at_drop_more, take_all, nil_from_length}
 use Rattle.std.proofs.lemmas.Option.{same_Some}
@@ -29,14 +31,16 @@ use Rattle.range_code.specs.declared.form.Shift.{Shift}
 use Rattle.range_code.specs.declared.form.Division.{Division}
 use Rattle.range_code.specs.declared.form.Division.TheVariants.{Whole, Down, Up}
 use Rattle.range_code.specs.declared.form.Bound.{Bound}
-use Rattle.range_code.specs.declared.form.Form.{Form}
+use Rattle.range_code.specs.declared.form.Evaluation.{Evaluation}
 use Rattle.range_code.specs.declared.form.Leaf.{Leaf}
 use Rattle.range_code.specs.declared.form.Leaf.TheVariants.{Number, Read}
 use Rattle.range_code.specs.declared.form.Addend.{Addend}
 use Rattle.range_code.specs.Nodes.{IsReadable, IsSeen}
 use Rattle.range_code.specs.Work.{filled_value, filled_set}
 use Rattle.range_code.specs.Steps.{outside}
-use Rattle.range_code.specs.Forms.{IsForm, end_of, width_of, sum_of, total_of, divided, bound_value, product_value, leaf_amount, amount, AreNarrow, AreSeen, IsLeafSeen, IsPositive, IsUsable, IsInterval, IsComplement, IsException, IsAbove, IsBelow, IsShiftOf, IsShiftUsable, all_but_val, IsLeaf, IsSigned, IsDivision, IsPart, IsAdded, IsBound, other_end, IsOpposite, AreOpposite}
+use Rattle.range_code.specs.Forms.{IsForm, end_of, width_of, sum_of, total_of, divided, bound_value, product_value, leaf_amount, amount, AreNarrow, AreSeen}
+use Rattle.range_code.specs.Forms.{IsLeafSeen, IsPositive, IsUsable, IsInterval, IsComplement, IsException, IsAbove, IsBelow, IsShiftOf, IsShiftUsable}
+use Rattle.range_code.specs.Forms.{all_but_val, IsLeaf, IsSigned, IsDivision, IsPart, IsAdded, IsBound, other_end, IsOpposite, AreOpposite}
 use Rattle.range_code.proofs.Tables.{outside_is, one_is}
 
 -- leaves
@@ -59,7 +63,8 @@ leaf_val n y e = record { term = Val y; shape = ap shape_of e; value = λ S p. r
 step_leaf : (n : RangeNode) (ns : List RangeNode) (rs : List Range) (ts : List Expr) (t : Expr) → shape_of n ≡ term_alone t → built (n ∷ ns) rs ts ≡ built ns rs (t ∷ ts)
 step_leaf n ns rs ts t e = ap (λ s. built_behind ns (put s rs ts)) e
 
-step_two : (n : RangeNode) (ns : List RangeNode) (rs : List Range) (ts : List Expr) (a b : Expr) (make : Expr → Expr → Expr) → shape_of n ≡ term_of_terms make → built (n ∷ ns) rs (b ∷ a ∷ ts) ≡ built ns rs (make a b ∷ ts)
+step_two : (n : RangeNode) (ns : List RangeNode) (rs : List Range) (ts : List Expr) (a b : Expr) (make : Expr → Expr → Expr) → shape_of n ≡ term_of_terms make
+    → built (n ∷ ns) rs (b ∷ a ∷ ts) ≡ built ns rs (make a b ∷ ts)
 step_two n ns rs ts a b make e = ap (λ s. built_behind ns (put s rs (b ∷ a ∷ ts))) e
 
 -- what is added
@@ -102,7 +107,8 @@ module _ (first last : RangeNode) (rest : List RangeNode) where
   leaf_seen : (second : RangeNode) (l k m : Leaf) (count : ℕ) (args : List Arg) → IsLeafSeen count args l → IsLeafSeen count args k → (m ≡ l) ⊎ (m ≡ k) → IsLeafSeen count args m
   leaf_seen second l k m count args f g h = elim h [ inl e ↦ subst (IsLeafSeen count args) (sym e) f | inr e ↦ subst (IsLeafSeen count args) (sym e) g ]
 
-  pub part_times : (second third : RangeNode) (l k : Leaf) (m a : Addend) → third ≡ node.Mul → IsLeaf first l → IsLeaf second k → ((S : Family) → leaf_amount S l *ℤ leaf_amount S k ≡ amount S m) → (m.leaf ≡ l) ⊎ (m.leaf ≡ k) → IsSigned last m a →
+  pub part_times : (second third : RangeNode) (l k : Leaf) (m a : Addend) → third ≡ node.Mul → IsLeaf first l → IsLeaf second k
+      → ((S : Family) → leaf_amount S l *ℤ leaf_amount S k ≡ amount S m) → (m.leaf ≡ l) ⊎ (m.leaf ≡ k) → IsSigned last m a →
       IsPart (first ∷ second ∷ third ∷ last ∷ rest) a rest
   part_times second third l k m a e f g h w s = record {
     make = λ t. s.make t (Mul f.term g.term);
@@ -113,7 +119,9 @@ module _ (first last : RangeNode) (rest : List RangeNode) where
     value = λ S p t. s.value S p t (Mul f.term g.term) (two (λ x y. x *ℤ y) (f.value S p) (g.value S p) ∙ h S);
     seen = λ count args r.
         let behind = All-tail (IsReadable count args) first (second ∷ third ∷ last ∷ rest) r in (
-          s.seen count args (leaf_seen second l k m.leaf count args (f.seen count args (All-head (IsReadable count args) first (second ∷ third ∷ last ∷ rest) r)) (g.seen count args (All-head (IsReadable count args) second (third ∷ last ∷ rest) behind)) w),
+          s.seen count args (leaf_seen second l k m.leaf count args
+              (f.seen count args (All-head (IsReadable count args) first (second ∷ third ∷ last ∷ rest) r))
+              (g.seen count args (All-head (IsReadable count args) second (third ∷ last ∷ rest) behind)) w),
           All-tail (IsReadable count args) last rest (All-tail (IsReadable count args) third (last ∷ rest) (All-tail (IsReadable count args) second (third ∷ last ∷ rest) behind)),
         );
   }
@@ -134,7 +142,8 @@ one_seen count args m h (suc k) d l = absurd (nothing k l) where
   nothing : (k : ℕ) → suc k < 1 → ⊥
   nothing k l = omega arith
 
-pub added_read : (old new : Bound) (m : Product) → new.constant ≡ old.constant → new.products.items ≡ old.products.items ++ m ∷ [] → new.division ≡ old.division → IsAdded old (record { weight = m.weight; leaf = Read m.slot m.end }) new
+pub added_read : (old new : Bound) (m : Product) → new.constant ≡ old.constant → new.products.items ≡ old.products.items ++ m ∷ [] → new.division ≡ old.division
+    → IsAdded old (record { weight = m.weight; leaf = Read m.slot m.end }) new
 added_read old new m c p d = record {
   value = λ S. two (λ x ms. x +ℤ sum_of S ms) c p ∙ (ap (λ z. old.constant +ℤ z) (sum_append S old.products.items m) ∙ sym (+ℤ_assoc old.constant (sum_of S old.products.items) (product_value S m)));
   seen = λ count args h g. subst (AreSeen count args) (sym p) (All-append (λ k. IsSeen count args k.slot) old.products.items (m ∷ []) h (one_seen count args m g));
@@ -152,7 +161,8 @@ product_small w e h = products (nat_abs (w *ℤ pos e)) (nat_abs w) e (nat_abs w
 pub sum_small : (s w : ℤ) (e : ℕ) → nat_abs s + nat_abs w * INFINITY ≤ 2 ^ 63 - 1 → e ≤ INFINITY → nat_abs (s +ℤ w *ℤ pos e) ≤ 2 ^ 63 - 1
 sum_small s w e h l = let a = abs_add s (w *ℤ pos e) in let b = product_small w e l in grind (arith, a, b, h)
 
-pub sum_more : (S : Family) (ms : List Product) (i : ℕ) (d : Product) (s total r : ℤ) (e : ℕ) → i < length ms → e ≡ end_of (S (get_or ms i d).slot) (get_or ms i d).end → s +ℤ sum_of S (drop i ms) ≡ total → r ≡ s +ℤ (get_or ms i d).weight *ℤ pos e →
+pub sum_more : (S : Family) (ms : List Product) (i : ℕ) (d : Product) (s total r : ℤ) (e : ℕ) → i < length ms
+    → e ≡ end_of (S (get_or ms i d).slot) (get_or ms i d).end → s +ℤ sum_of S (drop i ms) ≡ total → r ≡ s +ℤ (get_or ms i d).weight *ℤ pos e →
     r +ℤ sum_of S (drop (i + 1) ms) ≡ total
 sum_more S ms i d s total r e l h g f =
     let m : Product = get_or ms i d in
@@ -165,12 +175,15 @@ width_first ms i d s l h = subst (λ n. nat_abs s + n ≤ 2 ^ 63 - 1) (at_drop_m
 pub width_there : (ms : List Product) (i : ℕ) (d : Product) (s : ℤ) → i < length ms → AreNarrow (nat_abs s) (drop i ms) → nat_abs s + nat_abs (get_or ms i d).weight * INFINITY ≤ 2 ^ 63 - 1
 width_there ms i d s l h = let k = width_first ms i d s l h in grind (arith, k)
 
-pub width_more : (ms : List Product) (i : ℕ) (d : Product) (s r : ℤ) (e : ℕ) → i < length ms → AreNarrow (nat_abs s) (drop i ms) → e ≤ INFINITY → r ≡ s +ℤ (get_or ms i d).weight *ℤ pos e → AreNarrow (nat_abs r) (drop (i + 1) ms)
+pub width_more : (ms : List Product) (i : ℕ) (d : Product) (s r : ℤ) (e : ℕ) → i < length ms → AreNarrow (nat_abs s) (drop i ms) → e ≤ INFINITY
+    → r ≡ s +ℤ (get_or ms i d).weight *ℤ pos e → AreNarrow (nat_abs r) (drop (i + 1) ms)
 width_more ms i d s r e l h g f =
     let k = width_first ms i d s l h in
     let a = abs_add s ((get_or ms i d).weight *ℤ pos e) in
     let b = product_small (get_or ms i d).weight e g in
-    subst (λ z. AreNarrow (nat_abs z) (drop (i + 1) ms)) (sym f) (joined (nat_abs (s +ℤ (get_or ms i d).weight *ℤ pos e)) (nat_abs s) (nat_abs ((get_or ms i d).weight *ℤ pos e)) (nat_abs (get_or ms i d).weight * INFINITY) (width_of (drop (i + 1) ms)) (2 ^ 63 - 1) a b k) where
+    subst (λ z. AreNarrow (nat_abs z) (drop (i + 1) ms)) (sym f)
+    (joined (nat_abs (s +ℤ (get_or ms i d).weight *ℤ pos e)) (nat_abs s) (nat_abs ((get_or ms i d).weight *ℤ pos e))
+    (nat_abs (get_or ms i d).weight * INFINITY) (width_of (drop (i + 1) ms)) (2 ^ 63 - 1) a b k) where
       joined : (x y z w v m : ℕ) → x ≤ y + z → z ≤ w → y + (w + v) ≤ m → x + v ≤ m
       joined x y z w v m a b c = omega arith
 
@@ -194,7 +207,8 @@ pub record Summing (S : Family) (ms ks : List Product) (i : ℕ) (a b low high :
   pub low_width : AreNarrow (nat_abs a) (drop i ms)
   pub high_width : AreNarrow (nat_abs b) (drop i ks)
 
-pub starts_summing : (S : Family) (ms : List Product) (a b : Bound) → ms ≡ a.products.items → AreNarrow (nat_abs a.constant) a.products.items → AreNarrow (nat_abs b.constant) b.products.items → Summing S ms b.products.items 0 a.constant b.constant (total_of S a) (total_of S b)
+pub starts_summing : (S : Family) (ms : List Product) (a b : Bound) → ms ≡ a.products.items → AreNarrow (nat_abs a.constant) a.products.items
+    → AreNarrow (nat_abs b.constant) b.products.items → Summing S ms b.products.items 0 a.constant b.constant (total_of S a) (total_of S b)
 starts_summing S ms a b e h g = record { low_sum = ap (λ l. a.constant +ℤ sum_of S l) e; high_sum = refl; low_width = subst (AreNarrow (nat_abs a.constant)) (sym e) h; high_width = g }
 
 module _ (S : Family) (ms ks : List Product) (i : ℕ) (a b low high : ℤ) (opposite : AreOpposite ms ks) (h : Summing S ms ks i a b low high) where
@@ -217,7 +231,8 @@ module _ (S : Family) (ms ks : List Product) (i : ℕ) (a b low high : ℤ) (opp
     pub high_fits : nat_abs b + nat_abs m.weight * INFINITY ≤ 2 ^ 63 - 1
     high_fits = opposite_width m k b each (width_there ks i d b within h.high_width)
 
-    pub summed : (e f : ℕ) (r q : ℤ) → e ≡ end_of (S m.slot) m.end → f ≡ end_of (S m.slot) (other_end m.end) → e ≤ INFINITY → f ≤ INFINITY → r ≡ a +ℤ m.weight *ℤ pos e → q ≡ b +ℤ m.weight *ℤ pos f → Summing S ms ks (i + 1) r q low high
+    pub summed : (e f : ℕ) (r q : ℤ) → e ≡ end_of (S m.slot) m.end → f ≡ end_of (S m.slot) (other_end m.end) → e ≤ INFINITY → f ≤ INFINITY
+        → r ≡ a +ℤ m.weight *ℤ pos e → q ≡ b +ℤ m.weight *ℤ pos f → Summing S ms ks (i + 1) r q low high
     summed e f r q x y u v p o = let g = opposite_sum m k b q f each o in record {
       low_sum = sum_more S ms i d a low r e l x h.low_sum p;
       high_sum = sum_more S ks i d b high q f within (opposite_end S m k f each y) h.high_sum g;
@@ -243,12 +258,19 @@ pub at_end : (r : ℕ) (s t : List ℕ) (x : End) → r ≡ end_of s x → s ≡
 at_end r s t x e h = e ∙ ap (λ l. end_of l x) h
 
 -- a bound from the first leaf on
-pub bound_first : (n : RangeNode) (rest : List RangeNode) (l : Leaf) (empty b : Bound) → IsLeaf n l → ((S : Family) → total_of S empty ≡ pos 0) → empty.products.items ≡ [] → empty.division ≡ Whole → IsAdded empty (record { weight = pos 1; leaf = l }) b → IsBound (n ∷ rest) b rest
+pub bound_first : (n : RangeNode) (rest : List RangeNode) (l : Leaf) (empty b : Bound) → IsLeaf n l → ((S : Family) → total_of S empty ≡ pos 0)
+    → empty.products.items ≡ [] → empty.division ≡ Whole → IsAdded empty (record { weight = pos 1; leaf = l }) b → IsBound (n ∷ rest) b rest
 bound_first n rest l empty b f z p d a = record {
   term = f.term;
   nodes = λ rs ts. step_leaf n rest rs ts f.term f.shape;
-  value = λ S v. f.value S v ∙ (once_is (leaf_amount S l) ∙ (sym (+ℤ_idl (pos 1 *ℤ leaf_amount S l)) ∙ (ap (λ x. x +ℤ pos 1 *ℤ leaf_amount S l) (sym (z S)) ∙ (sym (a.value S) ∙ ap (λ x. divided x (total_of S b)) (sym (a.division ∙ d))))));
-  seen = λ count args h. (a.seen count args (subst (AreSeen count args) (sym p) (none_seen count args)) (f.seen count args (All-head (IsReadable count args) n rest h)), All-tail (IsReadable count args) n rest h);
+  value = λ S v. f.value S v ∙ (once_is (leaf_amount S l)
+      ∙ (sym (+ℤ_idl (pos 1 *ℤ leaf_amount S l)) ∙ (ap (λ x. x +ℤ pos 1 *ℤ leaf_amount S l) (sym (z S))
+      ∙ (sym (a.value S) ∙ ap (λ x. divided x (total_of S b)) (sym (a.division ∙ d))))));
+  seen = λ count args h. (
+    a.seen count args (subst (AreSeen count args) (sym p) (none_seen count args))
+        (f.seen count args (All-head (IsReadable count args) n rest h)),
+    All-tail (IsReadable count args) n rest h,
+  );
   division = subst IsPositive (sym (a.division ∙ d)) tt;
 }
 
@@ -271,12 +293,15 @@ division_down n m d e f h = record { term = Literal d; make = DivDown; divisor =
 pub division_up : (n m : RangeNode) (d : ℤ) → n ≡ node.Int d → m ≡ node.DivUp → pos 1 ≤ℤ d → IsDivision n m (Up d)
 division_up n m d e f h = record { term = Literal d; make = DivUp; divisor = ap shape_of e; shape = ap shape_of f; value = λ S p t. refl; positive = h }
 
-pub bound_divided : (ns rest : List RangeNode) (b c : Bound) (n m : RangeNode) (d : Division) → IsBound ns b (n ∷ m ∷ rest) → b.division ≡ Whole → IsDivision n m d → c.constant ≡ b.constant → c.products ≡ b.products → c.division ≡ d → IsBound ns c rest
+pub bound_divided : (ns rest : List RangeNode) (b c : Bound) (n m : RangeNode) (d : Division) → IsBound ns b (n ∷ m ∷ rest) → b.division ≡ Whole
+    → IsDivision n m d → c.constant ≡ b.constant → c.products ≡ b.products → c.division ≡ d → IsBound ns c rest
 bound_divided ns rest b c n m d f w g k p q = record {
   term = g.make f.term g.term;
   nodes = λ rs ts. f.nodes rs ts ∙ (step_leaf n (m ∷ rest) rs (f.term ∷ ts) g.term g.divisor ∙ step_two m rest rs ts f.term g.term g.make g.shape);
-  value = λ S z. g.value S z f.term ∙ (ap (divided d) (f.value S z ∙ (whole_value S b w ∙ two (λ x ms. x +ℤ sum_of S ms) (sym k) (ap (λ l. l.items) (sym p)))) ∙ ap (λ x. divided x (total_of S c)) (sym q));
-  seen = λ count args r. let s = f.seen count args r in (subst (λ l. AreSeen count args l.items) (sym p) s.0, All-tail (IsReadable count args) m rest (All-tail (IsReadable count args) n (m ∷ rest) s.1));
+  value = λ S z. g.value S z f.term ∙ (ap (divided d) (f.value S z ∙ (whole_value S b w ∙ two (λ x ms. x +ℤ sum_of S ms) (sym k) (ap (λ l. l.items) (sym p))))
+      ∙ ap (λ x. divided x (total_of S c)) (sym q));
+  seen = λ count args r. let s = f.seen count args r in
+      (subst (λ l. AreSeen count args l.items) (sym p) s.0, All-tail (IsReadable count args) m rest (All-tail (IsReadable count args) n (m ∷ rest) s.1));
   division = subst IsPositive (sym q) g.positive;
 }
 
@@ -305,7 +330,8 @@ module _ (ns : List RangeNode) (r : Range) (are : ns ≡ nodes_of r) where
   whole_built : Some r ≡ built ns [] []
   whole_built = sym (ap (λ l. built l [] []) are ∙ builds_range r [] [])
 
-  usable : (b : Bound) → AreNarrow (nat_abs b.constant) b.products.items → IsPositive b.division → ((count : ℕ) (args : List Arg) → All (IsReadable count args) ns → AreSeen count args b.products.items) → IsUsable r b
+  usable : (b : Bound) → AreNarrow (nat_abs b.constant) b.products.items → IsPositive b.division
+      → ((count : ℕ) (args : List Arg) → All (IsReadable count args) ns → AreSeen count args b.products.items) → IsUsable r b
   usable b w p s = record { width = w; division = p; seen = λ count args h. s count args (subst (All (IsReadable count args)) (sym are) h) }
 
   low_usable : (rest : List RangeNode) (a : Bound) → IsBound ns a rest → AreNarrow (nat_abs a.constant) a.products.items → IsUsable r a
@@ -318,7 +344,8 @@ module _ (ns : List RangeNode) (r : Range) (are : ns ≡ nodes_of r) where
   two_ends : (middle rest : List RangeNode) (a b : Bound) (f : IsBound ns a middle) (g : IsBound middle b rest) → Some r ≡ built rest [] (g.term ∷ f.term ∷ [])
   two_ends middle rest a b f g = whole_built ∙ (f.nodes [] [] ∙ g.nodes [] (f.term ∷ []))
 
-  pub interval_form : (middle : List RangeNode) (m : RangeNode) (a b : Bound) → IsBound ns a middle → IsBound middle b (m ∷ []) → m ≡ node.Span → AreNarrow (nat_abs a.constant) a.products.items → AreNarrow (nat_abs b.constant) b.products.items → IsInterval r a b
+  pub interval_form : (middle : List RangeNode) (m : RangeNode) (a b : Bound) → IsBound ns a middle → IsBound middle b (m ∷ []) → m ≡ node.Span
+      → AreNarrow (nat_abs a.constant) a.products.items → AreNarrow (nat_abs b.constant) b.products.items → IsInterval r a b
   interval_form middle m a b f g e v w =
       let is : r ≡ Span f.term g.term = same_Some r (Span f.term g.term) (two_ends middle (m ∷ []) a b f g ∙ ap (λ k. built (k ∷ []) [] (g.term ∷ f.term ∷ [])) e) in
       record {
@@ -327,7 +354,8 @@ module _ (ns : List RangeNode) (r : Range) (are : ns ≡ nodes_of r) where
         high = high_usable middle (m ∷ []) a b f g w;
       }
 
-  pub complement_form : (middle : List RangeNode) (m n : RangeNode) (a b : Bound) → IsBound ns a middle → IsBound middle b (m ∷ n ∷ []) → m ≡ node.Span → n ≡ node.Outside → AreNarrow (nat_abs a.constant) a.products.items → AreNarrow (nat_abs b.constant) b.products.items → IsComplement r a b
+  pub complement_form : (middle : List RangeNode) (m n : RangeNode) (a b : Bound) → IsBound ns a middle → IsBound middle b (m ∷ n ∷ []) → m ≡ node.Span
+      → n ≡ node.Outside → AreNarrow (nat_abs a.constant) a.products.items → AreNarrow (nat_abs b.constant) b.products.items → IsComplement r a b
   complement_form middle m n a b f g e i v w =
       let is : r ≡ Outside (Span f.term g.term) = same_Some r (Outside (Span f.term g.term)) (two_ends middle (m ∷ n ∷ []) a b f g ∙ two (λ k j. built (k ∷ j ∷ []) [] (g.term ∷ f.term ∷ [])) e i) in
       record {
@@ -340,7 +368,8 @@ module _ (ns : List RangeNode) (r : Range) (are : ns ≡ nodes_of r) where
   exception_form m n a f e i v =
       let is : r ≡ Outside (One f.term) = same_Some r (Outside (One f.term)) (whole_built ∙ (f.nodes [] [] ∙ two (λ k j. built (k ∷ j ∷ []) [] (f.term ∷ [])) e i)) in
       record {
-        set = λ S p. ap (filled_set S p) is ∙ (sym (outside_is INFINITY (in_range INFINITY S (fill_range p (One f.term)))) ∙ ap outside (sym (one_is INFINITY (filled_value S p f.term)) ∙ ap (λ z. between z z) (f.value S p)));
+        set = λ S p. ap (filled_set S p) is ∙ (sym (outside_is INFINITY (in_range INFINITY S (fill_range p (One f.term))))
+            ∙ ap outside (sym (one_is INFINITY (filled_value S p f.term)) ∙ ap (λ z. between z z) (f.value S p)));
         value = low_usable (m ∷ n ∷ []) a f v;
       }
 
@@ -350,7 +379,7 @@ greatest_limit M [] n r e = omega (arith, e)
 greatest_limit M (x ∷ xs) n r e = has_high 0 M (x ∷ xs) n r (ap (has (x ∷ xs)) e ∙ greatest_in (x ∷ xs) refl)
 
 -- the nodes of a range spell it
-pub form_spells : (nodes : List RangeNode) (r : Range) (form : Form) → nodes ≡ nodes_of r → IsForm r form → IsForm (spelled_range nodes) form
+pub form_spells : (nodes : List RangeNode) (r : Range) (form : Evaluation) → nodes ≡ nodes_of r → IsForm r form → IsForm (spelled_range nodes) form
 form_spells nodes r form e = subst (λ x. IsForm x form) (sym (ap spelled_range e ∙ spelled_range-nodes r))
 
 pub spells_itself : (nodes : List RangeNode) → IsSpelled nodes → nodes ≡ nodes_of (spelled_range nodes)
@@ -372,7 +401,8 @@ other_way z n = grind (arith, ints)
 
 -- all numbers but one are the complement of that one
 pub except_one : (z : ℤ) → all_but z ≡ outside (between z z)
-except_one z = filter_agree (λ n. not (int_eq (pos n) z)) (λ n. not (int_eq z (pos n))) (other_way z) (universe INFINITY) ∙ sym (ap outside (one_is INFINITY z) ∙ outside_is INFINITY (λ n. int_eq z (pos n)))
+except_one z = filter_agree (λ n. not (int_eq (pos n) z)) (λ n. not (int_eq z (pos n))) (other_way z) (universe INFINITY)
+    ∙ sym (ap outside (one_is INFINITY z) ∙ outside_is INFINITY (λ n. int_eq z (pos n)))
 
 -- a term divided by 1
 down_one : (z : ℤ) → down_by z 0 ≡ z
@@ -405,7 +435,9 @@ only_product (m ∷ k ∷ ms) d e = absurd (let z : ⊥ = omega (arith, e) in z)
 
 shift_at : (b : Bound) (m : Product) → b.division ≡ Whole → b.products.items ≡ m ∷ [] → m.weight ≡ pos 1 → IsShiftOf b m.end (record { constant = b.constant; slot = m.slot })
 shift_at b m d e w = record {
-  value = λ S. whole_value S b d ∙ (ap (λ ms. b.constant +ℤ sum_of S ms) e ∙ ap (λ z. b.constant +ℤ z) (plus_none (product_value S m) ∙ (ap (λ x. x *ℤ pos (end_of (S m.slot) m.end)) w ∙ sym (once_is (pos (end_of (S m.slot) m.end))))));
+  value = λ S. whole_value S b d ∙ (ap (λ ms. b.constant +ℤ sum_of S ms) e
+      ∙ ap (λ z. b.constant +ℤ z) (plus_none (product_value S m)
+      ∙ (ap (λ x. x *ℤ pos (end_of (S m.slot) m.end)) w ∙ sym (once_is (pos (end_of (S m.slot) m.end))))));
   width = λ h. narrow (subst (AreNarrow (nat_abs b.constant)) e h);
   seen = λ count args h. subst (AreSeen count args) e h 0 m (omega arith);
 } where
@@ -414,7 +446,8 @@ shift_at b m d e w = record {
     one : (n k : ℕ) → k ≡ 1 → n + (k * INFINITY + 0) ≤ 2 ^ 63 - 1 → n + INFINITY ≤ 2 ^ 63 - 1
     one n k e h = omega (arith, e, h)
 
-pub shift_is : (b : Bound) (ms : List Product) (k : Product) (end : End) → b.division ≡ Whole → ms ≡ b.products.items → length ms ≡ 1 → (get_or ms 0 k).weight ≡ pos 1 → (get_or ms 0 k).end ≡ end → IsShiftOf b end (record { constant = b.constant; slot = (get_or ms 0 k).slot })
+pub shift_is : (b : Bound) (ms : List Product) (k : Product) (end : End) → b.division ≡ Whole → ms ≡ b.products.items → length ms ≡ 1
+    → (get_or ms 0 k).weight ≡ pos 1 → (get_or ms 0 k).end ≡ end → IsShiftOf b end (record { constant = b.constant; slot = (get_or ms 0 k).slot })
 shift_is b ms k end d e l w o = subst (λ x. IsShiftOf b x (record { constant = b.constant; slot = (get_or ms 0 k).slot })) o (shift_at b (get_or ms 0 k) d (sym e ∙ only_product ms k l) w)
 
 shift_usable : (r : Range) (b : Bound) (end : End) (s : Shift) → IsUsable r b → IsShiftOf b end s → IsShiftUsable r s

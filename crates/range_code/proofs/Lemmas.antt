@@ -1,8 +1,8 @@
 -- The lemmas that other crates may cite, by their subjects. All else in proofs/ is this crate's own.
 -- Each node of a range finds its argument.
-pub use Rattle.range_code.proofs.Framing.{all_readable, no_parameter}
+pub use Rattle.range_code.proofs.Frames.{all_readable, no_parameter}
 -- Lists with each element once, as they grow.
-pub use Rattle.range_code.proofs.Once.{any_has, keys_more, once_more}
+pub use Rattle.range_code.proofs.DistinctLists.{any_has, keys_more, once_more}
 -- Given on from the language: what is in a filter, and in a list with each number once.
 pub use Rattle.fd_language.proofs.Lemmas.{has_kept, has_once}
 -- The range that is posted, where its arguments fit.
@@ -10,4 +10,4 @@ pub use Rattle.range_code.proofs.PostedRanges.{one_use, posted_below, posted_mon
 -- How the variables of a range stand, told from what it reads.
 pub use Rattle.range_code.proofs.Standings.{all_once, features_seen, reads_filled, universe_some}
 -- How the members of a target that are chosen are gathered.
-pub use Rattle.range_code.proofs.Choosing.{keeps_none}
+pub use Rattle.range_code.proofs.ChosenMembers.{keeps_none}

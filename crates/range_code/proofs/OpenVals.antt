@@ -1,5 +1,6 @@
 -- Whether a val is open, told from the slots that are read by val.
-use Rattle.std.proofs.Common.{◌≡◌, ℕ, suc, ◌<◌, Bool, true, cond, ◌&&◌, List, [], ◌∷◌, filter, length, Option, refl, sym, ◌∙◌, ap, subst, inl, inr, arith, eq-eqb}
+use Rattle.std.proofs.Common.{◌≡◌, ℕ, suc, ◌<◌, Bool, true, cond, ◌&&◌, List, [], ◌∷◌, filter, length, Option, refl, sym, ◌∙◌, ap, subst, inl, inr, arith}
+use Rattle.std.proofs.Common.{eq-eqb}
 use Rattle.std.specs.List.{All, list_any}
 use Rattle.std.proofs.lemmas.Bool.{cases_Bool, true≢false, or_left, or_right, or_cases}
 use Rattle.std.proofs.lemmas.List.Elements.{All-nil, All-cons, All-head, All-tail}
@@ -15,7 +16,7 @@ use Rattle.range_code.specs.declared.frame.Arg.{Arg}
 use Rattle.range_code.specs.Frames.{AreArgs}
 use Rattle.range_code.specs.Kinds.{has_pair}
 use Rattle.range_code.specs.Nodes.{IsSeen}
-use Rattle.range_code.specs.Standing.{opens}
+use Rattle.range_code.specs.Standings.{opens}
 use Rattle.range_code.proofs.Standings.{same_is}
 
 -- what holds of each number that passes holds of all that are kept
@@ -51,7 +52,8 @@ module _ (S : Family) where
     | inr e ↦ or_right (opens S d) (list_any (opens S) ds) (opened_by ds s e g)
   ]
 
-  here : (s n : ℕ) (f : Feature) (ds : List (ℕ × Feature)) → s < n → (is_val f && is_several (S s)) ≡ true → (z : ℕ) × (z < n) × (has_pair ((s, f) ∷ ds) (z, feature.Val) ≡ true) × (is_several (S z) ≡ true)
+  here : (s n : ℕ) (f : Feature) (ds : List (ℕ × Feature)) → s < n → (is_val f && is_several (S s)) ≡ true
+      → (z : ℕ) × (z < n) × (has_pair ((s, f) ∷ ds) (z, feature.Val) ≡ true) × (is_several (S z) ≡ true)
   here s n feature.Val ds l h = (s, l, or_left (is_same_pair (s, feature.Val) (s, feature.Val)) (has_pair ds (s, feature.Val)) (ap (λ b. b && true) (eq-eqb s s refl)), h)
   here s n feature.Min ds l h = absurd (true≢false (sym h))
   here s n feature.Max ds l h = absurd (true≢false (sym h))
@@ -78,7 +80,8 @@ args_length count (n ∷ ns) [] h = absurd h
 args_length count (n ∷ ns) (a ∷ as') h = ap suc (args_length count ns as' h.1)
 
 -- a slot with an argument is one of the slots
-pub all_below : (count : ℕ) (ns : List (Option Need)) (args : List Arg) (n : ℕ) (ds : List (ℕ × Feature)) → AreArgs count ns args → length ns ≡ n → All (λ d. IsSeen count args d.0) ds → All (λ d. d.0 < n) ds
+pub all_below : (count : ℕ) (ns : List (Option Need)) (args : List Arg) (n : ℕ) (ds : List (ℕ × Feature)) → AreArgs count ns args → length ns ≡ n
+    → All (λ d. IsSeen count args d.0) ds → All (λ d. d.0 < n) ds
 all_below count ns args n [] h e g = All-nil (λ d. d.0 < n)
 all_below count ns args n (d ∷ ds) h e g =
     let seen : IsSeen count args d.0 = All-head (λ q. IsSeen count args q.0) d ds g in

@@ -25,7 +25,8 @@ up_is a (pos zero) h = absurd (omega (arith, ints, h))
 up_is a (negsuc n) h = absurd (omega (arith, ints, h))
 
 -- what an instruction gives that is no operator of terms
-pub none_operated : (i : RangeInstr) (a b : ℤ) → (i ≡ instr.Add → ⊥) → (i ≡ instr.Sub → ⊥) → (i ≡ instr.Mul → ⊥) → (i ≡ instr.DivDown → ⊥) → (i ≡ instr.DivUp → ⊥) → pos 0 ≡ operated (operator_of i) a b
+pub none_operated : (i : RangeInstr) (a b : ℤ) → (i ≡ instr.Add → ⊥) → (i ≡ instr.Sub → ⊥) → (i ≡ instr.Mul → ⊥) → (i ≡ instr.DivDown → ⊥)
+    → (i ≡ instr.DivUp → ⊥) → pos 0 ≡ operated (operator_of i) a b
 none_operated instr.Add a b add sub mul down up = absurd (add refl)
 none_operated instr.Sub a b add sub mul down up = absurd (sub refl)
 none_operated instr.Mul a b add sub mul down up = absurd (mul refl)

@@ -1,5 +1,6 @@
 -- The range that is posted, where its arguments fit.
-use Rattle.std.proofs.Common.{◌≡◌, ℕ, ℤ, ◌<◌, Bool, true, cond, ◌&&◌, ◌==◌, List, [], ◌∷◌, map, Some, None, refl, sym, ◌∙◌, ap, subst, inl, inr, eqb-true, eq-eqb}
+use Rattle.std.proofs.Common.{◌≡◌, ℕ, ℤ, ◌<◌, Bool, true, cond, ◌&&◌, ◌==◌, List, [], ◌∷◌, map, Some, None, refl, sym, ◌∙◌, ap, subst, inl, inr, eqb-true}
+use Rattle.std.proofs.Common.{eq-eqb}
 use Rattle.std.specs.List.{list_all}
 use Rattle.std.proofs.lemmas.Bool.{true≢false, or_left, or_right, or_cases, and_parts}
 use Rattle.std.proofs.lemmas.List.Folds.{list_all-map}
@@ -17,7 +18,7 @@ use Rattle.range_code.specs.declared.frame.Arg.{Arg}
 use Rattle.range_code.specs.declared.frame.Arg.TheVariants.{Var, Int}
 use Rattle.range_code.specs.Slots.{slot_of}
 use Rattle.range_code.specs.Frames.{IsArg, IsFrame, arg_integer, arg_at, slot_variable, slot_integer, posted}
-use Rattle.range_code.proofs.Framing.{params_occur, slotted, reads_seen}
+use Rattle.range_code.proofs.Frames.{params_occur, slotted, reads_seen}
 use Rattle.range_code.proofs.Standings.{reads_filled}
 
 all_of : (t : ℕ → Bool) (xs : List ℕ) → ((x : ℕ) → has xs x ≡ true → t x ≡ true) → list_all t xs ≡ true

@@ -1,5 +1,6 @@
 -- Quick forms reach the sets of their ranges.
-use Rattle.std.proofs.Common.{◌≡◌, ℕ, ◌+◌, ◌*◌, ◌-◌, ◌^◌, ◌<◌, ◌≤◌, ℤ, pos, negsuc, nat_abs, ◌+ℤ◌, ◌-ℤ◌, ◌*ℤ◌, Bool, true, false, cond, List, [], ◌∷◌, length, get_or, refl, sym, ◌∙◌, ap, subst, arith}
+use Rattle.std.proofs.Common.{◌≡◌, ℕ, ◌+◌, ◌*◌, ◌-◌, ◌^◌, ◌<◌, ◌≤◌, ℤ, pos, negsuc, nat_abs, ◌+ℤ◌, ◌-ℤ◌, ◌*ℤ◌, Bool, true, false, cond, List, [], ◌∷◌, length}
+use Rattle.std.proofs.Common.{get_or, refl, sym, ◌∙◌, ap, subst, arith}
 use Rattle.std.proofs.Math.Bool.{or-false}
 use Rattle.std.proofs.Math.IntN.{+ℤ_assoc, +ℤ_comm, +ℤ_idl}
 use Rattle.std.proofs.lemmas.Int.{ints}
@@ -8,11 +9,11 @@ use Rattle.fd_language.specs.declared.TheConstants.{INFINITY}
 use Rattle.fd_language.specs.declared.range_node.RangeNode.{RangeNode}
 use Rattle.fd_language.specs.declared.range_node.RangeNode.TheVariants as node
 use Rattle.fd_language.specs.Features.{features_of}
-use Rattle.range_code.specs.Standing.{opens}
+use Rattle.range_code.specs.Standings.{opens}
 use Rattle.fd_language.specs.Family.{Family}
 use Rattle.fd_language.specs.Range.{Range, set_of, least, greatest, is_none_left, is_several}
 use Rattle.fd_language.specs.RangeVerdict.{is_accepted}
-use Rattle.fd_language.specs.Flat.{nodes_of, spelled_range, spelled_range-nodes}
+use Rattle.fd_language.specs.PostfixRanges.{nodes_of, spelled_range, spelled_range-nodes}
 use Rattle.fd_language.proofs.Lemmas.{two}
 use Rattle.domain_ranges.specs.Narrowing.{between, all_but}
 use Rattle.range_code.specs.declared.frame.Arg.{Arg}
@@ -22,8 +23,8 @@ use Rattle.range_code.specs.declared.form.Bound.{Bound}
 use Rattle.range_code.specs.declared.form.Product.{Product}
 use Rattle.range_code.specs.declared.form.Shift.{Shift}
 use Rattle.range_code.specs.declared.form.Division.TheVariants.{Whole}
-use Rattle.range_code.specs.declared.quick.Quick.TheVariants.{Within, Differs, Above, Below, Moved, Plus, Minus}
-use Rattle.range_code.specs.declared.quick.Pair.{Pair}
+use Rattle.range_code.specs.declared.quick_forms.Quick.TheVariants.{Within, Differs, Above, Below, Moved, Plus, Minus}
+use Rattle.range_code.specs.declared.quick_forms.Pair.{Pair}
 use Rattle.range_code.specs.declared.Reach.TheVariants as reach
 use Rattle.range_code.specs.Frames.{IsFrame, posted, family_of, slot_set, slot_integer, slot_variable}
 use Rattle.range_code.specs.Nodes.{IsSeen, IsReadable}
@@ -31,13 +32,14 @@ use Rattle.range_code.specs.Kinds.{val_slots}
 use Rattle.range_code.specs.Slots.{in_slots}
 use Rattle.range_code.specs.Steps.{outside}
 use Rattle.range_code.specs.Work.{filled_set}
-use Rattle.range_code.specs.Forms.{end_of, sum_of, product_value, bound_value, AreNarrow, AreSeen, IsInterval, IsException, IsAbove, IsBelow, IsShiftOf, all_but_val}
-use Rattle.range_code.specs.Reaching.{IsReach}
+use Rattle.range_code.specs.Forms.{end_of, sum_of, product_value, bound_value, AreNarrow, AreSeen, IsInterval, IsException, IsAbove, IsBelow, IsShiftOf}
+use Rattle.range_code.specs.Forms.{all_but_val}
+use Rattle.range_code.specs.SetReaches.{IsReach}
 use Rattle.range_code.specs.QuickForms.{between_parameters, IsQuick, IsSmall, IsPairOf}
 use Rattle.range_code.proofs.Forms.{whole_value, plus_none, once_is, but_val_set, except_one}
-use Rattle.range_code.proofs.Framing.{all_readable}
+use Rattle.range_code.proofs.Frames.{all_readable}
 use Rattle.range_code.proofs.PostedRanges.{one_use}
-use Rattle.range_code.proofs.Running.{opens_same, settled_set, shifted_set, open_set, one_open}
+use Rattle.range_code.proofs.RangeRuns.{opens_same, settled_set, shifted_set, open_set, one_open}
 
 -- two products of which the first counts once
 module _ (b : Bound) (p q : Product) (whole : b.division ≡ Whole) (once : p.weight ≡ pos 1) where
@@ -62,7 +64,9 @@ module _ (b : Bound) (p q : Product) (whole : b.division ≡ Whole) (once : p.we
 
   pub pair_back : b.products.items ≡ q ∷ p ∷ [] → IsPairOf b p.end q.weight q.end parts
   pair_back e = record {
-    value = λ S. whole_value S b whole ∙ (ap (λ ms. b.constant +ℤ sum_of S ms) e ∙ (ap (λ z. b.constant +ℤ (product_value S q +ℤ z)) (plus_none (product_value S p)) ∙ (ap (λ z. b.constant +ℤ z) (+ℤ_comm (product_value S q) (product_value S p)) ∙ both S)));
+    value = λ S. whole_value S b whole ∙ (ap (λ ms. b.constant +ℤ sum_of S ms) e
+        ∙ (ap (λ z. b.constant +ℤ (product_value S q +ℤ z)) (plus_none (product_value S p))
+        ∙ (ap (λ z. b.constant +ℤ z) (+ℤ_comm (product_value S q) (product_value S p)) ∙ both S)));
     width = λ h w. small (nat_abs b.constant) (nat_abs q.weight) (nat_abs p.weight) w (ap nat_abs once) (subst (AreNarrow (nat_abs b.constant)) e h);
     seen = λ count args h. let s = subst (AreSeen count args) e h in (s 1 p (omega arith), s 0 p (omega arith));
   }
@@ -75,13 +79,15 @@ two_products (m ∷ k ∷ n ∷ ms) d e = absurd (let z : ⊥ = omega (arith, e)
 
 -- the same by the places of the products
 module _ (b : Bound) (ms : List Product) (d : Product) (end other : End) (weight : ℤ) (whole : b.division ≡ Whole) (same : ms ≡ b.products.items) (size : length ms ≡ 2) where
-  pub pair_is : (get_or ms 0 d).weight ≡ pos 1 → (get_or ms 0 d).end ≡ end → (get_or ms 1 d).weight ≡ weight → (get_or ms 1 d).end ≡ other → IsPairOf b end weight other (record { constant = b.constant; first = (get_or ms 0 d).slot; second = (get_or ms 1 d).slot })
+  pub pair_is : (get_or ms 0 d).weight ≡ pos 1 → (get_or ms 0 d).end ≡ end → (get_or ms 1 d).weight ≡ weight → (get_or ms 1 d).end ≡ other
+      → IsPairOf b end weight other (record { constant = b.constant; first = (get_or ms 0 d).slot; second = (get_or ms 1 d).slot })
   pair_is once e w f = subst (λ x. IsPairOf b x weight other (record { constant = b.constant; first = (get_or ms 0 d).slot; second = (get_or ms 1 d).slot })) e
       (subst (λ x. IsPairOf b (get_or ms 0 d).end x other (record { constant = b.constant; first = (get_or ms 0 d).slot; second = (get_or ms 1 d).slot })) w
       (subst (λ x. IsPairOf b (get_or ms 0 d).end (get_or ms 1 d).weight x (record { constant = b.constant; first = (get_or ms 0 d).slot; second = (get_or ms 1 d).slot })) f
       (pair_forward b (get_or ms 0 d) (get_or ms 1 d) whole once (sym same ∙ two_products ms d size))))
 
-  pub pair_turned : (get_or ms 1 d).weight ≡ pos 1 → (get_or ms 1 d).end ≡ end → (get_or ms 0 d).weight ≡ weight → (get_or ms 0 d).end ≡ other → IsPairOf b end weight other (record { constant = b.constant; first = (get_or ms 1 d).slot; second = (get_or ms 0 d).slot })
+  pub pair_turned : (get_or ms 1 d).weight ≡ pos 1 → (get_or ms 1 d).end ≡ end → (get_or ms 0 d).weight ≡ weight → (get_or ms 0 d).end ≡ other
+      → IsPairOf b end weight other (record { constant = b.constant; first = (get_or ms 1 d).slot; second = (get_or ms 0 d).slot })
   pair_turned once e w f = subst (λ x. IsPairOf b x weight other (record { constant = b.constant; first = (get_or ms 1 d).slot; second = (get_or ms 0 d).slot })) e
       (subst (λ x. IsPairOf b (get_or ms 1 d).end x other (record { constant = b.constant; first = (get_or ms 1 d).slot; second = (get_or ms 0 d).slot })) w
       (subst (λ x. IsPairOf b (get_or ms 1 d).end (get_or ms 0 d).weight x (record { constant = b.constant; first = (get_or ms 1 d).slot; second = (get_or ms 0 d).slot })) f
@@ -108,11 +114,13 @@ module _ (r : Range) (args : List Arg) (accepted : is_accepted INFINITY r ≡ tr
   -- all numbers but a moved value
   module _ (z : ℤ) (slot k : ℕ) (e : slot_variable args slot ≡ k) (seen : (count : ℕ) → IsFrame count r args → IsSeen count args slot) (small : IsSmall z)
       (left : (S : Family) (p : ℕ → ℤ) → filled_set S p (in_slots r) ≡ all_but (z +ℤ pos (least (S slot))))
-      (opened : (sets : List (List ℕ)) → IsFrame (length sets) r args → ((x : ℕ) → is_none_left (family_of sets x) ≡ false) → list_any (λ s. is_several (slot_set sets args s)) (val_slots r) ≡ is_several (slot_set sets args slot)) where
+      (opened : (sets : List (List ℕ)) → IsFrame (length sets) r args → ((x : ℕ) → is_none_left (family_of sets x) ≡ false)
+      → list_any (λ s. is_several (slot_set sets args s)) (val_slots r) ≡ is_several (slot_set sets args slot)) where
     differs_in : (sets : List (List ℕ)) → IsFrame (length sets) r args → ((x : ℕ) → is_none_left (family_of sets x) ≡ false) → (b : Bool) → is_several (slot_set sets args slot) ≡ b
         → IsReach (set sets) (cond b reach.All (reach.Except (z +ℤ pos (least (family_of sets k)))))
     differs_in sets fit some true g = open_set sets r args accepted fit (val_slots r) some refl (sym (opened sets fit some ∙ g))
-    differs_in sets fit some false g = settled_set sets r args accepted fit some (opened sets fit some ∙ g) ∙ (left (slot_set sets args) (slot_integer args) ∙ ap (λ v. all_but (z +ℤ pos (least (family_of sets v)))) e)
+    differs_in sets fit some false g = settled_set sets r args accepted fit some (opened sets fit some ∙ g)
+        ∙ (left (slot_set sets args) (slot_integer args) ∙ ap (λ v. all_but (z +ℤ pos (least (family_of sets v)))) e)
 
     differs_all : IsQuick r args (Differs k z)
     differs_all = record {
@@ -127,14 +135,16 @@ module _ (r : Range) (args : List Arg) (accepted : is_accepted INFINITY r ≡ tr
       (λ S p. ap (filled_set S p) h ∙ (but_val_set S p slot ∙ ap all_but (sym (+ℤ_idl (pos (least (S slot)))))))
       (λ sets fit some. one_open sets r args accepted fit slot h some)
 
-  pub except_quick : (a : Bound) (s : Shift) (k : ℕ) (ys : List ℕ) → slot_variable args s.slot ≡ k → ys ≡ val_slots r → ys ≡ s.slot ∷ [] → IsShiftOf a Least s → IsException (in_slots r) a → IsQuick r args (Differs k s.constant)
+  pub except_quick : (a : Bound) (s : Shift) (k : ℕ) (ys : List ℕ) → slot_variable args s.slot ≡ k → ys ≡ val_slots r → ys ≡ s.slot ∷ [] → IsShiftOf a Least s
+      → IsException (in_slots r) a → IsQuick r args (Differs k s.constant)
   except_quick a s k ys e v only h x = differs_all s.constant s.slot k e
       (λ count fit. h.seen count args (x.value.seen count args (nodes count fit)))
       (h.width x.value.width)
       (λ S p. x.set S p ∙ (ap (λ y. outside (between y y)) (h.value S) ∙ sym (except_one (s.constant +ℤ pos (least (S s.slot))))))
       (λ sets fit some. ap (list_any (λ y. is_several (slot_set sets args y))) (sym v ∙ only) ∙ or-false (is_several (slot_set sets args s.slot)))
 
-  pub within_quick : (ns : List RangeNode) (x y : ℕ) (a b : ℤ) → slot_integer args x ≡ a → slot_integer args y ≡ b → ns ≡ nodes_of (between_parameters x y) → ns ≡ nodes_of (in_slots r) → IsQuick r args (Within a b)
+  pub within_quick : (ns : List RangeNode) (x y : ℕ) (a b : ℤ) → slot_integer args x ≡ a → slot_integer args y ≡ b → ns ≡ nodes_of (between_parameters x y)
+      → ns ≡ nodes_of (in_slots r) → IsQuick r args (Within a b)
   within_quick ns x y a b e f g h =
       let is : in_slots r ≡ between_parameters x y = sym (spelled_range-nodes (in_slots r)) ∙ (ap spelled_range (sym h ∙ g) ∙ spelled_range-nodes (between_parameters x y)) in record {
         within = λ count fit. tt;
@@ -146,23 +156,27 @@ module _ (r : Range) (args : List Arg) (accepted : is_accepted INFINITY r ≡ tr
     pub above_quick : (s : Shift) (z : ℤ) (k : ℕ) → slot_variable args s.slot ≡ k → IsAbove (in_slots r) s z → IsQuick r args (Above k s.constant z)
     above_quick s z k e h = record {
       within = λ count fit. (there count s.slot k e (h.usable.seen count args (nodes count fit)), h.usable.width);
-      reach = λ sets fit some. shifted_set sets r args accepted fit some no_val ∙ (h.set (slot_set sets args) (slot_integer args) ∙ ap (λ v. between (s.constant +ℤ pos (least (family_of sets v))) z) e);
+      reach = λ sets fit some. shifted_set sets r args accepted fit some no_val
+          ∙ (h.set (slot_set sets args) (slot_integer args) ∙ ap (λ v. between (s.constant +ℤ pos (least (family_of sets v))) z) e);
     }
 
     pub below_quick : (s : Shift) (z : ℤ) (k : ℕ) → slot_variable args s.slot ≡ k → IsBelow (in_slots r) z s → IsQuick r args (Below k s.constant z)
     below_quick s z k e h = record {
       within = λ count fit. (there count s.slot k e (h.usable.seen count args (nodes count fit)), h.usable.width);
-      reach = λ sets fit some. shifted_set sets r args accepted fit some no_val ∙ (h.set (slot_set sets args) (slot_integer args) ∙ ap (λ v. between z (s.constant +ℤ pos (greatest (family_of sets v)))) e);
+      reach = λ sets fit some. shifted_set sets r args accepted fit some no_val
+          ∙ (h.set (slot_set sets args) (slot_integer args) ∙ ap (λ v. between z (s.constant +ℤ pos (greatest (family_of sets v)))) e);
     }
 
     module _ (a b : Bound) (h : IsInterval (in_slots r) a b) where
-      row : (sets : List (List ℕ)) → IsFrame (length sets) r args → ((x : ℕ) → is_none_left (family_of sets x) ≡ false) → (y z : ℤ) → bound_value (slot_set sets args) a ≡ y → bound_value (slot_set sets args) b ≡ z → set sets ≡ between y z
+      row : (sets : List (List ℕ)) → IsFrame (length sets) r args → ((x : ℕ) → is_none_left (family_of sets x) ≡ false) → (y z : ℤ)
+          → bound_value (slot_set sets args) a ≡ y → bound_value (slot_set sets args) b ≡ z → set sets ≡ between y z
       row sets fit some y z e f = shifted_set sets r args accepted fit some no_val ∙ (h.set (slot_set sets args) (slot_integer args) ∙ two between e f)
 
       low_seen : (count : ℕ) → IsFrame count r args → AreSeen count args a.products.items
       low_seen count fit = h.low.seen count args (nodes count fit)
 
-      pub moved_quick : (s t : Shift) (k : ℕ) → slot_variable args s.slot ≡ k → s.slot ≡ t.slot → s.constant ≡ t.constant → IsShiftOf a Least s → IsShiftOf b Greatest t → IsQuick r args (Moved k s.constant)
+      pub moved_quick : (s t : Shift) (k : ℕ) → slot_variable args s.slot ≡ k → s.slot ≡ t.slot → s.constant ≡ t.constant → IsShiftOf a Least s
+          → IsShiftOf b Greatest t → IsQuick r args (Moved k s.constant)
       moved_quick s t k e i j m n = record {
         within = λ count fit. (there count s.slot k e (m.seen count args (low_seen count fit)), m.width h.low.width);
         reach = λ sets fit some. row sets fit some _ _ (m.value (slot_set sets args) ∙ ap (λ v. s.constant +ℤ pos (least (family_of sets v))) e)
@@ -174,14 +188,20 @@ module _ (r : Range) (args : List Arg) (accepted : is_accepted INFINITY r ≡ tr
         plus_quick m n' = let n = subst (IsPairOf b Greatest (pos 1) Greatest) (sym same) n' in record {
           within = λ count fit. let s = m.seen count args (low_seen count fit) in (there count p.first x e s.0, there count p.second y f s.1, m.width h.low.width refl);
           reach = λ sets fit some. row sets fit some _ _
-              (m.value (slot_set sets args) ∙ (ap (λ z. (p.constant +ℤ pos (least (slot_set sets args p.first))) +ℤ z) (sym (once_is (pos (least (slot_set sets args p.second))))) ∙ two (λ v w. (p.constant +ℤ pos (least (family_of sets v))) +ℤ pos (least (family_of sets w))) e f))
-              (n.value (slot_set sets args) ∙ (ap (λ z. (p.constant +ℤ pos (greatest (slot_set sets args p.first))) +ℤ z) (sym (once_is (pos (greatest (slot_set sets args p.second))))) ∙ two (λ v w. (p.constant +ℤ pos (greatest (family_of sets v))) +ℤ pos (greatest (family_of sets w))) e f));
+              (m.value (slot_set sets args) ∙ (ap (λ z. (p.constant +ℤ pos (least (slot_set sets args p.first))) +ℤ z)
+              (sym (once_is (pos (least (slot_set sets args p.second)))))
+              ∙ two (λ v w. (p.constant +ℤ pos (least (family_of sets v))) +ℤ pos (least (family_of sets w))) e f))
+              (n.value (slot_set sets args) ∙ (ap (λ z. (p.constant +ℤ pos (greatest (slot_set sets args p.first))) +ℤ z)
+              (sym (once_is (pos (greatest (slot_set sets args p.second)))))
+              ∙ two (λ v w. (p.constant +ℤ pos (greatest (family_of sets v))) +ℤ pos (greatest (family_of sets w))) e f));
         }
 
         pub minus_quick : IsPairOf a Least (negsuc 0) Greatest p → IsPairOf b Greatest (negsuc 0) Least q → IsQuick r args (Minus x y p.constant)
         minus_quick m n' = let n = subst (IsPairOf b Greatest (negsuc 0) Least) (sym same) n' in record {
           within = λ count fit. let s = m.seen count args (low_seen count fit) in (there count p.first x e s.0, there count p.second y f s.1, m.width h.low.width refl);
           reach = λ sets fit some. row sets fit some _ _
-              (m.value (slot_set sets args) ∙ (less_once (p.constant +ℤ pos (least (slot_set sets args p.first))) (greatest (slot_set sets args p.second)) ∙ two (λ v w. (p.constant +ℤ pos (least (family_of sets v))) -ℤ pos (greatest (family_of sets w))) e f))
-              (n.value (slot_set sets args) ∙ (less_once (p.constant +ℤ pos (greatest (slot_set sets args p.first))) (least (slot_set sets args p.second)) ∙ two (λ v w. (p.constant +ℤ pos (greatest (family_of sets v))) -ℤ pos (least (family_of sets w))) e f));
+              (m.value (slot_set sets args) ∙ (less_once (p.constant +ℤ pos (least (slot_set sets args p.first))) (greatest (slot_set sets args p.second))
+              ∙ two (λ v w. (p.constant +ℤ pos (least (family_of sets v))) -ℤ pos (greatest (family_of sets w))) e f))
+              (n.value (slot_set sets args) ∙ (less_once (p.constant +ℤ pos (greatest (slot_set sets args p.first))) (least (slot_set sets args p.second))
+              ∙ two (λ v w. (p.constant +ℤ pos (greatest (family_of sets v))) -ℤ pos (least (family_of sets w))) e f));
         }

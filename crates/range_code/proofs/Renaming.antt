@@ -4,7 +4,7 @@ use Rattle.std.proofs.lemmas.List.{length-map}
 use Rattle.fd_language.specs.declared.range_node.RangeNode.{RangeNode}
 use Rattle.fd_language.specs.Range.{Range}
 use Rattle.fd_language.specs.Check.{fill_range}
-use Rattle.fd_language.specs.Flat.{nodes_of, spelled_range, spelled_range-nodes}
+use Rattle.fd_language.specs.PostfixRanges.{nodes_of, spelled_range, spelled_range-nodes}
 use Rattle.fd_language.specs.RangeRenaming.{rename_range}
 use Rattle.fd_language.proofs.Lemmas.{filled_renamed, renamed_twice}
 use Rattle.range_code.specs.declared.frame.Arg.{Arg}

@@ -42,7 +42,42 @@ integer : Tells (i64-field ∷ []) (λ x y. int_eq x.0 y.0)
 integer = record { same = λ x y h. ap (λ z. (z, tt)) ((Decides-int_eq x.0 y.0).0 h); alike = λ x. (Decides-int_eq x.0 x.0).1 refl }
 
 pub node_same : (a b : RangeNode) → ghosts.eq a b ≡ true → a ≡ b
-node_same a b h = sym (enum.eta a) ∙ (ap enum.make (by_same enum.parts _ (integer, (bare, (word, (word, (word, (word, (bare, (bare, (bare, (bare, (bare, (bare, (bare, (word, (bare, (bare, (bare, (bare, (bare, (bare, (bare, tt))))))))))))))))))))) (enum.as_values a) (enum.as_values b) h) ∙ enum.eta b)
+node_same a b h = sym (enum.eta a) ∙ (ap enum.make (by_same enum.parts _ (
+  integer,
+  (
+    bare,
+    (
+      word,
+      (
+        word,
+        (
+          word,
+          (
+            word,
+            (
+              bare,
+              (
+                bare,
+                (
+                  bare,
+                  (bare, (bare, (bare, (bare, (word, (bare, (bare, (bare, (bare, (bare, (bare, (bare, tt)))))))))))),
+                ),
+              ),
+            ),
+          ),
+        ),
+      ),
+    ),
+  ),
+) (enum.as_values a) (enum.as_values b) h)
+    ∙ enum.eta b)
 
 pub node_alike : (a : RangeNode) → ghosts.eq a a ≡ true
-node_alike a = by_alike enum.parts _ (integer, (bare, (word, (word, (word, (word, (bare, (bare, (bare, (bare, (bare, (bare, (bare, (word, (bare, (bare, (bare, (bare, (bare, (bare, (bare, tt))))))))))))))))))))) (enum.as_values a)
+node_alike a = by_alike enum.parts _ (
+  integer,
+  (
+    bare,
+    (word, (word, (word, (word, (bare, (bare, (bare, (bare, (bare, (bare, (bare, (word, (bare, (bare, (bare, (bare, (bare, (bare, (bare, tt))))))))))))))))))),
+  ),
+)
+    (enum.as_values a)

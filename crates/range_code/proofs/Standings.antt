@@ -1,5 +1,6 @@
 -- How the variables of a range stand, told from what it reads.
-use Rattle.std.proofs.Common.{◌≡◌, ℕ, zero, suc, ◌≤◌, ◌⊎◌, arith, ℤ, ◌<◌, length, get_or, subst, Bool, true, false, cond, not, ◌||◌, ◌&&◌, ◌==◌, List, [], ◌∷◌, ◌++◌, map, filter, refl, sym, ◌∙◌, ap, inl, inr, eqb-true}
+use Rattle.std.proofs.Common.{◌≡◌, ℕ, zero, suc, ◌≤◌, ◌⊎◌, arith, ℤ, ◌<◌, length, get_or, subst, Bool, true, false, cond, not, ◌||◌, ◌&&◌, ◌==◌, List, [], ◌∷◌}
+use Rattle.std.proofs.Common.{◌++◌, map, filter, refl, sym, ◌∙◌, ap, inl, inr, eqb-true}
 use Rattle.std.specs.List.{All, list_any}
 use Rattle.std.proofs.lemmas.Bool.{cases_Bool}
 use Rattle.std.proofs.lemmas.List.Elements.{All-nil, All-cons, All-head, All-tail, All-filter}
@@ -52,7 +53,8 @@ module _ (count : ℕ) (args : List Arg) where
 -- what holds of all pairs holds of them once each
 pub all_once : (P : ℕ × Feature → Type 0) (ds : List (ℕ × Feature)) → All P ds → All P (each_once ds)
 all_once P [] h = All-nil P
-all_once P (d ∷ ds) h = All-cons P d (filter (λ e. not (is_same_pair e d)) (each_once ds)) (All-head P d ds h) (All-filter (λ e. not (is_same_pair e d)) P (each_once ds) (all_once P ds (All-tail P d ds h)))
+all_once P (d ∷ ds) h = All-cons P d (filter (λ e. not (is_same_pair e d)) (each_once ds)) (All-head P d ds h)
+    (All-filter (λ e. not (is_same_pair e d)) P (each_once ds) (all_once P ds (All-tail P d ds h)))
 
 pub same_is : (d e : ℕ × Feature) → is_same_pair d e ≡ true → d ≡ e
 same_is d e h = two (λ x f. (x, f)) (eqb-true d.0 e.0 (first_so (d.0 == e.0) (is_same_feature d.1 e.1) h)) (same_feature d.1 e.1 (second_so (d.0 == e.0) (is_same_feature d.1 e.1) h))
@@ -60,8 +62,10 @@ same_is d e h = two (λ x f. (x, f)) (eqb-true d.0 e.0 (first_so (d.0 == e.0) (i
 without : (t : ℕ × Feature → Bool) (d : ℕ × Feature) (l : List (ℕ × Feature)) → (t d || list_any t (filter (λ e. not (is_same_pair e d)) l)) ≡ (t d || list_any t l)
 without t d [] = refl
 without t d (e ∷ l) = elim (cases_Bool (is_same_pair e d)) [
-  | inl i ↦ ap (λ b. t d || list_any t (cond (not b) (e ∷ filter (λ z. not (is_same_pair z d)) l) (filter (λ z. not (is_same_pair z d)) l))) i ∙ (without t d l ∙ again (t d) (t e) (list_any t l) (ap t (same_is e d i)))
-  | inr i ↦ ap (λ b. t d || list_any t (cond (not b) (e ∷ filter (λ z. not (is_same_pair z d)) l) (filter (λ z. not (is_same_pair z d)) l))) i ∙ past (t d) (t e) (list_any t (filter (λ z. not (is_same_pair z d)) l)) (list_any t l) (without t d l)
+  | inl i ↦ ap (λ b. t d || list_any t (cond (not b) (e ∷ filter (λ z. not (is_same_pair z d)) l) (filter (λ z. not (is_same_pair z d)) l))) i
+      ∙ (without t d l ∙ again (t d) (t e) (list_any t l) (ap t (same_is e d i)))
+  | inr i ↦ ap (λ b. t d || list_any t (cond (not b) (e ∷ filter (λ z. not (is_same_pair z d)) l) (filter (λ z. not (is_same_pair z d)) l))) i
+      ∙ past (t d) (t e) (list_any t (filter (λ z. not (is_same_pair z d)) l)) (list_any t l) (without t d l)
 ] where
   again : (a b c : Bool) → b ≡ a → (a || c) ≡ (a || (b || c))
   again true b c h = refl
@@ -82,7 +86,8 @@ any_firsts t (d ∷ ds) = ap (λ b. t d.0 || b) (any_firsts t ds)
 any_vals : (t : ℕ → Bool) (ds : List (ℕ × Feature)) → list_any (λ d. is_val d.1 && t d.0) ds ≡ list_any t (vals_of ds)
 any_vals t [] = refl
 any_vals t (d ∷ ds) = by_test (is_val d.1) (any_vals t ds) where
-  by_test : (b : Bool) → list_any (λ d. is_val d.1 && t d.0) ds ≡ list_any t (vals_of ds) → ((b && t d.0) || list_any (λ d. is_val d.1 && t d.0) ds) ≡ list_any t (cond b (d.0 ∷ vals_of ds) (vals_of ds))
+  by_test : (b : Bool) → list_any (λ d. is_val d.1 && t d.0) ds ≡ list_any t (vals_of ds)
+      → ((b && t d.0) || list_any (λ d. is_val d.1 && t d.0) ds) ≡ list_any t (cond b (d.0 ∷ vals_of ds) (vals_of ds))
   by_test true e = ap (λ c. t d.0 || c) e
   by_test false e = e
 
@@ -109,7 +114,9 @@ pub universe_some : (M : ℕ) → is_none_left (universe M) ≡ false
 unfolding universe
 universe_some M = refl
 
-pub all_some : (domains : List (List ℕ)) (i : ℕ) → length domains ≤ i → ((k : ℕ) → k < i → (is_none_left (get_or domains k (universe INFINITY)) ≡ false) × IsRising 0 INFINITY (get_or domains k (universe INFINITY))) → (k : ℕ) → (is_none_left (get_or domains k (universe INFINITY)) ≡ false) × IsRising 0 INFINITY (get_or domains k (universe INFINITY))
+pub all_some : (domains : List (List ℕ)) (i : ℕ) → length domains ≤ i
+    → ((k : ℕ) → k < i → (is_none_left (get_or domains k (universe INFINITY)) ≡ false) × IsRising 0 INFINITY (get_or domains k (universe INFINITY))) → (k : ℕ)
+    → (is_none_left (get_or domains k (universe INFINITY)) ≡ false) × IsRising 0 INFINITY (get_or domains k (universe INFINITY))
 all_some domains i l h k = elim (at_or_past domains k) [
   | inl g ↦ h k (omega arith)
   | inr g ↦ (ap is_none_left g ∙ universe_some INFINITY, subst (IsRising 0 INFINITY) (sym g) (universe_rising INFINITY))

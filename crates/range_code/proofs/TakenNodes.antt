@@ -1,14 +1,17 @@
 -- Each node that is read leaves the values and sets that wait those of the terms and ranges that wait.
-use Rattle.std.proofs.Common.{◌≡◌, ℕ, suc, ◌+◌, ◌-◌, ℤ, pos, get_or, List, [], ◌∷◌, ◌++◌, filter, Option, Some, None, refl, sym, ◌∙◌, ap, subst, ◌⊎◌, inl, inr, arith}
+use Rattle.std.proofs.Common.{◌≡◌, ℕ, suc, ◌+◌, ◌-◌, ℤ, pos, get_or, List, [], ◌∷◌, ◌++◌, filter, Option, Some, None, refl, sym, ◌∙◌, ap, subst, ◌⊎◌, inl, inr}
+use Rattle.std.proofs.Common.{arith}
 use Rattle.fd_language.specs.declared.TheConstants.{INFINITY}
 use Rattle.fd_language.specs.declared.range_node.RangeNode.{RangeNode}
 use Rattle.fd_language.specs.declared.range_node.RangeNode.TheVariants as node
 use Rattle.fd_language.specs.Family.{Family, has, IsRising}
-use Rattle.fd_language.specs.Range.{Range, Span, One, Dom, Union, Inter, Outside, Plus, Minus, Times, Over, Expr, Number, Param, Min, Max, Val, Add, Sub, Mul, DivDown, DivUp, in_range}
+use Rattle.fd_language.specs.Range.{Range, Span, One, Dom, Union, Inter, Outside, Plus, Minus, Times, Over, Expr, Number, Param, Min, Max, Val, Add, Sub, Mul}
+use Rattle.fd_language.specs.Range.{DivDown, DivUp, in_range}
 use Rattle.fd_language.specs.Check.{fill_range}
-use Rattle.fd_language.specs.Flat.{built}
+use Rattle.fd_language.specs.PostfixRanges.{built}
 use Rattle.range_code.specs.declared.work.Work.{Work}
-use Rattle.range_code.specs.Work.{leaf_value, filled_value, filled_set, stacked_values, stacked_sets, IsPending, Follows, IsTaken, CanTake, CanTakeTerms, CanTakeRange}
+use Rattle.range_code.specs.Work.{leaf_value, filled_value, filled_set, stacked_values, stacked_sets, IsPending, Follows, IsTaken, CanTake, CanTakeTerms}
+use Rattle.range_code.specs.Work.{CanTakeRange}
 use Rattle.range_code.specs.Heights.{Counts, IsCounted}
 use Rattle.domain_ranges.specs.Narrowing.{between}
 use Rattle.range_code.specs.Steps.{PushesValue, PushesSet, Operates, Spans, Singles, either, Joins, Meets, outside, Complements, moved, Moves}
@@ -22,11 +25,13 @@ follows S p ns rs ts None w e i = tt
 follows S p ns rs ts (Some r) w e i = (rs, ts, e, i)
 
 module _ (S : Family) (p : ℕ → ℤ) (ns : List RangeNode) (old new : Work) where
-  put_term : (rs : List Range) (ts : List Expr) (front : List ℤ) (e : Expr) → front ≡ stacked_values S p ts → new.values.items ≡ front ++ filled_value S p e ∷ [] → new.sets ≡ old.sets → old.sets.sets ≡ stacked_sets S p rs →
+  put_term : (rs : List Range) (ts : List Expr) (front : List ℤ) (e : Expr) → front ≡ stacked_values S p ts
+      → new.values.items ≡ front ++ filled_value S p e ∷ [] → new.sets ≡ old.sets → old.sets.sets ≡ stacked_sets S p rs →
       IsPending S p rs (e ∷ ts) new
   put_term rs ts front e f v s o = record { values = v ∙ ap (λ l. l ++ filled_value S p e ∷ []) f; sets = ap (λ w. w.sets) s ∙ o }
 
-  put_range : (rs : List Range) (front : List (List ℕ)) (r : Range) (s : List ℕ) → front ≡ stacked_sets S p rs → s ≡ filled_set S p r → new.values.items ≡ [] → new.sets.sets ≡ s ∷ front → IsPending S p (r ∷ rs) [] new
+  put_range : (rs : List Range) (front : List (List ℕ)) (r : Range) (s : List ℕ) → front ≡ stacked_sets S p rs → s ≡ filled_set S p r → new.values.items ≡ []
+      → new.sets.sets ≡ s ∷ front → IsPending S p (r ∷ rs) [] new
   put_range rs front r s f e v i = record { values = v; sets = i ∙ (ap (λ l. s ∷ l) f ∙ ap (λ x. x ∷ stacked_sets S p rs) e) }
 
   pub read_int : (z : ℤ) (rs : List Range) (ts : List Expr) → IsPending S p rs ts old → PushesValue (leaf_value S p (node.Int z)) old new → Follows S p ns (built (node.Int z ∷ ns) rs ts) new
@@ -92,7 +97,8 @@ module _ (S : Family) (p : ℕ → ℤ) (ns : List RangeNode) (old new : Work) w
   read_one rs (b ∷ a ∷ ts) w f = tt
   read_one rs (a ∷ []) w f =
       let made = f [] (filled_value S p a) w.values in
-      follows S p ns (One a ∷ rs) [] (built ns (One a ∷ rs) []) new refl (put_range rs old.sets.sets (One a) (between (filled_value S p a) (filled_value S p a)) w.sets (one_is INFINITY (filled_value S p a)) made.0 made.1)
+      follows S p ns (One a ∷ rs) [] (built ns (One a ∷ rs) []) new refl
+      (put_range rs old.sets.sets (One a) (between (filled_value S p a) (filled_value S p a)) w.sets (one_is INFINITY (filled_value S p a)) made.0 made.1)
 
   pub read_dom : (y : ℕ) (rs : List Range) (ts : List Expr) → IsRising 0 INFINITY (S y) → IsPending S p rs ts old → PushesSet (S y) old new → Follows S p ns (built (node.Dom y ∷ ns) rs ts) new
   read_dom y rs (a ∷ ts) r w f = tt
@@ -107,7 +113,8 @@ module _ (S : Family) (p : ℕ → ℤ) (ns : List RangeNode) (old new : Work) w
   read_union (q ∷ r ∷ rs) [] w f =
       let made = f (stacked_sets S p rs) (filled_set S p r) (filled_set S p q) w.sets in
       follows S p ns (Union r q ∷ rs) [] (built ns (Union r q ∷ rs) []) new refl
-      (put_range rs (stacked_sets S p rs) (Union r q) (either (filled_set S p r) (filled_set S p q)) refl (union_is INFINITY (in_range INFINITY S (fill_range p r)) (in_range INFINITY S (fill_range p q))) (made.0 ∙ w.values) made.1)
+      (put_range rs (stacked_sets S p rs) (Union r q) (either (filled_set S p r) (filled_set S p q)) refl
+      (union_is INFINITY (in_range INFINITY S (fill_range p r)) (in_range INFINITY S (fill_range p q))) (made.0 ∙ w.values) made.1)
 
   pub read_inter : (rs : List Range) (ts : List Expr) → IsPending S p rs ts old → Meets old new → Follows S p ns (built (node.Inter ∷ ns) rs ts) new
   read_inter [] [] w f = tt
@@ -118,7 +125,8 @@ module _ (S : Family) (p : ℕ → ℤ) (ns : List RangeNode) (old new : Work) w
   read_inter (q ∷ r ∷ rs) [] w f =
       let made = f (stacked_sets S p rs) (filled_set S p r) (filled_set S p q) w.sets in
       follows S p ns (Inter r q ∷ rs) [] (built ns (Inter r q ∷ rs) []) new refl
-      (put_range rs (stacked_sets S p rs) (Inter r q) (filter (has (filled_set S p q)) (filled_set S p r)) refl (inter_is INFINITY (in_range INFINITY S (fill_range p r)) (in_range INFINITY S (fill_range p q))) (made.0 ∙ w.values) made.1)
+      (put_range rs (stacked_sets S p rs) (Inter r q) (filter (has (filled_set S p q)) (filled_set S p r)) refl
+      (inter_is INFINITY (in_range INFINITY S (fill_range p r)) (in_range INFINITY S (fill_range p q))) (made.0 ∙ w.values) made.1)
 
   pub read_outside : (rs : List Range) (ts : List Expr) → IsPending S p rs ts old → Complements old new → Follows S p ns (built (node.Outside ∷ ns) rs ts) new
   read_outside [] [] w f = tt
@@ -138,7 +146,8 @@ module _ (S : Family) (p : ℕ → ℤ) (ns : List RangeNode) (old new : Work) w
   read_plus (r ∷ rs) (c ∷ []) w f =
       let made = f [] (stacked_sets S p rs) (filled_set S p r) (filled_value S p c) w.values w.sets in
       follows S p ns (Plus r c ∷ rs) [] (built ns (Plus r c ∷ rs) []) new refl
-      (put_range rs (stacked_sets S p rs) (Plus r c) (moved node.Plus (filled_set S p r) (filled_value S p c)) refl (plus_is INFINITY (in_range INFINITY S (fill_range p r)) (filled_value S p c)) made.0 made.1)
+      (put_range rs (stacked_sets S p rs) (Plus r c) (moved node.Plus (filled_set S p r) (filled_value S p c)) refl
+      (plus_is INFINITY (in_range INFINITY S (fill_range p r)) (filled_value S p c)) made.0 made.1)
 
   pub read_minus : (rs : List Range) (ts : List Expr) → IsPending S p rs ts old → Moves node.Minus old new → Follows S p ns (built (node.Minus ∷ ns) rs ts) new
   read_minus [] [] w f = tt
@@ -149,7 +158,8 @@ module _ (S : Family) (p : ℕ → ℤ) (ns : List RangeNode) (old new : Work) w
   read_minus (r ∷ rs) (c ∷ []) w f =
       let made = f [] (stacked_sets S p rs) (filled_set S p r) (filled_value S p c) w.values w.sets in
       follows S p ns (Minus r c ∷ rs) [] (built ns (Minus r c ∷ rs) []) new refl
-      (put_range rs (stacked_sets S p rs) (Minus r c) (moved node.Minus (filled_set S p r) (filled_value S p c)) refl (minus_is INFINITY (in_range INFINITY S (fill_range p r)) (filled_value S p c)) made.0 made.1)
+      (put_range rs (stacked_sets S p rs) (Minus r c) (moved node.Minus (filled_set S p r) (filled_value S p c)) refl
+      (minus_is INFINITY (in_range INFINITY S (fill_range p r)) (filled_value S p c)) made.0 made.1)
 
   pub read_times : (rs : List Range) (ts : List Expr) → IsPending S p rs ts old → Moves node.Times old new → Follows S p ns (built (node.Times ∷ ns) rs ts) new
   read_times [] [] w f = tt
@@ -160,7 +170,8 @@ module _ (S : Family) (p : ℕ → ℤ) (ns : List RangeNode) (old new : Work) w
   read_times (r ∷ rs) (c ∷ []) w f =
       let made = f [] (stacked_sets S p rs) (filled_set S p r) (filled_value S p c) w.values w.sets in
       follows S p ns (Times r c ∷ rs) [] (built ns (Times r c ∷ rs) []) new refl
-      (put_range rs (stacked_sets S p rs) (Times r c) (moved node.Times (filled_set S p r) (filled_value S p c)) refl (times_is INFINITY (in_range INFINITY S (fill_range p r)) (filled_value S p c)) made.0 made.1)
+      (put_range rs (stacked_sets S p rs) (Times r c) (moved node.Times (filled_set S p r) (filled_value S p c)) refl
+      (times_is INFINITY (in_range INFINITY S (fill_range p r)) (filled_value S p c)) made.0 made.1)
 
   pub read_over : (rs : List Range) (ts : List Expr) → IsPending S p rs ts old → Moves node.Over old new → Follows S p ns (built (node.Over ∷ ns) rs ts) new
   read_over [] [] w f = tt
@@ -171,7 +182,8 @@ module _ (S : Family) (p : ℕ → ℤ) (ns : List RangeNode) (old new : Work) w
   read_over (r ∷ rs) (c ∷ []) w f =
       let made = f [] (stacked_sets S p rs) (filled_set S p r) (filled_value S p c) w.values w.sets in
       follows S p ns (Over r c ∷ rs) [] (built ns (Over r c ∷ rs) []) new refl
-      (put_range rs (stacked_sets S p rs) (Over r c) (moved node.Over (filled_set S p r) (filled_value S p c)) refl (over_is INFINITY (in_range INFINITY S (fill_range p r)) (filled_value S p c)) made.0 made.1)
+      (put_range rs (stacked_sets S p rs) (Over r c) (moved node.Over (filled_set S p r) (filled_value S p c)) refl
+      (over_is INFINITY (in_range INFINITY S (fill_range p r)) (filled_value S p c)) made.0 made.1)
 
 -- the same for each kind of instruction that the code tells apart
 
@@ -187,7 +199,8 @@ IsTermOperator i = (i ≡ instr.Add) ⊎ ((i ≡ instr.Sub) ⊎ ((i ≡ instr.Mu
 abbrev IsMove : RangeInstr → Type 0
 IsMove i = (i ≡ instr.Plus) ⊎ ((i ≡ instr.Minus) ⊎ ((i ≡ instr.Times) ⊎ (i ≡ instr.Over)))
 
-push_case : (P : RangeInstr → Type 0) (i : RangeInstr) → IsPush i → ((c : ℕ) → P (instr.PushConst c)) → ((x : ℕ) → P (instr.PushArg x)) → ((y : ℕ) → P (instr.PushMin y)) → ((y : ℕ) → P (instr.PushMax y)) → ((y : ℕ) → P (instr.PushVal y)) → P i
+push_case : (P : RangeInstr → Type 0) (i : RangeInstr) → IsPush i → ((c : ℕ) → P (instr.PushConst c)) → ((x : ℕ) → P (instr.PushArg x))
+    → ((y : ℕ) → P (instr.PushMin y)) → ((y : ℕ) → P (instr.PushMax y)) → ((y : ℕ) → P (instr.PushVal y)) → P i
 push_case P i is h f g u v = elim is [
   | inl e ↦ at_instr P (instr.PushConst e.0) i e.1 (h e.0)
   | inr a ↦ elim a [
@@ -248,21 +261,24 @@ module _ (S : Family) (p : ℕ → ℤ) (k : List ℤ) (old new : Work) where
   Pushes i = PushesValue (leaf_value S p (node_of k i)) old new → IsTaken S p (node_of k i) old new
 
   pub push_taken : (i : RangeInstr) → IsPush i → PushesValue (leaf_value S p (node_of k i)) old new → IsTaken S p (node_of k i) old new
-  push_taken i is = push_case Pushes i is (λ c f ns rs ts w. read_int S p ns old new (get_or k c (pos 0)) rs ts w f) (λ x f ns rs ts w. read_param S p ns old new x rs ts w f) (λ y f ns rs ts w. read_min S p ns old new y rs ts w f)
+  push_taken i is = push_case Pushes i is (λ c f ns rs ts w. read_int S p ns old new (get_or k c (pos 0)) rs ts w f)
+      (λ x f ns rs ts w. read_param S p ns old new x rs ts w f) (λ y f ns rs ts w. read_min S p ns old new y rs ts w f)
       (λ y f ns rs ts w. read_max S p ns old new y rs ts w f) (λ y f ns rs ts w. read_val S p ns old new y rs ts w f)
 
   abbrev Operating : RangeInstr → Type 0
   Operating i = Operates (operator_of i) old new → IsTaken S p (node_of k i) old new
 
   pub operator_taken : (i : RangeInstr) → IsTermOperator i → Operates (operator_of i) old new → IsTaken S p (node_of k i) old new
-  operator_taken i is = term_case Operating i is (λ f ns rs ts w. read_add S p ns old new rs ts w f) (λ f ns rs ts w. read_sub S p ns old new rs ts w f) (λ f ns rs ts w. read_mul S p ns old new rs ts w f)
+  operator_taken i is = term_case Operating i is (λ f ns rs ts w. read_add S p ns old new rs ts w f) (λ f ns rs ts w. read_sub S p ns old new rs ts w f)
+      (λ f ns rs ts w. read_mul S p ns old new rs ts w f)
       (λ f ns rs ts w. read_div_down S p ns old new rs ts w f) (λ f ns rs ts w. read_div_up S p ns old new rs ts w f)
 
   abbrev Moving : RangeInstr → Type 0
   Moving i = Moves (operator_of i) old new → IsTaken S p (node_of k i) old new
 
   pub moved_taken : (i : RangeInstr) → IsMove i → Moves (operator_of i) old new → IsTaken S p (node_of k i) old new
-  moved_taken i is = move_case Moving i is (λ f ns rs ts w. read_plus S p ns old new rs ts w f) (λ f ns rs ts w. read_minus S p ns old new rs ts w f) (λ f ns rs ts w. read_times S p ns old new rs ts w f)
+  moved_taken i is = move_case Moving i is (λ f ns rs ts w. read_plus S p ns old new rs ts w f) (λ f ns rs ts w. read_minus S p ns old new rs ts w f)
+      (λ f ns rs ts w. read_times S p ns old new rs ts w f)
       (λ f ns rs ts w. read_over S p ns old new rs ts w f)
 
   pub span_taken : (i : RangeInstr) → i ≡ instr.Span → Spans old new → IsTaken S p (node_of k i) old new

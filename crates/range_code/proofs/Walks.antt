@@ -4,15 +4,16 @@ use Rattle.std.specs.List.{All}
 use Rattle.std.proofs.lemmas.Bool.{cases_lt}
 use Rattle.range_code.specs.declared.frame.Arg.{Arg}
 use Rattle.range_code.specs.Nodes.{IsReadable}
-use Rattle.range_code.proofs.Placing.{at_drop, all_back}
+use Rattle.range_code.proofs.ConstantPlaces.{at_drop, all_back}
 use Rattle.std.proofs.lemmas.List.{at_drop_more, drop_all}
 use Rattle.std.proofs.lemmas.Option.{same_Some}
 use Rattle.monotone_check.proofs.Lemmas.{builds_all}
 use Rattle.fd_language.specs.declared.range_node.RangeNode.{RangeNode}
 use Rattle.fd_language.specs.declared.range_node.RangeNode.TheVariants as node
 use Rattle.fd_language.specs.Family.{Family}
-use Rattle.fd_language.specs.Range.{Range, Span, One, Dom, Union, Inter, Outside, Plus, Minus, Times, Over, Expr, Number, Infinity, Param, Min, Max, Val, Add, Sub, Mul, DivDown, DivUp}
-use Rattle.fd_language.specs.Flat.{built, spelled_range, IsSpelled}
+use Rattle.fd_language.specs.Range.{Range, Span, One, Dom, Union, Inter, Outside, Plus, Minus, Times, Over, Expr, Number, Infinity, Param, Min, Max, Val, Add}
+use Rattle.fd_language.specs.Range.{Sub, Mul, DivDown, DivUp}
+use Rattle.fd_language.specs.PostfixRanges.{built, spelled_range, IsSpelled}
 use Rattle.fd_language.specs.declared.TheConstants.{INFINITY}
 use Rattle.fd_language.specs.Check.{fill_range}
 use Rattle.fd_language.specs.Range.{in_range}
@@ -25,7 +26,8 @@ use Rattle.range_code.specs.declared.instr.RangeInstr.TheVariants as instr
 use Rattle.range_code.specs.Instructions.{node_of}
 use Rattle.range_code.specs.StepNodes.{steps_from, all_steps, IsAt}
 use Rattle.domain_ranges.specs.Narrowing.{between}
-use Rattle.range_code.specs.Work.{filled_value, filled_set, Fits, RangeFits, CanOperate, CanMove, CanTake, stacked_values, stacked_sets, IsPending, Follows, IsTaken}
+use Rattle.range_code.specs.Work.{filled_value, filled_set, Fits, RangeFits, CanOperate, CanMove, CanTake, stacked_values, stacked_sets, IsPending, Follows}
+use Rattle.range_code.specs.Work.{IsTaken}
 
 -- the last of two equal lists
 record SameEnds (A : Type 0) (xs ys : List A) (x y : A) : Type 0 where
@@ -138,7 +140,8 @@ module _ (S : Family) (p : ℕ → ℤ) where
   all_fit (node.Over ∷ ns) (q ∷ rs) (b ∷ a ∷ ts) r e h = absurd cc
   all_fit (node.Over ∷ ns) (q ∷ rs) (c ∷ []) r e h = let k = all_fit ns (Over q c ∷ rs) [] r e h in record { ranges = (k.ranges.0.0, k.ranges.1); terms = (k.ranges.0.1, tt) }
 
-  two_on_top : (ts : List Expr) (a b : Expr) (items front : List ℤ) (x y : ℤ) (n : RangeNode) → items ≡ stacked_values S p (b ∷ a ∷ ts) → CanOperate n (filled_value S p a) (filled_value S p b) → items ≡ (front ++ x ∷ []) ++ y ∷ [] → CanOperate n x y
+  two_on_top : (ts : List Expr) (a b : Expr) (items front : List ℤ) (x y : ℤ) (n : RangeNode) → items ≡ stacked_values S p (b ∷ a ∷ ts)
+      → CanOperate n (filled_value S p a) (filled_value S p b) → items ≡ (front ++ x ∷ []) ++ y ∷ [] → CanOperate n x y
   two_on_top ts a b items front x y n e h g =
       let k = ends_same (front ++ x ∷ []) (stacked_values S p ts ++ filled_value S p a ∷ []) y (filled_value S p b) (sym g ∙ e) in
       let j = ends_same front (stacked_values S p ts) x (filled_value S p a) k.fronts in
@@ -211,16 +214,20 @@ walk_start S p s w h v i = ([], [], builds_all (all_steps s) h, record { values 
 abbrev node_at : Steps → ℕ → RangeInstr → RangeNode
 node_at s i d = node_of s.constants.items (get_or s.instrs.items i d)
 
-next_is : (s : Steps) (i : ℕ) (d : RangeInstr) (rs : List Range) (ts : List Expr) (o : Option Range) → i < length s.instrs.items → o ≡ built (steps_from s i) rs ts → o ≡ built (node_at s i d ∷ steps_from s (i + 1)) rs ts
+next_is : (s : Steps) (i : ℕ) (d : RangeInstr) (rs : List Range) (ts : List Expr) (o : Option Range) → i < length s.instrs.items
+    → o ≡ built (steps_from s i) rs ts → o ≡ built (node_at s i d ∷ steps_from s (i + 1)) rs ts
 next_is s i d rs ts o l e = e ∙ at_drop_more (λ is. built (map (node_of s.constants.items) is) rs ts) s.instrs.items i d l
 
-pub walk_takes : (S : Family) (p : ℕ → ℤ) (i : ℕ) (s : Steps) (d : RangeInstr) (w : Work) → i < length s.instrs.items → RangeFits S p (spelled_range (all_steps s)) → IsAt S p s i w → CanTake (node_of s.constants.items (get_or s.instrs.items i d)) w
+pub walk_takes : (S : Family) (p : ℕ → ℤ) (i : ℕ) (s : Steps) (d : RangeInstr) (w : Work) → i < length s.instrs.items
+    → RangeFits S p (spelled_range (all_steps s)) → IsAt S p s i w → CanTake (node_of s.constants.items (get_or s.instrs.items i d)) w
 walk_takes S p i s d w l h (rs, ts, e, k) = can_take S p (node_at s i d) (steps_from s (i + 1)) rs ts (spelled_range (all_steps s)) w (next_is s i d rs ts (Some (spelled_range (all_steps s))) l e) h k
 
-from_follows : (S : Family) (p : ℕ → ℤ) (ns : List RangeNode) (r : Range) (o : Option Range) (w : Work) → Some r ≡ o → Follows S p ns o w → (rs : List Range) × (ts : List Expr) × (Some r ≡ built ns rs ts) × IsPending S p rs ts w
+from_follows : (S : Family) (p : ℕ → ℤ) (ns : List RangeNode) (r : Range) (o : Option Range) (w : Work) → Some r ≡ o → Follows S p ns o w
+    → (rs : List Range) × (ts : List Expr) × (Some r ≡ built ns rs ts) × IsPending S p rs ts w
 from_follows S p ns r o w e f = subst (λ q. Follows S p ns q w) (sym e) f
 
-pub walk_step : (S : Family) (p : ℕ → ℤ) (i : ℕ) (s : Steps) (d : RangeInstr) (old new : Work) → i < length s.instrs.items → IsAt S p s i old → IsTaken S p (node_of s.constants.items (get_or s.instrs.items i d)) old new → IsAt S p s (i + 1) new
+pub walk_step : (S : Family) (p : ℕ → ℤ) (i : ℕ) (s : Steps) (d : RangeInstr) (old new : Work) → i < length s.instrs.items → IsAt S p s i old
+    → IsTaken S p (node_of s.constants.items (get_or s.instrs.items i d)) old new → IsAt S p s (i + 1) new
 walk_step S p i s d old new l (rs, ts, e, k) f =
     from_follows S p (steps_from s (i + 1)) (spelled_range (all_steps s)) _ new (next_is s i d rs ts (Some (spelled_range (all_steps s))) l e) (f (steps_from s (i + 1)) rs ts k)
 
@@ -257,7 +264,8 @@ pub record Ends (S : Family) (p : ℕ → ℤ) (s : Steps) (w : Work) : Type 0 w
   pub values : w.values.items ≡ ([] ++ low ∷ []) ++ high ∷ []
   pub set : filled_set S p (spelled_range (all_steps s)) ≡ between low high
 
-ends_of : (S : Family) (p : ℕ → ℤ) (r : Range) (rs : List Range) (ts : List Expr) (items : List ℤ) → Some r ≡ built (node.Span ∷ []) rs ts → items ≡ stacked_values S p ts → (low : ℤ) × (high : ℤ) × (items ≡ ([] ++ low ∷ []) ++ high ∷ []) × (filled_set S p r ≡ between low high)
+ends_of : (S : Family) (p : ℕ → ℤ) (r : Range) (rs : List Range) (ts : List Expr) (items : List ℤ) → Some r ≡ built (node.Span ∷ []) rs ts
+    → items ≡ stacked_values S p ts → (low : ℤ) × (high : ℤ) × (items ≡ ([] ++ low ∷ []) ++ high ∷ []) × (filled_set S p r ≡ between low high)
 ends_of S p r rs [] items e h = absurd cc
 ends_of S p r rs (b ∷ []) items e h = absurd cc
 ends_of S p r rs (b ∷ a ∷ c ∷ ts) items e h = absurd cc
@@ -276,7 +284,8 @@ pub record Inner (S : Family) (p : ℕ → ℤ) (s : Steps) (w : Work) : Type 0 
   pub sets : w.sets.sets ≡ inner ∷ rest
   pub set : filled_set S p (spelled_range (all_steps s)) ≡ outside inner
 
-inner_of : (S : Family) (p : ℕ → ℤ) (r : Range) (rs : List Range) (ts : List Expr) (sets : List (List ℕ)) → Some r ≡ built (node.Outside ∷ []) rs ts → sets ≡ stacked_sets S p rs → (q : Range) × (rest : List (List ℕ)) × (sets ≡ filled_set S p q ∷ rest) × (filled_set S p r ≡ outside (filled_set S p q))
+inner_of : (S : Family) (p : ℕ → ℤ) (r : Range) (rs : List Range) (ts : List Expr) (sets : List (List ℕ)) → Some r ≡ built (node.Outside ∷ []) rs ts
+    → sets ≡ stacked_sets S p rs → (q : Range) × (rest : List (List ℕ)) × (sets ≡ filled_set S p q ∷ rest) × (filled_set S p r ≡ outside (filled_set S p q))
 inner_of S p r [] [] sets e h = absurd cc
 inner_of S p r [] (t ∷ ts) sets e h = absurd cc
 inner_of S p r (q ∷ x ∷ rs) [] sets e h = absurd cc
@@ -298,5 +307,7 @@ some_step s h = elim (cases_lt s.tests (length s.instrs.items)) [
   | inr l ↦ absurd (nothing_spelled (all_steps s) h (at_end s s.tests l))
 ]
 
-pub readable_at : (count : ℕ) (args : List Arg) (s : Steps) (i : ℕ) (d : RangeInstr) → s.tests ≤ i → i < length s.instrs.items → All (IsReadable count args) (all_steps s) → IsReadable count args (node_of s.constants.items (get_or s.instrs.items i d))
-readable_at count args s i d h l k = at_drop (λ j. IsReadable count args (node_of s.constants.items j)) s.instrs.items s.tests i d h l (all_back (IsReadable count args) (node_of s.constants.items) (drop s.tests s.instrs.items) k)
+pub readable_at : (count : ℕ) (args : List Arg) (s : Steps) (i : ℕ) (d : RangeInstr) → s.tests ≤ i → i < length s.instrs.items
+    → All (IsReadable count args) (all_steps s) → IsReadable count args (node_of s.constants.items (get_or s.instrs.items i d))
+readable_at count args s i d h l k = at_drop (λ j. IsReadable count args (node_of s.constants.items j)) s.instrs.items s.tests i d h l
+    (all_back (IsReadable count args) (node_of s.constants.items) (drop s.tests s.instrs.items) k)

@@ -8,7 +8,7 @@ use Rattle.fd_language.specs.Family.{Family, has, universe}
 use Rattle.domain_ranges.specs.Spans.{Span}
 use Rattle.fd_language.specs.Range.{Range, One, Dom, Inter, Times, Plus, Number, in_range}
 use Rattle.fd_language.specs.Check.{fill_range}
-use Rattle.fd_language.specs.Flat.{nodes_of, built}
+use Rattle.fd_language.specs.PostfixRanges.{nodes_of, built}
 use Rattle.range_code.specs.declared.frame.Arg.{Arg}
 use Rattle.range_code.specs.declared.choice.Choice.{Choice}
 use Rattle.range_code.specs.declared.choice.Part.{Part}

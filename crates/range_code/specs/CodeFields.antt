@@ -6,10 +6,10 @@ use Rattle.fd_language.specs.declared.range_node.RangeNode.{RangeNode}
 use Rattle.fd_language.specs.declared.TheConstants.{INFINITY}
 use Rattle.fd_language.specs.Range.{Range}
 use Rattle.fd_language.specs.RangeVerdict.{is_accepted}
-use Rattle.fd_language.specs.Flat.{nodes_of}
+use Rattle.fd_language.specs.PostfixRanges.{nodes_of}
 use Rattle.range_code.specs.declared.compile.ReadKind.{ReadKind}
 use Rattle.range_code.specs.declared.evaluate.Steps.{Steps}
-use Rattle.range_code.specs.declared.form.Form.{Form}
+use Rattle.range_code.specs.declared.form.Evaluation.{Evaluation}
 use Rattle.range_code.specs.declared.Shape.{Shape}
 use Rattle.range_code.specs.Forms.{IsForm, IsShifted}
 use Rattle.range_code.specs.Slots.{slots_of, slot_needs, slot_features, in_slots}
@@ -30,7 +30,8 @@ pub record IsShapeOf (r : Range) (s : Shape) : Type 0 where
   pub needs : s.needs.items ≡ slot_needs r
   pub nodes : s.nodes.items ≡ nodes_of (in_slots r)
 
-pub record IsCompiled (r : Range) (vs : List ℕ) (ns : List (Option Need)) (fs : List (ℕ × Feature)) (ks : List (ℕ × ReadKind)) (ys : List ℕ) (ms : List RangeNode) (s : Steps) (way : Form) (high : ℕ) : Type 0 where
+pub record IsCompiled (r : Range) (vs : List ℕ) (ns : List (Option Need)) (fs : List (ℕ × Feature)) (ks : List (ℕ × ReadKind)) (ys : List ℕ)
+    (ms : List RangeNode) (s : Steps) (way : Evaluation) (high : ℕ) : Type 0 where
   pub accepted : IsTrue (is_accepted INFINITY r)
   pub slots : vs ≡ slots_of r
   pub needs : ns ≡ slot_needs r

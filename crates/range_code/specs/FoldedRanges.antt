@@ -2,10 +2,11 @@
 use Rattle.std.specs.Prelude.{if◌then◌else◌, List, pos}
 use Rattle.fd_language.specs.declared.range_node.RangeNode.{RangeNode}
 use Rattle.fd_language.specs.declared.TheConstants.{INFINITY}
-use Rattle.fd_language.specs.Range.{Range, Span, One, Dom, Union, Inter, Outside, Plus, Minus, Times, Over, Expr, Number, Infinity, Param, Min, Max, Val, Add, Sub, Mul, DivDown, DivUp}
+use Rattle.fd_language.specs.Range.{Range, Span, One, Dom, Union, Inter, Outside, Plus, Minus, Times, Over, Expr, Number, Infinity, Param, Min, Max, Val, Add}
+use Rattle.fd_language.specs.Range.{Sub, Mul, DivDown, DivUp}
 use Rattle.fd_language.specs.Needs.{is_literal}
 use Rattle.fd_language.specs.Check.{literal_value}
-use Rattle.fd_language.specs.Flat.{nodes_of}
+use Rattle.fd_language.specs.PostfixRanges.{nodes_of}
 use Rattle.range_code.specs.Slots.{in_slots}
 
 -- a literal as its value, and another term as it is

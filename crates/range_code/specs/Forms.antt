@@ -5,7 +5,7 @@ use Rattle.fd_language.specs.declared.range_node.RangeNode.{RangeNode}
 use Rattle.fd_language.specs.declared.TheConstants.{INFINITY}
 use Rattle.fd_language.specs.Family.{Family}
 use Rattle.fd_language.specs.Range.{Range, Outside, One, Expr, Val, least, greatest, div_down, div_up}
-use Rattle.fd_language.specs.Flat.{nodes_of, built, shape_of, term_alone, term_of_terms}
+use Rattle.fd_language.specs.PostfixRanges.{nodes_of, built, shape_of, term_alone, term_of_terms}
 use Rattle.domain_ranges.specs.Narrowing.{between}
 use Rattle.range_code.specs.declared.frame.Arg.{Arg}
 use Rattle.range_code.specs.declared.form.End.{End}
@@ -15,8 +15,8 @@ use Rattle.range_code.specs.declared.form.Shift.{Shift}
 use Rattle.range_code.specs.declared.form.Division.{Division}
 use Rattle.range_code.specs.declared.form.Division.TheVariants.{Whole, Down, Up}
 use Rattle.range_code.specs.declared.form.Bound.{Bound}
-use Rattle.range_code.specs.declared.form.Form.{Form}
-use Rattle.range_code.specs.declared.form.Form.TheVariants.{Nodes, Differs, Above, Below, Between, Row, Without, Except, Chosen}
+use Rattle.range_code.specs.declared.form.Evaluation.{Evaluation}
+use Rattle.range_code.specs.declared.form.Evaluation.TheVariants.{Nodes, Differs, Above, Below, Between, Row, Without, Except, Chosen}
 use Rattle.range_code.specs.declared.form.Leaf.{Leaf}
 use Rattle.range_code.specs.declared.form.Leaf.TheVariants.{Number, Read}
 use Rattle.range_code.specs.declared.form.Addend.{Addend}
@@ -132,7 +132,7 @@ pub record IsException (r : Range) (a : Bound) : Type 0 where
   pub value : IsUsable r a
 
 -- the form is one of the range
-abbrev pub IsForm : Range → Form → Type 0
+abbrev pub IsForm : Range → Evaluation → Type 0
 IsForm r Nodes = Unit {0}
 IsForm r (Differs slot) = r ≡ all_but_val slot
 IsForm r (Above s z) = IsAbove r s z
@@ -144,7 +144,7 @@ IsForm r (Except a) = IsException r a
 IsForm r (Chosen c) = IsChoice r c
 
 -- the form reads one end of one domain
-abbrev pub IsShifted : Form → Type 0
+abbrev pub IsShifted : Evaluation → Type 0
 IsShifted (Above s z) = Unit {0}
 IsShifted (Below z s) = Unit {0}
 IsShifted form = ⊥

@@ -4,7 +4,7 @@ pub mod Nodes
 pub mod Kinds
 pub mod FoldedRanges
 pub mod Instructions
-pub mod Standing
+pub mod Standings
 pub mod Work
 pub mod Pieces
 pub mod Steps
@@ -15,5 +15,5 @@ pub mod SlotNumbering
 pub mod CodeFields
 pub mod Choices
 pub mod Forms
-pub mod Reaching
+pub mod SetReaches
 pub mod QuickForms

@@ -6,15 +6,15 @@ use Rattle.fd_language.specs.Range.{Range, Span, Param, set_of, least, greatest,
 use Rattle.range_code.specs.declared.frame.Arg.{Arg}
 use Rattle.range_code.specs.declared.form.End.{End}
 use Rattle.range_code.specs.declared.form.Bound.{Bound}
-use Rattle.range_code.specs.declared.quick.Quick.{Quick}
-use Rattle.range_code.specs.declared.quick.Quick.TheVariants.{Other, Within, Differs, Above, Below, Moved, Plus, Minus}
-use Rattle.range_code.specs.declared.quick.Pair.{Pair}
+use Rattle.range_code.specs.declared.quick_forms.Quick.{Quick}
+use Rattle.range_code.specs.declared.quick_forms.Quick.TheVariants.{Other, Within, Differs, Above, Below, Moved, Plus, Minus}
+use Rattle.range_code.specs.declared.quick_forms.Pair.{Pair}
 use Rattle.range_code.specs.declared.Reach.{Reach}
 use Rattle.range_code.specs.declared.Reach.TheVariants as reach
 use Rattle.range_code.specs.Frames.{IsFrame, posted, family_of}
 use Rattle.range_code.specs.Nodes.{IsSeen}
 use Rattle.range_code.specs.Forms.{end_of, bound_value, AreNarrow, AreSeen}
-use Rattle.range_code.specs.Reaching.{IsReach}
+use Rattle.range_code.specs.SetReaches.{IsReach}
 
 -- what is reached over these sets
 abbrev pub reached : List (List ℕ) → Quick → Reach
@@ -48,7 +48,8 @@ IsWithin count (Minus x y z) = (x < count) × (y < count) × IsSmallForTwo z
 -- wherever the range may be evaluated, the quick form may be, and reaches its set
 pub record IsQuick (r : Range) (args : List Arg) (quick : Quick) : Type 0 where
   pub within : (count : ℕ) → IsFrame count r args → IsWithin count quick
-  pub reach : (sets : List (List ℕ)) → IsFrame (length sets) r args → ((k : ℕ) → is_none_left (family_of sets k) ≡ false) → IsReach (set_of INFINITY (family_of sets) (posted r args)) (reached sets quick)
+  pub reach : (sets : List (List ℕ)) → IsFrame (length sets) r args → ((k : ℕ) → is_none_left (family_of sets k) ≡ false)
+      → IsReach (set_of INFINITY (family_of sets) (posted r args)) (reached sets quick)
 
 -- the interval between two parameters
 abbrev pub between_parameters : ℕ → ℕ → Range

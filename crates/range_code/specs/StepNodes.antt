@@ -4,7 +4,7 @@ use Rattle.std.specs.List.{All}
 use Rattle.fd_language.specs.declared.range_node.RangeNode.{RangeNode}
 use Rattle.fd_language.specs.Family.{Family}
 use Rattle.fd_language.specs.Range.{Range, Expr}
-use Rattle.fd_language.specs.Flat.{built, spelled_range}
+use Rattle.fd_language.specs.PostfixRanges.{built, spelled_range}
 use Rattle.range_code.specs.declared.work.Work.{Work}
 use Rattle.range_code.specs.declared.evaluate.Steps.{Steps}
 use Rattle.range_code.specs.Instructions.{node_of, IsPlaced}

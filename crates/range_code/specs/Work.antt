@@ -4,9 +4,10 @@ use Rattle.fd_language.specs.declared.range_node.RangeNode.{RangeNode}
 use Rattle.fd_language.specs.declared.range_node.RangeNode.TheVariants as node
 use Rattle.fd_language.specs.declared.TheConstants.{INFINITY}
 use Rattle.fd_language.specs.Family.{Family, universe}
-use Rattle.fd_language.specs.Range.{Range, Span, One, Dom, Union, Inter, Outside, Plus, Minus, Times, Over, Expr, Number, Infinity, Param, Min, Max, Val, Add, Sub, Mul, DivDown, DivUp, value, in_range, least, greatest, div_down, div_up}
+use Rattle.fd_language.specs.Range.{Range, Span, One, Dom, Union, Inter, Outside, Plus, Minus, Times, Over, Expr, Number, Infinity, Param, Min, Max, Val, Add}
+use Rattle.fd_language.specs.Range.{Sub, Mul, DivDown, DivUp, value, in_range, least, greatest, div_down, div_up}
 use Rattle.fd_language.specs.Check.{fill, fill_range}
-use Rattle.fd_language.specs.Flat.{built}
+use Rattle.fd_language.specs.PostfixRanges.{built}
 use Rattle.range_code.specs.declared.work.Work.{Work}
 
 -- the limit of values

@@ -4,7 +4,7 @@ ghost use Rattle.std.specs.Prelude.{◌≡◌, ◌<◌, ◌≤◌, [], ◌∷◌
 ghost use Rattle.std.specs.List.{All};
 ghost use Rattle.domain_ranges.specs.Spans.{within, IsSpans};
 ghost use Rattle.fd_language.specs.Family.{has};
-ghost use Rattle.fd_language.specs.Flat.{nodes_of, range_nodes};
+ghost use Rattle.fd_language.specs.PostfixRanges.{nodes_of, range_nodes};
 ghost use Rattle.fd_language.specs.Range.{Range};
 ghost use Rattle.range_code.specs.Choices.{part_range, left_chosen, IsPairAdded, AreRising, IsChoice, IsFromNumber};
 

@@ -3,7 +3,7 @@
 ghost use Rattle.std.specs.Prelude.{◌≡◌, ◌≤◌, ℕ, ℤ, pos, List, [], ◌∷◌, ◌++◌, length, filter, vec_capacity, IfOk, OnOk};
 ghost use Rattle.std.specs.List.{All};
 ghost use Rattle.fd_language.specs.Range.{least as least_of, greatest as greatest_of};
-ghost use Rattle.fd_language.specs.Flat.{spelled_range, IsSpelled};
+ghost use Rattle.fd_language.specs.PostfixRanges.{spelled_range, IsSpelled};
 ghost use Rattle.range_code.specs.Frames.{slot_set, slot_integer};
 ghost use Rattle.range_code.specs.Nodes.{IsReadable};
 ghost use Rattle.range_code.specs.Work.{leaf_value, filled_set, RangeFits, CanTake, IsTaken};
@@ -18,7 +18,7 @@ ghost use Rattle.range_code.specs.StepNodes.{steps_from, all_steps, ArePlaced, I
 ghost use Rattle.domain_ranges.specs.Narrowing.{between, IsNarrowed};
 
 use crate::choice::gather;
-use crate::form::Form;
+use crate::form::Evaluation;
 use crate::frame::{Arg, slot_domain, slot_value};
 use crate::instr::RangeInstr;
 use crate::work::Work;
@@ -293,7 +293,7 @@ fn narrow_to_chosen(
 pub(crate) fn evaluate_narrowing<V: View>(
     work: &mut Work,
     steps: &Steps,
-    form: &Form,
+    form: &Evaluation,
     args: &[Arg],
     view: &V,
     target: &Domain,
@@ -312,11 +312,11 @@ pub(crate) fn evaluate_narrowing<V: View>(
     ensures kept { KeepsRoom work.old work.new }
 {
     match form {
-        Form::Without(low, high) => {
+        Evaluation::Without(low, high) => {
             let low = low.value(args, view);
             narrow_outside(work.alloc, target, low, high.value(args, view))
         }
-        Form::Chosen(choice) => {
+        Evaluation::Chosen(choice) => {
             let keys = slot_domain(args, choice.slot, view);
             narrow_to_chosen(work, target, &choice.pairs, keys)
         }

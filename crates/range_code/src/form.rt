@@ -3,7 +3,7 @@
 ghost use Rattle.std.specs.Prelude.{◌≡◌, ◌<◌, ◌≤◌, ◌^◌, ◌-◌, ◌+◌, ◌*◌, ◌⊎◌, pos, ◌+ℤ◌, ◌*ℤ◌, nat_abs, IsTrue, List, [], ◌∷◌, length, IfSome, IfOk};
 ghost use Rattle.fd_language.specs.declared.range_node.RangeNode.{RangeNode as Spelled};
 ghost use Rattle.fd_language.specs.Family.{Family};
-ghost use Rattle.fd_language.specs.Flat.{nodes_of};
+ghost use Rattle.fd_language.specs.PostfixRanges.{nodes_of};
 ghost use Rattle.fd_language.specs.Range.{Range};
 ghost use Rattle.range_code.specs.Frames.{slot_set};
 ghost use Rattle.range_code.specs.Nodes.{IsSeen};
@@ -57,7 +57,7 @@ pub(crate) struct Shift {
 /// number or from a number up to a moved greatest member, as any other interval, as one between bounds whose products are opposite, as
 /// the complement of an interval or of a single number, or by choosing numbers.
 #[derive(Drop)]
-pub(crate) enum Form {
+pub(crate) enum Evaluation {
     Nodes,
     Differs(usize),
     Above(Shift, i64),
@@ -506,41 +506,45 @@ fn differing_slot(nodes: &[RangeNode]) -> Option<usize>
 }
 
 /// The form of the range that the nodes spell. It is a moved end only where nothing is read by val.
-pub(crate) fn form_of(alloc: Global, nodes: &[RangeNode], no_val: bool) -> Result<Form, NoMemory>
+pub(crate) fn form_of(
+    alloc: Global,
+    nodes: &[RangeNode],
+    no_val: bool,
+) -> Result<Evaluation, NoMemory>
     ensures form { IfOk result
         (λ form. (r : Range) → nodes.now ≡ nodes_of r → IsForm r form) }
     ensures shifted { IfOk result (λ form. IsShifted form → IsTrue no_val) }
 {
     if let Some(slot) = differing_slot(nodes) {
-        return Ok(Form::Differs(slot));
+        return Ok(Evaluation::Differs(slot));
     }
     match read_choice(alloc, nodes)? {
-        Some(choice) => Ok(Form::Chosen(choice)),
+        Some(choice) => Ok(Evaluation::Chosen(choice)),
         None => sums_form(alloc, nodes, no_val),
     }
 }
 
 /// Its form where it is made of sums.
-fn sums_form(alloc: Global, nodes: &[RangeNode], no_val: bool) -> Result<Form, NoMemory>
+fn sums_form(alloc: Global, nodes: &[RangeNode], no_val: bool) -> Result<Evaluation, NoMemory>
     ensures form { IfOk result
         (λ form. (r : Range) → nodes.now ≡ nodes_of r → IsForm r form) }
     ensures shifted { IfOk result (λ form. IsShifted form → IsTrue no_val) }
 {
     let Some((low, rest)) = read_bound(alloc, nodes)? else {
-        return Ok(Form::Nodes);
+        return Ok(Evaluation::Nodes);
     };
     if let [single, last] = rest {
         if is_single(*single) && is_complement(*last) {
-            return Ok(Form::Except(low));
+            return Ok(Evaluation::Except(low));
         }
     }
     let Some((high, rest)) = read_bound(alloc, rest)? else {
-        return Ok(Form::Nodes);
+        return Ok(Evaluation::Nodes);
     };
     match rest {
         [last] if is_span(*last) => Ok(between_form(low, high, no_val)),
         [span, last] if is_span(*span) && is_complement(*last) => Ok(outside_form(low, high)),
-        _ => Ok(Form::Nodes),
+        _ => Ok(Evaluation::Nodes),
     }
 }
 
@@ -649,20 +653,20 @@ pub(crate) fn shift_of(bound: &Bound, end: End) -> Option<Shift>
 }
 
 /// The form of the interval between two bounds, where one is a number and the other a moved end.
-fn shifted_form(low: &Bound, high: &Bound) -> Option<Form>
+fn shifted_form(low: &Bound, high: &Bound) -> Option<Evaluation>
     ensures { IfSome result (λ form. (r : Range) → IsInterval r low.now high.now → IsForm r form) }
 {
     if let Some(number) = number_of(high) {
         let shift = shift_of(low, End::Least)?;
-        return Some(Form::Above(shift, number));
+        return Some(Evaluation::Above(shift, number));
     }
     let number = number_of(low)?;
     let shift = shift_of(high, End::Greatest)?;
-    Some(Form::Below(number, shift))
+    Some(Evaluation::Below(number, shift))
 }
 
 /// The form of the interval between two bounds: where their products are opposite, one pass gives both.
-fn between_form(low: Bound, high: Bound, no_val: bool) -> Form
+fn between_form(low: Bound, high: Bound, no_val: bool) -> Evaluation
     ensures form { (r : Range) → IsInterval r low high → IsForm r result }
     ensures shifted { IsShifted result → IsTrue no_val }
 {
@@ -672,9 +676,9 @@ fn between_form(low: Bound, high: Bound, no_val: bool) -> Form
         }
     }
     if are_opposite(&low.products, &high.products) {
-        Form::Row(low, high)
+        Evaluation::Row(low, high)
     } else {
-        Form::Between(low, high)
+        Evaluation::Between(low, high)
     }
 }
 
@@ -689,13 +693,13 @@ fn is_one_sum(a: &Bound, b: &Bound) -> bool
 }
 
 /// The form of the complement of the interval between two bounds: where they are one sum, a single number is left out.
-fn outside_form(low: Bound, high: Bound) -> Form
+fn outside_form(low: Bound, high: Bound) -> Evaluation
     ensures form { (r : Range) → IsComplement r low high → IsForm r result }
     ensures unshifted { IsShifted result → ⊥ }
 {
     if is_one_sum(&low, &high) {
-        Form::Except(low)
+        Evaluation::Except(low)
     } else {
-        Form::Without(low, high)
+        Evaluation::Without(low, high)
     }
 }

@@ -5,7 +5,7 @@ ghost use Rattle.std.specs.List.{All, list_any};
 ghost use Rattle.fd_language.specs.Family.{IsFamily};
 ghost use Rattle.range_code.specs.Frames.{variable_of, arg_integer, slot_integer, slot_set, family_of};
 ghost use Rattle.range_code.specs.Nodes.{IsSeen};
-ghost use Rattle.range_code.specs.Standing.{tested, IsTestSeen, TestRises};
+ghost use Rattle.range_code.specs.Standings.{tested, IsTestSeen, TestRises};
 ghost use Rattle.fd_language.specs.Range.{is_several, is_none_left};
 
 use crate::instr::RangeInstr;

@@ -4,7 +4,7 @@
 ghost use Rattle.std.specs.Prelude.{◌≡◌, ◌≤◌, ◌+◌, ◌-◌, ◌^◌, ◌↔◌, min, ℕ, pos, List, [], true, false, length, map, IfOk, OnOk, IsTrue};
 ghost use Rattle.fd_language.specs.RangeVerdict.{is_accepted};
 ghost use Rattle.fd_language.specs.Family.{IsFamily};
-ghost use Rattle.fd_language.specs.Flat.{nodes_of};
+ghost use Rattle.fd_language.specs.PostfixRanges.{nodes_of};
 ghost use Rattle.fd_language.specs.Range.{Range, set_of, least, is_none_left, is_several};
 ghost use Rattle.domain_ranges.specs.Narrowing.{IsNarrowed};
 ghost use Rattle.range_code.specs.Slots.{slots_of, slot_needs, slot_features, in_slots, IsAlike};
@@ -16,12 +16,11 @@ ghost use Rattle.range_code.specs.CodeFields.{AreStepsOf, IsShapeOf};
 ghost use Rattle.range_code.specs.Instructions.{instructions_of, tests_of};
 ghost use Rattle.range_code.specs.StepNodes.{all_steps, ArePlaced};
 ghost use Rattle.range_code.specs.Forms.{IsForm, IsShifted};
-ghost use Rattle.range_code.specs.Reaching.{IsReach};
+ghost use Rattle.range_code.specs.SetReaches.{IsReach};
 ghost use Rattle.std.specs.List.{list_any};
 ghost use Rattle.range_code.specs.Frames.{IsFrame, posted, family_of, slot_set};
 ghost use Rattle.range_code.specs.declared.frame.Arg.{Arg as AnyArg};
 
-mod alike;
 mod choice;
 mod compile;
 mod evaluate;
@@ -29,20 +28,21 @@ mod fold;
 mod form;
 mod frame;
 mod instr;
-mod quick;
+mod quick_forms;
+mod renamed_ranges;
 mod work;
 
-use crate::alike::{are_same_needs, are_same_nodes};
 pub use crate::compile::ReadKind;
 use crate::compile::{copy_range, height_of, needs_of_slots, put_in_slots, reads_of};
 use crate::evaluate::{Steps, evaluate, evaluate_narrowing};
 use crate::fold::fold_literals;
-use crate::form::{Form, both_values, form_of};
+use crate::form::{Evaluation, both_values, form_of};
 pub use crate::frame::{Arg, are_some};
 use crate::frame::{Standing, find_standing, is_open, is_some_open, slot_domain};
 pub use crate::instr::RangeInstr;
 use crate::instr::steps_of;
-pub use crate::quick::{Quick, quick_of, quick_reach};
+pub use crate::quick_forms::{Quick, quick_of, quick_reach};
+use crate::renamed_ranges::{are_same_needs, are_same_nodes};
 use crate::work::Work;
 pub use domain_ranges::Narrowed;
 use domain_ranges::{Domain, View};
@@ -64,7 +64,7 @@ pub struct RangeCode {
     vals: Vec<usize>,
     nodes: Vec<RangeNode>,
     steps: Steps,
-    form: Form,
+    form: Evaluation,
     height: usize,
 }
 
@@ -72,7 +72,7 @@ impl Model for RangeCode {
     ghost use Rattle.std.specs.Coded.{code_by, coded_list};
     ghost use Rattle.fd_language.specs.contracts.range_node.RangeNode as node;
     ghost use Rattle.fd_language.specs.Range.{Range};
-    ghost use Rattle.fd_language.specs.Flat.{nodes_of, spelled_range, spelled_range-nodes};
+    ghost use Rattle.fd_language.specs.PostfixRanges.{nodes_of, spelled_range, spelled_range-nodes};
 
     ghost Value = { Range };
 
@@ -223,7 +223,7 @@ impl RangeCode {
 
     /// How the range is evaluated where it narrows.
     #[inline(always)]
-    fn form(&self) -> &Form
+    fn form(&self) -> &Evaluation
         ensures form { IsForm (in_slots self.now) result.now }
         ensures shifted { IsShifted result.now → val_slots self.now ≡ [] }
         ensures accepted { IsTrue (is_accepted INFINITY self.now) }
@@ -417,15 +417,15 @@ fn settled_reach<V: View>(code: &RangeCode, args: &[Arg], view: &V) -> Reach
         (set_of INFINITY (family_of (V.sets view.now)) (posted code.now args.now)) result }
 {
     match code.form() {
-        Form::Between(low, high) => {
+        Evaluation::Between(low, high) => {
             let low = low.value(args, view);
             Reach::Between(low, high.value(args, view))
         }
-        Form::Row(low, high) => {
+        Evaluation::Row(low, high) => {
             let ends = both_values(low, high, args, view);
             Reach::Between(ends.0, ends.1)
         }
-        Form::Except(number) => Reach::Except(number.value(args, view)),
+        Evaluation::Except(number) => Reach::Except(number.value(args, view)),
         _ => Reach::Other,
     }
 }
@@ -442,13 +442,13 @@ fn reach_of<V: View>(code: &RangeCode, args: &[Arg], view: &V) -> Reach
         (val_slots code.now) ≡ false }
 {
     let form = code.form();
-    if let Form::Above(low, high) = form {
+    if let Evaluation::Above(low, high) = form {
         return Reach::Between(low.least(args, view), *high);
     }
-    if let Form::Below(low, high) = form {
+    if let Evaluation::Below(low, high) = form {
         return Reach::Between(*low, high.greatest(args, view));
     }
-    if let Form::Differs(slot) = form {
+    if let Evaluation::Differs(slot) = form {
         return reach_without(slot_domain(args, *slot, view));
     }
     if is_some_open(code.vals(), args, view) {

@@ -31,22 +31,26 @@ filter_both p q r h (e ∷ l) = ap (λ (c : Bool). cond c (e ∷ filter r l) (fi
 -- once the pair d is met, nothing else changes
 later : (old new : Seen) (d : ℕ × Feature) → ((e : ℕ × Feature) → sees new e ≡ (sees old e || is_same_pair e d)) → (ns : List RangeNode)
     → unseen new ns ≡ filter (λ e. not (sees old e)) (filter (λ e. not (is_same_pair e d)) (each_once (node_features ns)))
-later old new d h ns = filter_both (λ e. not (sees old e)) (λ e. not (is_same_pair e d)) (λ e. not (sees new e)) (λ e. ap not (h e) ∙ neither (sees old e) (is_same_pair e d)) (each_once (node_features ns))
+later old new d h ns = filter_both (λ e. not (sees old e)) (λ e. not (is_same_pair e d)) (λ e. not (sees new e))
+    (λ e. ap not (h e) ∙ neither (sees old e) (is_same_pair e d)) (each_once (node_features ns))
   where
     neither : (a b : Bool) → not (a || b) ≡ (not a && not b)
     neither true b = refl
     neither false b = refl
 
-opened : (n : RangeNode) (o : Option (ℕ × Feature)) (s : Seen) (ns : List RangeNode) → option_to_list o ≡ from_node feature_at n → unseen s (n ∷ ns) ≡ filter (λ e. not (sees s e)) (each_once (option_to_list o ++ node_features ns))
+opened : (n : RangeNode) (o : Option (ℕ × Feature)) (s : Seen) (ns : List RangeNode) → option_to_list o ≡ from_node feature_at n
+    → unseen s (n ∷ ns) ≡ filter (λ e. not (sees s e)) (each_once (option_to_list o ++ node_features ns))
 opened n o s ns e = ap (λ (l : List (ℕ × Feature)). filter (λ e. not (sees s e)) (each_once (l ++ node_features ns))) (sym e)
 
-pub met_again : (n : RangeNode) (d : ℕ × Feature) (old new : Seen) (found : List (ℕ × Feature)) → option_to_list (Some d) ≡ from_node feature_at n → sees old d ≡ true → ((e : ℕ × Feature) → sees new e ≡ (sees old e || is_same_pair e d)) → Meets n old found new found
+pub met_again : (n : RangeNode) (d : ℕ × Feature) (old new : Seen) (found : List (ℕ × Feature)) → option_to_list (Some d) ≡ from_node feature_at n
+    → sees old d ≡ true → ((e : ℕ × Feature) → sees new e ≡ (sees old e || is_same_pair e d)) → Meets n old found new found
 met_again n d old new found e h g ns =
     let rest : List (ℕ × Feature) = filter (λ e. not (sees old e)) (filter (λ e. not (is_same_pair e d)) (each_once (node_features ns))) in
     let whole : unseen old (n ∷ ns) ≡ rest = opened n (Some d) old ns e ∙ ap (λ (b : Bool). cond (not b) (d ∷ rest) rest) h in
     ap (λ (l : List (ℕ × Feature)). found ++ l) (later old new d g ns ∙ sym whole)
 
-pub met_new : (n : RangeNode) (d : ℕ × Feature) (old new : Seen) (found next : List (ℕ × Feature)) → option_to_list (Some d) ≡ from_node feature_at n → sees old d ≡ false → ((e : ℕ × Feature) → sees new e ≡ (sees old e || is_same_pair e d)) → next ≡ found ++ d ∷ [] → Meets n old found new next
+pub met_new : (n : RangeNode) (d : ℕ × Feature) (old new : Seen) (found next : List (ℕ × Feature)) → option_to_list (Some d) ≡ from_node feature_at n
+    → sees old d ≡ false → ((e : ℕ × Feature) → sees new e ≡ (sees old e || is_same_pair e d)) → next ≡ found ++ d ∷ [] → Meets n old found new next
 met_new n d old new found next e h g i ns =
     let rest : List (ℕ × Feature) = filter (λ e. not (sees old e)) (filter (λ e. not (is_same_pair e d)) (each_once (node_features ns))) in
     let whole : unseen old (n ∷ ns) ≡ d ∷ rest = opened n (Some d) old ns e ∙ ap (λ (b : Bool). cond (not b) (d ∷ rest) rest) h in

@@ -3,5 +3,5 @@ mod Rows
 mod Positions
 mod Walks
 mod Steps
-mod Whole
+mod WalkResult
 pub mod Lemmas

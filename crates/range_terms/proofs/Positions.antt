@@ -8,8 +8,9 @@ use Rattle.fd_language.specs.declared.range_node.RangeNode.{RangeNode}
 use Rattle.fd_language.specs.declared.range_node.RangeNode.TheVariants as node
 use Rattle.fd_language.specs.Range as fd
 use Rattle.fd_language.specs.Range.{Range, Expr}
-use Rattle.fd_language.specs.Flat.{expr_nodes, nodes_of}
-use Rattle.fd_language.specs.Spelling.{Parsed, read, offends, read_one, RangeForm, of_terms, of_ranges, pointwise, no_form, range_form, read_form, read_dom, read_expr, read_range, read_feature, read_operator, expr_operator, expr_feature, empty_range}
+use Rattle.fd_language.specs.PostfixRanges.{expr_nodes, nodes_of}
+use Rattle.fd_language.specs.Spelling.{Parsed, read, offends, read_one, RangeForm, of_terms, of_ranges, pointwise, no_form, range_form, read_form, read_dom}
+use Rattle.fd_language.specs.Spelling.{read_expr, read_range, read_feature, read_operator, expr_operator, expr_feature, empty_range}
 use Rattle.term_pool.specs.declared.TermId.{TermId}
 use Rattle.range_terms.specs.declared.names.RangeOperator.{RangeOperator}
 use Rattle.range_terms.specs.declared.forms.Position.{Position}
@@ -55,7 +56,8 @@ double N (of_terms make) None row a b p = absurd row
 double N (of_ranges make) None row a b p = absurd row
 double N (pointwise make) None row a b p = absurd row
 
-pub double_range : (N : ℕ) (f : Name) (o : RangeOperator) (a b : PlacedTerm) (p : ℕ) → range_operator_of f ≡ Some o → wanted N position.Range (comp f p (two a b)) ≡ joined (joined (wanted N o.left a) (wanted N o.right b)) (one_node o.node p)
+pub double_range : (N : ℕ) (f : Name) (o : RangeOperator) (a b : PlacedTerm) (p : ℕ) → range_operator_of f ≡ Some o
+    → wanted N position.Range (comp f p (two a b)) ≡ joined (joined (wanted N o.left a) (wanted N o.right b)) (one_node o.node p)
 unfolding wanted
 double_range N f o a b p e = double N (range_form f) (Some o) (subst (IsRangeRow (range_form f)) e (range_row f)) a b p
 
@@ -67,31 +69,39 @@ no_double_range N f a b p e = double N (range_form f) None (subst (IsRangeRow (r
 pub single_one : (N : ℕ) (f : Name) (x : PlacedTerm) (p : ℕ) → bytes_eq f (codes "{}") ≡ true → wanted N position.Range (comp f p (one x)) ≡ joined (wanted N position.Term x) (one_node node.One p)
 unfolding wanted
 single_one N f x p h =
-    ap (λ (b : Bool). of_range (cond b (read_one fd.One p (read_expr N true x)) (cond (bytes_eq f (codes "-")) (read_one fd.Outside p (read_range N x)) (cond (bytes_eq f (codes "dom")) (read_dom x p) (offends empty_range p))))) h
+    ap (λ (b : Bool). of_range (cond b (read_one fd.One p (read_expr N true x))
+    (cond (bytes_eq f (codes "-")) (read_one fd.Outside p (read_range N x)) (cond (bytes_eq f (codes "dom")) (read_dom x p) (offends empty_range p))))) h
     ∙ behind_one (of_expr (read_expr N true x)) (expr_nodes (read_expr N true x).tree (node.One ∷ [])) node.One p (expr_append (read_expr N true x).tree [] (node.One ∷ []))
 
-pub single_outside : (N : ℕ) (f : Name) (x : PlacedTerm) (p : ℕ) → bytes_eq f (codes "{}") ≡ false → bytes_eq f (codes "-") ≡ true → wanted N position.Range (comp f p (one x)) ≡ joined (wanted N position.Range x) (one_node node.Outside p)
+pub single_outside : (N : ℕ) (f : Name) (x : PlacedTerm) (p : ℕ) → bytes_eq f (codes "{}") ≡ false → bytes_eq f (codes "-") ≡ true
+    → wanted N position.Range (comp f p (one x)) ≡ joined (wanted N position.Range x) (one_node node.Outside p)
 unfolding wanted
 single_outside N f x p h k =
-    ap (λ (b : Bool). of_range (cond b (read_one fd.One p (read_expr N true x)) (cond (bytes_eq f (codes "-")) (read_one fd.Outside p (read_range N x)) (cond (bytes_eq f (codes "dom")) (read_dom x p) (offends empty_range p))))) h
+    ap (λ (b : Bool). of_range (cond b (read_one fd.One p (read_expr N true x))
+    (cond (bytes_eq f (codes "-")) (read_one fd.Outside p (read_range N x)) (cond (bytes_eq f (codes "dom")) (read_dom x p) (offends empty_range p))))) h
     ∙ ap (λ (b : Bool). of_range (cond b (read_one fd.Outside p (read_range N x)) (cond (bytes_eq f (codes "dom")) (read_dom x p) (offends empty_range p)))) k
     ∙ behind_one (of_range (read_range N x)) (nodes_of (fd.Outside (read_range N x).tree)) node.Outside p (range_append (read_range N x).tree [] (node.Outside ∷ []))
 
-pub single_other : (N : ℕ) (f : Name) (x : PlacedTerm) (p : ℕ) → bytes_eq f (codes "{}") ≡ false → bytes_eq f (codes "-") ≡ false → wanted N position.Range (comp f p (one x)) ≡ of_range (cond (bytes_eq f (codes "dom")) (read_dom x p) (offends empty_range p))
+pub single_other : (N : ℕ) (f : Name) (x : PlacedTerm) (p : ℕ) → bytes_eq f (codes "{}") ≡ false → bytes_eq f (codes "-") ≡ false
+    → wanted N position.Range (comp f p (one x)) ≡ of_range (cond (bytes_eq f (codes "dom")) (read_dom x p) (offends empty_range p))
 unfolding wanted
 single_other N f x p h k =
-    ap (λ (b : Bool). of_range (cond b (read_one fd.One p (read_expr N true x)) (cond (bytes_eq f (codes "-")) (read_one fd.Outside p (read_range N x)) (cond (bytes_eq f (codes "dom")) (read_dom x p) (offends empty_range p))))) h
+    ap (λ (b : Bool). of_range (cond b (read_one fd.One p (read_expr N true x))
+    (cond (bytes_eq f (codes "-")) (read_one fd.Outside p (read_range N x)) (cond (bytes_eq f (codes "dom")) (read_dom x p) (offends empty_range p))))) h
     ∙ ap (λ (b : Bool). of_range (cond b (read_one fd.Outside p (read_range N x)) (cond (bytes_eq f (codes "dom")) (read_dom x p) (offends empty_range p)))) k
 
-pub single_dom : (N : ℕ) (f : Name) (x : PlacedTerm) (p : ℕ) → bytes_eq f (codes "{}") ≡ false → bytes_eq f (codes "-") ≡ false → bytes_eq f (codes "dom") ≡ true → wanted N position.Range (comp f p (one x)) ≡ of_range (read_dom x p)
+pub single_dom : (N : ℕ) (f : Name) (x : PlacedTerm) (p : ℕ) → bytes_eq f (codes "{}") ≡ false → bytes_eq f (codes "-") ≡ false
+    → bytes_eq f (codes "dom") ≡ true → wanted N position.Range (comp f p (one x)) ≡ of_range (read_dom x p)
 single_dom N f x p h k d = single_other N f x p h k ∙ ap (λ (b : Bool). of_range (cond b (read_dom x p) (offends empty_range p))) d
 
 pub nowhere_same : (u v : Wanted) (p : ℕ) → u ≡ v → FitsNowhere v p → FitsNowhere u p
 nowhere_same u v p e h = subst (λ (w : Wanted). FitsNowhere w p) (sym e) h
 
-pub no_single : (N : ℕ) (f : Name) (x : PlacedTerm) (p : ℕ) → bytes_eq f (codes "{}") ≡ false → bytes_eq f (codes "-") ≡ false → bytes_eq f (codes "dom") ≡ false → FitsNowhere (wanted N position.Range (comp f p (one x))) p
+pub no_single : (N : ℕ) (f : Name) (x : PlacedTerm) (p : ℕ) → bytes_eq f (codes "{}") ≡ false → bytes_eq f (codes "-") ≡ false
+    → bytes_eq f (codes "dom") ≡ false → FitsNowhere (wanted N position.Range (comp f p (one x))) p
 no_single N f x p h k d =
-    nowhere_same (wanted N position.Range (comp f p (one x))) (of_range (offends empty_range p)) p (single_other N f x p h k ∙ ap (λ (b : Bool). of_range (cond b (read_dom x p) (offends empty_range p))) d) (refl, refl)
+    nowhere_same (wanted N position.Range (comp f p (one x))) (of_range (offends empty_range p)) p
+    (single_other N f x p h k ∙ ap (λ (b : Bool). of_range (cond b (read_dom x p) (offends empty_range p))) d) (refl, refl)
 
 -- one part where a number is wanted
 abbrev IsFeature : Option RangeNode → ℕ → Wanted → Type 0
@@ -106,7 +116,8 @@ feature (Some make) None y row p = absurd row
 
 pub feature_node : (N : ℕ) (f : Name) (x : PlacedTerm) (y q p : ℕ) (n : RangeNode) → x ≡ var y q → feature_of f y ≡ Some n → wanted N position.Term (comp f p (one x)) ≡ one_node n p
 unfolding wanted
-feature_node N f x y q p n v e = ap (λ (t : PlacedTerm). of_expr (read_expr N true (comp f p (one t)))) v ∙ feature (expr_feature f) (Some n) y (subst (IsFeatureRow (expr_feature f) y) e (feature_row f y)) p
+feature_node N f x y q p n v e = ap (λ (t : PlacedTerm). of_expr (read_expr N true (comp f p (one t)))) v
+    ∙ feature (expr_feature f) (Some n) y (subst (IsFeatureRow (expr_feature f) y) e (feature_row f y)) p
 
 pub no_feature : (N : ℕ) (f : Name) (x : PlacedTerm) (y q p : ℕ) → x ≡ var y q → feature_of f y ≡ None → FitsNowhere (wanted N position.Term (comp f p (one x))) p
 unfolding wanted
@@ -144,7 +155,8 @@ operation None None row p a b = (refl, refl)
 operation None (Some n) row p a b = absurd row
 operation (Some make) None row p a b = absurd row
 
-pub operation_node : (N : ℕ) (l : Position) → IsOfTerms l → (f : Name) (a b : PlacedTerm) (p : ℕ) (n : RangeNode) → term_operator_of f ≡ Some n → wanted N l (comp f p (two a b)) ≡ joined (joined (wanted N l a) (wanted N l b)) (one_node n p)
+pub operation_node : (N : ℕ) (l : Position) → IsOfTerms l → (f : Name) (a b : PlacedTerm) (p : ℕ) (n : RangeNode) → term_operator_of f ≡ Some n
+    → wanted N l (comp f p (two a b)) ≡ joined (joined (wanted N l a) (wanted N l b)) (one_node n p)
 unfolding wanted
 operation_node N position.Range h f a b p n e = absurd h
 operation_node N position.Term h f a b p n e = operation (expr_operator f) (Some n) (subst (IsTermRow (expr_operator f)) e (term_row f)) p (read_expr N true a) (read_expr N true b)
@@ -203,5 +215,7 @@ the_infinity N position.Constant a p h = ap (λ (b : Bool). of_expr (cond b (rea
 pub no_atom : (N : ℕ) (l : Position) (a : Name) (p : ℕ) → bytes_eq a (codes "infinity") ≡ false → FitsNowhere (wanted N l (atom a p)) p
 unfolding wanted
 no_atom N position.Range a p h = (refl, refl)
-no_atom N position.Term a p h = nowhere_same (of_expr (cond (bytes_eq a (codes "infinity")) (read (fd.Number (pos N)) p) (offends fd.Infinity p))) (of_expr (offends fd.Infinity p)) p (ap (λ (b : Bool). of_expr (cond b (read (fd.Number (pos N)) p) (offends fd.Infinity p))) h) (refl, refl)
-no_atom N position.Constant a p h = nowhere_same (of_expr (cond (bytes_eq a (codes "infinity")) (read (fd.Number (pos N)) p) (offends fd.Infinity p))) (of_expr (offends fd.Infinity p)) p (ap (λ (b : Bool). of_expr (cond b (read (fd.Number (pos N)) p) (offends fd.Infinity p))) h) (refl, refl)
+no_atom N position.Term a p h = nowhere_same (of_expr (cond (bytes_eq a (codes "infinity")) (read (fd.Number (pos N)) p) (offends fd.Infinity p)))
+    (of_expr (offends fd.Infinity p)) p (ap (λ (b : Bool). of_expr (cond b (read (fd.Number (pos N)) p) (offends fd.Infinity p))) h) (refl, refl)
+no_atom N position.Constant a p h = nowhere_same (of_expr (cond (bytes_eq a (codes "infinity")) (read (fd.Number (pos N)) p) (offends fd.Infinity p)))
+    (of_expr (offends fd.Infinity p)) p (ap (λ (b : Bool). of_expr (cond b (read (fd.Number (pos N)) p) (offends fd.Infinity p))) h) (refl, refl)

@@ -6,7 +6,7 @@ use Rattle.fd_language.specs.Term.{Name}
 use Rattle.fd_language.specs.declared.range_node.RangeNode.{RangeNode}
 use Rattle.fd_language.specs.declared.range_node.RangeNode.TheVariants as node
 use Rattle.fd_language.specs.Range.{Range, Expr, Span, Union, Inter, Plus, Minus, Times, Over, Add, Sub, Mul, DivDown, DivUp, Min, Max, Val}
-use Rattle.fd_language.specs.Flat.{expr_nodes, range_nodes, nodes_of}
+use Rattle.fd_language.specs.PostfixRanges.{expr_nodes, range_nodes, nodes_of}
 use Rattle.fd_language.specs.Spelling.{RangeForm, of_terms, of_ranges, pointwise, no_form, range_form, expr_operator, expr_feature}
 use Rattle.range_terms.specs.declared.names.RangeOperator.{RangeOperator}
 use Rattle.range_terms.specs.declared.forms.Position.TheVariants as position
@@ -21,9 +21,12 @@ IsRangeRow no_form None = Unit {0}
 IsRangeRow f o = ⊥
 
 range_rows : (a b c d e f g : Bool) →
-    IsRangeRow (cond a (of_terms Span) (cond b (of_ranges Union) (cond c (of_ranges Inter) (cond d (pointwise Plus) (cond e (pointwise Minus) (cond f (pointwise Times) (cond g (pointwise Over) no_form)))))))
+    IsRangeRow (cond a (of_terms Span) (cond b (of_ranges Union)
+    (cond c (of_ranges Inter) (cond d (pointwise Plus) (cond e (pointwise Minus) (cond f (pointwise Times) (cond g (pointwise Over) no_form)))))))
     (cond a (operator_with node.Span position.Term position.Term) (cond b (operator_with node.Union position.Range position.Range) (cond c (operator_with node.Inter position.Range position.Range)
-    (cond d (operator_with node.Plus position.Range position.Constant) (cond e (operator_with node.Minus position.Range position.Constant) (cond f (operator_with node.Times position.Range position.Constant) (cond g (operator_with node.Over position.Range position.Constant) None)))))))
+    (cond d (operator_with node.Plus position.Range position.Constant)
+    (cond e (operator_with node.Minus position.Range position.Constant)
+    (cond f (operator_with node.Times position.Range position.Constant) (cond g (operator_with node.Over position.Range position.Constant) None)))))))
 range_rows true b c d e f g = (refl, refl, λ a b. refl)
 range_rows false true c d e f g = (refl, refl, λ r q. refl)
 range_rows false false true d e f g = (refl, refl, λ r q. refl)
@@ -58,7 +61,8 @@ IsFeatureRow (Some make) y (Some n) = expr_nodes (make y) [] ≡ n ∷ []
 IsFeatureRow None y None = Unit {0}
 IsFeatureRow m y o = ⊥
 
-feature_rows : (a b c : Bool) (y : ℕ) → IsFeatureRow (cond a (Some Min) (cond b (Some Max) (cond c (Some Val) None))) y (cond a (Some (node.Min y)) (cond b (Some (node.Max y)) (cond c (Some (node.Val y)) None)))
+feature_rows : (a b c : Bool) (y : ℕ) → IsFeatureRow (cond a (Some Min) (cond b (Some Max) (cond c (Some Val) None))) y
+    (cond a (Some (node.Min y)) (cond b (Some (node.Max y)) (cond c (Some (node.Val y)) None)))
 feature_rows true b c y = refl
 feature_rows false true c y = refl
 feature_rows false false true y = refl

@@ -40,7 +40,8 @@ unfolding load
 load-nil c = refl
 
 -- a node more
-pub step_put : (N : ℕ) (c : Contents) (w : Wanted) (heavy : ℕ) (n : RangeNode) (p : ℕ) (old new : Found) (ahead : List Task) → w ≡ one_node n p → 0 < heavy → Puts n p old new → Replaces N c w heavy old ahead new ahead
+pub step_put : (N : ℕ) (c : Contents) (w : Wanted) (heavy : ℕ) (n : RangeNode) (p : ℕ) (old new : Found) (ahead : List Task) → w ≡ one_node n p → 0 < heavy
+    → Puts n p old new → Replaces N c w heavy old ahead new ahead
 step_put N c w heavy n p old new ahead e h s = record {
   more = [];
   pushed = sym (append-nil ahead);
@@ -56,7 +57,8 @@ step_put N c w heavy n p old new ahead e h s = record {
     one_more ns ps l = omega (arith, length-append ns (n ∷ []), length-append ps (p ∷ []))
 
 -- it fits nowhere
-pub step_refuse : (N : ℕ) (c : Contents) (w : Wanted) (heavy p : ℕ) (old new : Found) (ahead : List Task) → (w.places ≡ []) × (w.offenders ≡ p ∷ []) → 0 < heavy → Refuses p old new → Replaces N c w heavy old ahead new ahead
+pub step_refuse : (N : ℕ) (c : Contents) (w : Wanted) (heavy p : ℕ) (old new : Found) (ahead : List Task) → (w.places ≡ []) × (w.offenders ≡ p ∷ []) → 0 < heavy
+    → Refuses p old new → Replaces N c w heavy old ahead new ahead
 step_refuse N c w heavy p old new ahead e h s = record {
   more = [];
   pushed = sym (append-nil ahead);
@@ -69,7 +71,8 @@ step_refuse N c w heavy p old new ahead e h s = record {
 }
 
 -- all is left to tasks
-pub step_open : (N : ℕ) (c : Contents) (w : Wanted) (heavy : ℕ) (found : Found) (ahead next more : List Task) → next ≡ ahead ++ more → w ≡ left N c more → load c more < heavy → All (IsOf c) more → Replaces N c w heavy found ahead found next
+pub step_open : (N : ℕ) (c : Contents) (w : Wanted) (heavy : ℕ) (found : Found) (ahead next more : List Task) → next ≡ ahead ++ more → w ≡ left N c more
+    → load c more < heavy → All (IsOf c) more → Replaces N c w heavy found ahead found next
 step_open N c w heavy found ahead next more e l h a = record {
   more = more;
   pushed = e;
@@ -91,27 +94,33 @@ least_none [] h = refl
 least_none (p ∷ ps) h = let s = some_least p ps in let wrong : Some s.0 ≡ None = sym s.1 ∙ h in absurd cc
 
 -- the step keeps what is found and what is left
-pub still_left : (N : ℕ) (c : Contents) (w : Wanted) (t : Task) (old new : Found) (rest next : List Task) → Replaces N c (of_task N c t) (task_weight c t) old rest new next → IsLeft N c w old (rest ++ t ∷ []) → All (IsOf c) rest → IsLeft N c w new next
+pub still_left : (N : ℕ) (c : Contents) (w : Wanted) (t : Task) (old new : Found) (rest next : List Task)
+    → Replaces N c (of_task N c t) (task_weight c t) old rest new next → IsLeft N c w old (rest ++ t ∷ []) → All (IsOf c) rest → IsLeft N c w new next
 still_left N c w t old new rest next s i a =
     let u : Wanted = of_task N c t in
     let before : left N c (rest ++ t ∷ []) ≡ joined u (left N c rest) = left_append N c rest (t ∷ []) in
     let after : left N c next ≡ joined (left N c s.more) (left N c rest) = ap (left N c) s.pushed ∙ left_append N c rest s.more in
-    let offenders : least_place (option_to_list old.offender ++ (u.offenders ++ (left N c rest).offenders)) ≡ least_place w.offenders = ap (λ (v : Wanted). least_place (option_to_list old.offender ++ v.offenders)) (sym before) ∙ i.offenders in
+    let offenders : least_place (option_to_list old.offender ++ (u.offenders ++ (left N c rest).offenders)) ≡ least_place w.offenders = ap
+    (λ (v : Wanted). least_place (option_to_list old.offender ++ v.offenders)) (sym before) ∙ i.offenders in
     record {
       nodes = λ none.
-          let nil : option_to_list old.offender ++ (u.offenders ++ (left N c rest).offenders) ≡ [] = least_none (option_to_list old.offender ++ (u.offenders ++ (left N c rest).offenders)) (offenders ∙ ap least_place none) in
+          let nil : option_to_list old.offender ++ (u.offenders ++ (left N c rest).offenders) ≡ [] = least_none
+          (option_to_list old.offender ++ (u.offenders ++ (left N c rest).offenders)) (offenders ∙ ap least_place none) in
           let mine : u.offenders ≡ [] = first_nil u.offenders (left N c rest).offenders (second_nil (option_to_list old.offender) (u.offenders ++ (left N c rest).offenders) nil) in
           ap (λ (v : Wanted). new.nodes.items ++ v.nodes) after ∙ sym (append_assoc new.nodes.items (left N c s.more).nodes (left N c rest).nodes)
-          ∙ ap (λ (ns : List RangeNode). ns ++ (left N c rest).nodes) (s.nodes mine) ∙ append_assoc old.nodes.items u.nodes (left N c rest).nodes ∙ ap (λ (v : Wanted). old.nodes.items ++ v.nodes) (sym before) ∙ i.nodes none;
+          ∙ ap (λ (ns : List RangeNode). ns ++ (left N c rest).nodes) (s.nodes mine) ∙ append_assoc old.nodes.items u.nodes (left N c rest).nodes
+          ∙ ap (λ (v : Wanted). old.nodes.items ++ v.nodes) (sym before) ∙ i.nodes none;
       places =
           ap (λ (v : Wanted). new.places.items ++ v.places) after ∙ sym (append_assoc new.places.items (left N c s.more).places (left N c rest).places)
-          ∙ ap (λ (ps : List ℕ). ps ++ (left N c rest).places) s.places ∙ append_assoc old.places.items u.places (left N c rest).places ∙ ap (λ (v : Wanted). old.places.items ++ v.places) (sym before) ∙ i.places;
+          ∙ ap (λ (ps : List ℕ). ps ++ (left N c rest).places) s.places ∙ append_assoc old.places.items u.places (left N c rest).places
+          ∙ ap (λ (v : Wanted). old.places.items ++ v.places) (sym before) ∙ i.places;
       offenders = ap (λ (v : Wanted). least_place (option_to_list new.offender ++ v.offenders)) after ∙ s.offenders (left N c rest).offenders ∙ offenders;
       level = s.level i.level;
       within = subst (All (IsOf c)) (sym s.pushed) (All-append (IsOf c) rest s.more a s.within);
     }
 
-pub smaller_load : (N : ℕ) (c : Contents) (t : Task) (old new : Found) (rest next : List Task) → Replaces N c (of_task N c t) (task_weight c t) old rest new next → load c next < load c (rest ++ t ∷ [])
+pub smaller_load : (N : ℕ) (c : Contents) (t : Task) (old new : Found) (rest next : List Task)
+    → Replaces N c (of_task N c t) (task_weight c t) old rest new next → load c next < load c (rest ++ t ∷ [])
 smaller_load N c t old new rest next s =
     subst (λ (ps : List Task). load c ps < load c (rest ++ t ∷ [])) (sym s.pushed)
     (omega (arith, load-append c rest s.more, load-append c rest (t ∷ []), load-one c t, s.lighter))

@@ -7,8 +7,8 @@ use Rattle.term_pool.specs.Contents.{Contents}
 use Rattle.range_terms.specs.declared.forms.Position.{Position}
 use Rattle.range_terms.specs.declared.forms.Position.TheVariants as position
 use Rattle.range_terms.specs.declared.forms.Operand.{Operand}
-use Rattle.range_terms.specs.declared.forms.Form.{Form}
-use Rattle.range_terms.specs.declared.forms.Form.TheVariants as form
+use Rattle.range_terms.specs.declared.forms.RangeForm.{RangeForm}
+use Rattle.range_terms.specs.declared.forms.RangeForm.TheVariants as form
 use Rattle.term_pool.specs.PlacedTerms.{placed_of}
 use Rattle.range_terms.specs.TermNodes.{Wanted, wanted, one_node, joined}
 
@@ -17,7 +17,7 @@ abbrev pub of_operand : ℕ → Contents → Operand → Wanted
 of_operand N c o = wanted N o.position (placed_of c o.term)
 
 -- the form of a term at the place p with the parts ts, of which w is wanted
-abbrev pub IsForm : ℕ → Contents → Wanted → ℕ → List TermId → Form → Type 0
+abbrev pub IsForm : ℕ → Contents → Wanted → ℕ → List TermId → RangeForm → Type 0
 IsForm N c w p ts (form.Leaf n) = w ≡ one_node n p
 IsForm N c w p ts (form.Unary n a) = (ts ≡ a.term ∷ []) × (w ≡ joined (of_operand N c a) (one_node n p))
 IsForm N c w p ts (form.Binary n a b) = (ts ≡ a.term ∷ b.term ∷ []) × (w ≡ joined (joined (of_operand N c a) (of_operand N c b)) (one_node n p))

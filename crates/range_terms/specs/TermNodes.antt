@@ -3,7 +3,7 @@ use Rattle.std.specs.Prelude.{ℕ, true, false, List, [], ◌∷◌, ◌++◌}
 use Rattle.fd_language.specs.declared.range_node.RangeNode.{RangeNode}
 use Rattle.fd_language.specs.PlacedTerm.{PlacedTerm}
 use Rattle.fd_language.specs.Range as fd
-use Rattle.fd_language.specs.Flat.{expr_nodes, nodes_of}
+use Rattle.fd_language.specs.PostfixRanges.{expr_nodes, nodes_of}
 use Rattle.fd_language.specs.Spelling.{Parsed, read_expr, read_range}
 use Rattle.range_terms.specs.declared.forms.Position.{Position}
 use Rattle.range_terms.specs.declared.forms.Position.TheVariants as position

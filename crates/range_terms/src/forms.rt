@@ -33,7 +33,7 @@ pub(crate) struct Operand {
 
 /// What a term is read as.
 #[derive(Clone, Copy)]
-pub(crate) enum Form {
+pub(crate) enum RangeForm {
     /// A node alone.
     Leaf(RangeNode),
     /// A node behind those of its operand.
@@ -59,19 +59,19 @@ fn variable_of(pool: &Pool, t: TermId) -> Option<u64>
 }
 
 /// `dom` of a variable.
-fn domain_form(pool: &Pool, only: TermId) -> Form
+fn domain_form(pool: &Pool, only: TermId) -> RangeForm
     requires { only.number < length pool.now.entries }
     ensures { (N p : ℕ) → IsForm N pool.now (of_range (read_dom (placed_of pool.now only) p)) p
         (only ∷ []) result }
 {
     match variable_of(pool, only) {
-        Some(variable) => Form::Leaf(RangeNode::Dom(variable)),
-        None => Form::Misfit,
+        Some(variable) => RangeForm::Leaf(RangeNode::Dom(variable)),
+        None => RangeForm::Misfit,
     }
 }
 
 /// A range with one part.
-fn single_range_form(pool: &Pool, name: &str, only: TermId) -> Form
+fn single_range_form(pool: &Pool, name: &str, only: TermId) -> RangeForm
     requires { only.number < length pool.now.entries }
     ensures { (N p : ℕ) → IsForm N pool.now
         (wanted N place_in.Range (comp name.now p (one (placed_of pool.now only)))) p
@@ -82,28 +82,28 @@ fn single_range_form(pool: &Pool, name: &str, only: TermId) -> Form
             term: only,
             position: Position::Term,
         };
-        Form::Unary(RangeNode::One, operand)
+        RangeForm::Unary(RangeNode::One, operand)
     } else if name == "-" {
         let operand = Operand {
             term: only,
             position: Position::Range,
         };
-        Form::Unary(RangeNode::Outside, operand)
+        RangeForm::Unary(RangeNode::Outside, operand)
     } else if name == "dom" {
         domain_form(pool, only)
     } else {
-        Form::Misfit
+        RangeForm::Misfit
     }
 }
 
 /// A range with two parts.
-fn double_range_form(pool: &Pool, name: &str, first: TermId, second: TermId) -> Form
+fn double_range_form(pool: &Pool, name: &str, first: TermId, second: TermId) -> RangeForm
     ensures { (N p : ℕ) → IsForm N pool.now
         (wanted N place_in.Range (comp name.now p (two (placed_of pool.now first)
         (placed_of pool.now second)))) p (first ∷ second ∷ []) result }
 {
     match range_operator(name) {
-        Some(operator) => Form::Binary(
+        Some(operator) => RangeForm::Binary(
             operator.node,
             Operand {
                 term: first,
@@ -114,12 +114,12 @@ fn double_range_form(pool: &Pool, name: &str, first: TermId, second: TermId) -> 
                 position: operator.right,
             },
         ),
-        None => Form::Misfit,
+        None => RangeForm::Misfit,
     }
 }
 
 /// `min`, `max` or `val` of a variable.
-fn feature_form(pool: &Pool, name: &str, only: TermId) -> Form
+fn feature_form(pool: &Pool, name: &str, only: TermId) -> RangeForm
     requires { only.number < length pool.now.entries }
     ensures { (N p : ℕ) → IsForm N pool.now
         (wanted N place_in.Term (comp name.now p (one (placed_of pool.now only)))) p
@@ -127,10 +127,10 @@ fn feature_form(pool: &Pool, name: &str, only: TermId) -> Form
 {
     match variable_of(pool, only) {
         Some(variable) => match feature(name, variable) {
-            Some(node) => Form::Leaf(node),
-            None => Form::Misfit,
+            Some(node) => RangeForm::Leaf(node),
+            None => RangeForm::Misfit,
         },
-        None => Form::Misfit,
+        None => RangeForm::Misfit,
     }
 }
 
@@ -141,14 +141,14 @@ fn operation_form(
     first: TermId,
     second: TermId,
     position: Position,
-) -> Form
+) -> RangeForm
     requires { IsOfTerms position }
     ensures { (N p : ℕ) → IsForm N pool.now
         (wanted N position (comp name.now p (two (placed_of pool.now first)
         (placed_of pool.now second)))) p (first ∷ second ∷ []) result }
 {
     match term_operator(name) {
-        Some(node) => Form::Binary(
+        Some(node) => RangeForm::Binary(
             node,
             Operand {
                 term: first,
@@ -159,12 +159,12 @@ fn operation_form(
                 position,
             },
         ),
-        None => Form::Misfit,
+        None => RangeForm::Misfit,
     }
 }
 
 /// A compound where a range is wanted.
-fn range_form(pool: &Pool, name: &str, parts: &[TermId]) -> Form
+fn range_form(pool: &Pool, name: &str, parts: &[TermId]) -> RangeForm
     requires { All (λ t. t.number < length pool.now.entries) parts.now }
     ensures { (N p : ℕ) → IsForm N pool.now
         (wanted N place_in.Range (comp name.now p (parts_by (placed_of pool.now) parts.now))) p
@@ -173,13 +173,13 @@ fn range_form(pool: &Pool, name: &str, parts: &[TermId]) -> Form
     match parts {
         [only] => single_range_form(pool, name, *only),
         [first, second] => double_range_form(pool, name, *first, *second),
-        [] => Form::Misfit,
-        [_, _, _, ..] => Form::Misfit,
+        [] => RangeForm::Misfit,
+        [_, _, _, ..] => RangeForm::Misfit,
     }
 }
 
 /// A compound where a number is wanted.
-fn term_form(pool: &Pool, name: &str, parts: &[TermId]) -> Form
+fn term_form(pool: &Pool, name: &str, parts: &[TermId]) -> RangeForm
     requires { All (λ t. t.number < length pool.now.entries) parts.now }
     ensures { (N p : ℕ) → IsForm N pool.now
         (wanted N place_in.Term (comp name.now p (parts_by (placed_of pool.now) parts.now))) p
@@ -188,26 +188,26 @@ fn term_form(pool: &Pool, name: &str, parts: &[TermId]) -> Form
     match parts {
         [only] => feature_form(pool, name, *only),
         [first, second] => operation_form(pool, name, *first, *second, Position::Term),
-        [] => Form::Misfit,
-        [_, _, _, ..] => Form::Misfit,
+        [] => RangeForm::Misfit,
+        [_, _, _, ..] => RangeForm::Misfit,
     }
 }
 
 /// A compound where a number is wanted that no domain changes.
-fn constant_form(pool: &Pool, name: &str, parts: &[TermId]) -> Form
+fn constant_form(pool: &Pool, name: &str, parts: &[TermId]) -> RangeForm
     ensures { (N p : ℕ) → IsForm N pool.now (wanted N place_in.Constant
         (comp name.now p (parts_by (placed_of pool.now) parts.now))) p parts.now result }
 {
     match parts {
         [first, second] => operation_form(pool, name, *first, *second, Position::Constant),
-        [] => Form::Misfit,
-        [_] => Form::Misfit,
-        [_, _, _, ..] => Form::Misfit,
+        [] => RangeForm::Misfit,
+        [_] => RangeForm::Misfit,
+        [_, _, _, ..] => RangeForm::Misfit,
     }
 }
 
 /// A compound in its position.
-fn compound_form(pool: &Pool, name: &str, parts: &[TermId], position: Position) -> Form
+fn compound_form(pool: &Pool, name: &str, parts: &[TermId], position: Position) -> RangeForm
     requires { All (λ t. t.number < length pool.now.entries) parts.now }
     ensures { (N p : ℕ) → IsForm N pool.now
         (wanted N position (comp name.now p (parts_by (placed_of pool.now) parts.now))) p parts.now
@@ -221,18 +221,18 @@ fn compound_form(pool: &Pool, name: &str, parts: &[TermId], position: Position) 
 }
 
 /// A number, which fits where one is wanted.
-fn number_form(node: RangeNode, position: Position) -> Form
+fn number_form(node: RangeNode, position: Position) -> RangeForm
     ensures { (N : ℕ) (c : Contents) (w : Wanted) (p : ℕ) → IsNumber position node p w
         → IsForm N c w p [] result }
 {
     match position {
-        Position::Range => Form::Misfit,
-        Position::Term | Position::Constant => Form::Leaf(node),
+        Position::Range => RangeForm::Misfit,
+        Position::Term | Position::Constant => RangeForm::Leaf(node),
     }
 }
 
 /// What the operand is read as.
-pub(crate) fn form_of(pool: &Pool, operand: Operand, infinity: u32) -> Form
+pub(crate) fn form_of(pool: &Pool, operand: Operand, infinity: u32) -> RangeForm
     requires { operand.term.number < length pool.now.entries }
     ensures { (s : Shape) (p : ℕ) → shape_at pool.now operand.term ≡ Some s
         → place_at pool.now operand.term ≡ Some p
@@ -244,7 +244,7 @@ pub(crate) fn form_of(pool: &Pool, operand: Operand, infinity: u32) -> Form
         Node::Atom(atom) => if pool.name_of(atom) == "infinity" {
             number_form(RangeNode::Int(i64::from(infinity)), operand.position)
         } else {
-            Form::Misfit
+            RangeForm::Misfit
         },
         Node::Comp(atom, parts) => {
             compound_form(pool, pool.name_of(atom), parts, operand.position)

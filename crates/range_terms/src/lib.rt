@@ -2,7 +2,7 @@
 #![tactic(auto)]
 
 ghost use Rattle.std.specs.Prelude.{◌≡◌, ◌<◌, length, None, MatchResult, IfOk};
-ghost use Rattle.fd_language.specs.Flat.{nodes_of};
+ghost use Rattle.fd_language.specs.PostfixRanges.{nodes_of};
 ghost use Rattle.fd_language.specs.Spelling.{read_range as reading_of, not_a_range};
 ghost use Rattle.term_pool.specs.PlacedTerms.{placed_of};
 ghost use Rattle.range_terms.specs.Faults.{IsFaultOf};

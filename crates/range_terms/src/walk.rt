@@ -8,7 +8,7 @@ ghost use Rattle.range_terms.specs.Walk.{of_task, task_weight, IsOf, Puts, Refus
 ghost use Rattle.range_terms.specs.Forms.{of_operand};
 ghost use Rattle.range_terms.specs.declared.forms.Position.TheVariants as place_in;
 
-use crate::forms::{Form, Operand, Position, form_of};
+use crate::forms::{Operand, Position, RangeForm, form_of};
 use fd_language::{NoMemory, RangeNode};
 use std::alloc::Global;
 use term_pool::{Pool, TermId};
@@ -63,18 +63,18 @@ impl Found {
     {
         let place = pool.place(operand.term);
         match form_of(pool, operand, infinity) {
-            Form::Leaf(node) => self.put(node, place)?,
-            Form::Unary(node, only) => {
+            RangeForm::Leaf(node) => self.put(node, place)?,
+            RangeForm::Unary(node, only) => {
                 ahead.extend_from_slice(&[Task::Put(node, place), Task::Read(only)])?;
             }
-            Form::Binary(node, first, second) => {
+            RangeForm::Binary(node, first, second) => {
                 ahead.extend_from_slice(&[
                     Task::Put(node, place),
                     Task::Read(second),
                     Task::Read(first),
                 ])?;
             }
-            Form::Misfit => self.refuse(place),
+            RangeForm::Misfit => self.refuse(place),
         }
         Ok(())
     }

@@ -1,5 +1,6 @@
 -- The generator's texts are programs with one query.
-use Rattle.std.proofs.Common.{◌≡◌, ◌≤◌, ℕ, zero, suc, ◌+◌, Bool, List, true, false, [], ◌∷◌, length, take, drop, map, refl, sym, ap, subst, Option, Some, None, arith, inr}
+use Rattle.std.proofs.Common.{◌≡◌, ◌≤◌, ℕ, zero, suc, ◌+◌, Bool, List, true, false, [], ◌∷◌, length, take, drop, map, refl, sym, ap, subst, Option, Some, None}
+use Rattle.std.proofs.Common.{arith, inr}
 use Rattle.std.specs.Prelude.{reverse, nat_lt, ◌&&◌}
 use Rattle.std.specs.Fmt.{digits}
 use Rattle.std.specs.Str.{chars, IsAscii}
@@ -8,7 +9,8 @@ use Rattle.std.proofs.lemmas.Str.{IsUtf8-from_ascii}
 use Rattle.fd_language.specs.Characters.{is_symbol, is_punct, begins_variable}
 use Rattle.fd_language.specs.Operators.{is_operator, infix_of, prefix_of}
 use Rattle.fd_language.specs.Term.{Name}
-use Rattle.fd_language.specs.Terminals.{Terminal, name, operator_word, variable, integer, opens, closes, open_list, close_list, open_curly, close_curly, comma, bar, stop}
+use Rattle.fd_language.specs.Terminals.{Terminal, name, operator_word, variable, integer, opens, closes, open_list, close_list, open_curly, close_curly, comma}
+use Rattle.fd_language.specs.Terminals.{bar, stop}
 use Rattle.fd_language.specs.Tokens.{Lexeme, Front, Ends, Gap, Token, Offends, front_of, HasTokens, ended, after_gap, after_token}
 use Rattle.fd_language.specs.GrammarFaults.{deepest, brackets, open_behind, IsShallow, IsRead}
 use Rattle.fd_language.specs.PlacedTerm.{PlacedTerm}
@@ -48,7 +50,8 @@ lex zero at tight bytes = nothing at tight bytes
 lex (suc n) at tight bytes = by_front (lex n) at tight bytes (front_of bytes)
 
 lexed_by : (f : ℕ → Bool → List ℕ → Lexed) → ((at : ℕ) (tight : Bool) (bytes : List ℕ) → front_of (f at tight bytes).rest ≡ Ends → HasTokens at tight bytes (f at tight bytes).tokens)
-    → (at : ℕ) (tight : Bool) (bytes : List ℕ) (front : Front) → front_of bytes ≡ front → front_of (by_front f at tight bytes front).rest ≡ Ends → HasTokens at tight bytes (by_front f at tight bytes front).tokens
+    → (at : ℕ) (tight : Bool) (bytes : List ℕ) (front : Front) → front_of bytes ≡ front → front_of (by_front f at tight bytes front).rest ≡ Ends
+    → HasTokens at tight bytes (by_front f at tight bytes front).tokens
 lexed_by f k at tight bytes Ends is h = ended is
 lexed_by f k at tight bytes (Gap n) is h = after_gap n is (k (at + n) false (drop n bytes) h)
 lexed_by f k at tight bytes (Token kind n) is h = after_token kind n is (k (at + n) true (drop n bytes) h)

@@ -23,16 +23,19 @@ behind_names j r d e nl =
     ∙ sym (append_assoc j r (d ++ (e ++ nl))) ∙ sym (append_assoc (j ++ r) d (e ++ nl))
 
 -- the names, and what stands behind them
-pub whole_text : (m : ℕ) (d names : List ℕ) → d ≡ decimal (suc m) → names ≡ codes "_Q1" ++ more_names 2 m → before_names ++ (((names ++ codes "], range(L, ") ++ d) ++ codes "), safe(L), fd_labeling(L).\n") ≡ queens_text (suc m)
+pub whole_text : (m : ℕ) (d names : List ℕ) → d ≡ decimal (suc m) → names ≡ codes "_Q1" ++ more_names 2 m
+    → before_names ++ (((names ++ codes "], range(L, ") ++ d) ++ codes "), safe(L), fd_labeling(L).\n") ≡ queens_text (suc m)
 whole_text m d names same are =
     let first : codes "_Q1" ++ more_names 2 m ≡ joined (codes ",") (queens_from 1 (suc m)) =
     ap (λ (t : List ℕ). (codes "_Q" ++ t) ++ more_names 2 m) (sym (decimal_digit 1 (omega arith))) ∙ sym (joined_names 1 m) in
     ap (λ (t : List ℕ). before_names ++ (((t ++ codes "], range(L, ") ++ d) ++ codes "), safe(L), fd_labeling(L).\n")) (are ∙ first)
     ∙ ap (λ (t : List ℕ). before_names ++ (((joined (codes ",") (queens_from 1 (suc m)) ++ codes "], range(L, ") ++ t) ++ codes "), safe(L), fd_labeling(L).\n")) same
-    ∙ ap (λ (t : List ℕ). before_names ++ t) (sym (behind_names (joined (codes ",") (queens_from 1 (suc m))) (codes "], range(L, ") (decimal (suc m)) (codes "), safe(L), fd_labeling(L).") (codes "\n")))
+    ∙ ap (λ (t : List ℕ). before_names ++ t) (sym (behind_names (joined (codes ",") (queens_from 1 (suc m))) (codes "], range(L, ") (decimal (suc m))
+    (codes "), safe(L), fd_labeling(L).") (codes "\n")))
 
 -- the names so far, and those still to come
-pub one_name : (k rest rest2 : ℕ) (text now new all : List ℕ) → rest ≡ suc rest2 → text ++ more_names k rest ≡ all → now ≡ text ++ codes ",_Q" → new ≡ now ++ decimal k → new ++ more_names (k + 1) rest2 ≡ all
+pub one_name : (k rest rest2 : ℕ) (text now new all : List ℕ) → rest ≡ suc rest2 → text ++ more_names k rest ≡ all → now ≡ text ++ codes ",_Q"
+    → new ≡ now ++ decimal k → new ++ more_names (k + 1) rest2 ≡ all
 one_name k rest rest2 text now new all fewer h e f =
     let next = more_names (k + 1) rest2 in
     let here : new ≡ (text ++ codes ",_Q") ++ decimal k = f ∙ ap (λ (t : List ℕ). t ++ decimal k) e in
@@ -44,7 +47,8 @@ pub no_name : (k rest : ℕ) (text all : List ℕ) → rest ≡ 0 → text ++ mo
 no_name k rest text all e h = sym (append-nil text) ∙ sym (ap (λ (n : ℕ). text ++ more_names k n) e) ∙ h
 
 -- the text by its pieces
-pub text_is : (n m : ℕ) (d before now then all : List ℕ) → n ≡ suc m → d ≡ decimal n → before ≡ before_names ++ (codes "_Q1" ++ more_names 2 m) → now ≡ before ++ codes "], range(L, " → then ≡ now ++ d → all ≡ then ++ codes "), safe(L), fd_labeling(L).\n" → all ≡ queens_text n
+pub text_is : (n m : ℕ) (d before now then all : List ℕ) → n ≡ suc m → d ≡ decimal n → before ≡ before_names ++ (codes "_Q1" ++ more_names 2 m)
+    → now ≡ before ++ codes "], range(L, " → then ≡ now ++ d → all ≡ then ++ codes "), safe(L), fd_labeling(L).\n" → all ≡ queens_text n
 text_is n m d before now then all size same b e f g =
     let names = codes "_Q1" ++ more_names 2 m in
     let whole : all ≡ (((before_names ++ names) ++ codes "], range(L, ") ++ d) ++ codes "), safe(L), fd_labeling(L).\n" =

@@ -1,6 +1,7 @@
 -- The events of a run, counted.
 use Rattle.std.proofs.lemmas.List.{length-map}
-use Rattle.std.proofs.Common.{◌≡◌, ℕ, ◌+◌, ◌<◌, length, drop, true, false, List, [], ◌∷◌, ◌++◌, Option, refl, ap, sym, ◌∙◌, subst, arith, append_assoc, codes, decimal}
+use Rattle.std.proofs.Common.{◌≡◌, ℕ, ◌+◌, ◌<◌, length, drop, true, false, List, [], ◌∷◌, ◌++◌, Option, refl, ap, sym, ◌∙◌, subst, arith, append_assoc, codes}
+use Rattle.std.proofs.Common.{decimal}
 use Rattle.fd_language.specs.Term.{Name}
 use Rattle.fd_language.specs.declared.TheConstants.{INFINITY}
 use Rattle.fd_model.specs.Goal.{Event, End, Program, Query, start_of}
@@ -11,8 +12,8 @@ use Rattle.fd_model.specs.Output.{is_stop}
 use Rattle.fd_model.specs.Run.{Run}
 use Rattle.fd_model.specs.Verdict.{Verdict, accepted, refused, IsVerdict}
 use Rattle.clause_check.specs.Programs.{FlatProgram, program_in, query_at, query_in}
-use Rattle.machine_relation.specs.Next.{is_final, IsNext}
-use Rattle.machine_relation.proofs.Lemmas.{behind_other}
+use Rattle.branch_meaning.specs.NextEvent.{is_final, IsNext}
+use Rattle.branch_meaning.proofs.Lemmas.{behind_other}
 use Rattle.machine_events.specs.declared.MachineEvent.{MachineEvent}
 use Rattle.machine_events.specs.Events.{event_of}
 use Rattle.code_machine.specs.States.{State, StandsFor}
@@ -63,7 +64,8 @@ final_count model.Limit h = refl
 final_count (model.Fault f) h = refl
 
 -- an event that others follow
-pub counted_more : (m n : State) (a b : ℕ) (es : List Event) (r : ℕ) (names : List Name) (ev : MachineEvent) → is_final (event_of [] ev) ≡ false → Counted m a es r → IsNext State StandsFor m (event_of names ev) n
+pub counted_more : (m n : State) (a b : ℕ) (es : List Event) (r : ℕ) (names : List Name) (ev : MachineEvent) → is_final (event_of [] ev) ≡ false
+    → Counted m a es r → IsNext State StandsFor m (event_of names ev) n
     → b ≡ a + count_answers (event_of names ev ∷ []) → Counted n b es r
 counted_more m n a b es r names ev more k h add =
     let e = event_of names ev in
@@ -150,5 +152,6 @@ pub summary_bytes : (n : ℕ) (es : List Event) (r : ℕ) (t : Tally) → IsTall
     → line (codes "gen " ++ decimal n) ++ (line (codes "answers " ++ decimal t.answers) ++ (line (codes "reductions " ++ decimal t.spent) ++ event_bytes (event_of [] t.last))) ≡ summary n es r
 summary_bytes n es r t h =
     ap (λ (a : ℕ). line (codes "gen " ++ decimal n) ++ (line (codes "answers " ++ decimal a) ++ (line (codes "reductions " ++ decimal t.spent) ++ event_bytes (event_of [] t.last)))) h.answers
-    ∙ ap (λ (s : ℕ). line (codes "gen " ++ decimal n) ++ (line (codes "answers " ++ decimal (count_answers es)) ++ (line (codes "reductions " ++ decimal s) ++ event_bytes (event_of [] t.last)))) h.spent
+    ∙ ap (λ (s : ℕ). line (codes "gen " ++ decimal n)
+    ++ (line (codes "answers " ++ decimal (count_answers es)) ++ (line (codes "reductions " ++ decimal s) ++ event_bytes (event_of [] t.last)))) h.spent
     ∙ ap (λ (e : Event). line (codes "gen " ++ decimal n) ++ (line (codes "answers " ++ decimal (count_answers es)) ++ (line (codes "reductions " ++ decimal r) ++ event_bytes e))) h.last

@@ -1,11 +1,12 @@
 -- A heap of open cells with given links.
-use Rattle.std.proofs.Common.{◌≡◌, ℕ, zero, suc, ◌+◌, ◌<◌, ◌≤◌, pow_pos, List, [], ◌∷◌, length, Option, Some, None, slice_index_or, refl, ap, sym, ◌∙◌, inl, inr, arith}
+use Rattle.std.proofs.Common.{◌≡◌, ℕ, zero, suc, ◌+◌, ◌<◌, ◌≤◌, pow_pos, List, [], ◌∷◌, length, Option, Some, None, slice_index_or, refl, ap, sym, ◌∙◌, inl}
+use Rattle.std.proofs.Common.{inr, arith}
 use Rattle.std.proofs.lemmas.Bool.{cases_lt}
 use Rattle.heap_cells.specs.Cells.{Slot, free, linked, bound, Cells, slot_at}
 use Rattle.heap_cells.specs.SeenTerms.{link_of, link_in}
-use Rattle.heap_cells.specs.Valid.{IsHeap}
-use Rattle.machine_relation.proofs.Lemmas.{functions}
-use Rattle.machine_frames.proofs.Lemmas.{slot_behind}
+use Rattle.heap_cells.specs.HeapInvariant.{IsHeap}
+use Rattle.branch_meaning.proofs.Lemmas.{functions}
+use Rattle.branch_lemmas.proofs.Lemmas.{slot_behind}
 
 slot_by : Option ℕ → Slot
 slot_by None = free

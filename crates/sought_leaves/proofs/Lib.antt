@@ -2,8 +2,8 @@ mod Members
 mod Values
 mod Heaps
 mod Nodes
-mod Seeing
-mod Searching
-mod Showing
-mod Taking
+mod NodeViews
+mod LeafSearch
+mod BranchViews
+mod ValueChoices
 pub mod Lemmas

@@ -1,5 +1,6 @@
 -- Members of a list where some of its variables are bound to integers, and what is picked of members that are alike.
-use Rattle.std.proofs.Common.{◌≡◌, ◌⊎◌, ℕ, ◌==◌, Bool, true, false, cond, ltb, ℤ, List, [], ◌∷◌, map, length, Option, Some, None, Result, Ok, Err, codes, refl, ap, sym, ◌∙◌, subst, inl, inr, eq-eqb}
+use Rattle.std.proofs.Common.{◌≡◌, ◌⊎◌, ℕ, ◌==◌, Bool, true, false, cond, ltb, ℤ, List, [], ◌∷◌, map, length, Option, Some, None, Result, Ok, Err, codes, refl}
+use Rattle.std.proofs.Common.{ap, sym, ◌∙◌, subst, inl, inr, eq-eqb}
 use Rattle.std.proofs.lemmas.Bool.{or_left, or_right}
 use Rattle.std.specs.Str.{bytes_eq}
 use Rattle.fd_language.specs.Family.{Family, has}
@@ -13,7 +14,7 @@ use Rattle.fd_model.specs.Labelling.{read_list, first_open, unless_fewer, fewest
 use Rattle.fd_model.specs.Linear.{of_both}
 use Rattle.fd_model.specs.Members.{Member, Open, Known, as_member, prepend}
 use Rattle.fd_model.specs.PostedLeaves.{seen_in}
-use Rattle.sought_leaves.specs.Seeking.{owned}
+use Rattle.sought_leaves.specs.LeafSearch.{owned}
 
 -- ---- read where variables are bound
 

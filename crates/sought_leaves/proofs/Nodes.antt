@@ -1,5 +1,7 @@
--- A node of a search: posted ranges, and the equations of a branch for which they stand. The heap's cells of the variables that were picked are taken to be bound.
-use Rattle.std.proofs.Common.{◌≡◌, ◌⊎◌, ℕ, ◌<◌, ◌≤◌, ◌==◌, true, false, cond, ℤ, pos, List, [], ◌∷◌, ◌++◌, Option, Some, None, Ok, refl, ap, sym, ◌∙◌, subst, inl, inr, eq-eqb, ne_eqb, append-nil, suc, ◌+◌, Bool, length, eqb-true, arith}
+-- A node of a search: posted ranges, and the equations of a branch for which they stand. The heap's cells of the variables that were picked are taken to be
+-- bound.
+use Rattle.std.proofs.Common.{◌≡◌, ◌⊎◌, ℕ, ◌<◌, ◌≤◌, ◌==◌, true, false, cond, ℤ, pos, List, [], ◌∷◌, ◌++◌, Option, Some, None, Ok, refl, ap, sym, ◌∙◌, subst}
+use Rattle.std.proofs.Common.{inl, inr, eq-eqb, ne_eqb, append-nil, suc, ◌+◌, Bool, length, eqb-true, arith}
 use Rattle.std.proofs.lemmas.Bool.{cases_Bool, cases_eq, true≢false, or_cases}
 use Rattle.fd_language.specs.Family.{Family, has}
 use Rattle.fd_language.specs.Monotonicity.{IsMonotone}
@@ -10,19 +12,19 @@ use Rattle.fd_language.proofs.Lemmas.{after_is, apply_vars, has_high}
 use Rattle.fd_model.specs.declared.kinds.Order.{Order}
 use Rattle.fd_model.specs.Branches.{is_number, look_in, sets_in}
 use Rattle.fd_model.specs.Builtins.{is_open}
-use Rattle.fd_model.specs.Closed.{constrained}
+use Rattle.fd_model.specs.ClosedFamilies.{constrained}
 use Rattle.fd_model.specs.Goal.{Label, Branch}
 use Rattle.fd_model.specs.Labelling.{read_list, pick, values_by, open_ones}
 use Rattle.fd_model.specs.Members.{Member}
 use Rattle.fd_model.specs.Models.{IsModel}
 use Rattle.fd_model.specs.PostedLeaves.{exactly, with_value}
-use Rattle.fd_model.specs.Seen.{IsConsistent, IsView}
+use Rattle.fd_model.specs.BranchViews.{IsConsistent, IsView}
 use Rattle.fd_model.proofs.Lemmas.{AllMonotone, monotone_more, consistent_from, constrained_either, named_left, only_member, posted_both}
-use Rattle.machine_relation.specs.Heap.{after, applied_each, Below}
-use Rattle.machine_relation.specs.Store.{IsUnified, IsStored}
-use Rattle.machine_relation.proofs.Lemmas.{front, number_touches, numbered, unified, without}
-use Rattle.machine_frames.proofs.Lemmas.{bounded_at, model_bounded, model_narrower, model_wider}
-use Rattle.sought_leaves.specs.Seeking.{IsSearched}
+use Rattle.branch_meaning.specs.Heap.{after, applied_each, Below}
+use Rattle.branch_meaning.specs.Store.{IsUnified, IsStored}
+use Rattle.branch_meaning.proofs.Lemmas.{front, number_touches, numbered, unified, without}
+use Rattle.branch_lemmas.proofs.Lemmas.{bounded_at, model_bounded, model_narrower, model_wider}
+use Rattle.sought_leaves.specs.LeafSearch.{IsSearched}
 use Rattle.sought_leaves.proofs.Values.{exact_value, with_exact, put_value, value_here, value_else, bounds_monotone, put_begun, branch_model}
 
 -- ---- how many of some cells are open
@@ -164,7 +166,8 @@ module _ (M N : ℕ) (big : 0 < N) (b : Branch) (o : Order) (t c : Term) (h : �
   abbrev pub HasTaken : Substitution → ℕ → ℕ → Type 0
   HasTaken bound x n = (d : ℕ) × (look x ≡ Var d) × (bound d ≡ Int (pos n))
 
-  -- The posted ranges l stand for the branch with the equations es. store has those on variables that were constrained before the search; bound gives each cell of a picked variable its integer.
+  -- The posted ranges l stand for the branch with the equations es. store has those on variables that were constrained before the search; bound gives each cell
+  -- of a picked variable its integer.
   pub record IsNode (es : List Equation) (l : List Indexical) : Type 0 where
     pub bound : Substitution
     pub at : Substitution
@@ -306,7 +309,8 @@ module _ (M N : ℕ) (big : 0 < N) (b : Branch) (o : Order) (t c : Term) (h : �
       child_low e i T g m f = k.low e i T (child_before T g) m f
 
       -- another variable stays free
-      child_free : ((e : ℕ) → has xs e ≡ true → (e ≡ d → ⊥) → link e ≡ None → own d ≡ own e → ⊥) → (e : ℕ) → has xs e ≡ true → now e ≡ Var e → link e ≡ None → (T : Family) → IsModel M M [] child T → (m : ℕ) → m ≤ N
+      child_free : ((e : ℕ) → has xs e ≡ true → (e ≡ d → ⊥) → link e ≡ None → own d ≡ own e → ⊥) → (e : ℕ) → has xs e ≡ true → now e ≡ Var e → link e ≡ None
+          → (T : Family) → IsModel M M [] child T → (m : ℕ) → m ≤ N
           → IsModel M M [] child (put_value (own e) m T)
       child_free apart e i j none T g m low' =
           let old = was_open e j in

@@ -8,15 +8,16 @@ use Rattle.fd_language.specs.Term.{Var}
 use Rattle.fd_language.specs.Unifier.{Equation}
 use Rattle.fd_language.proofs.Lemmas.{has_high, identity, in_universe, rising_same, universe_rising}
 use Rattle.fd_model.specs.Bounds.{bound}
-use Rattle.fd_model.specs.Closed.{AllPosted, constrained, IsClosed}
+use Rattle.fd_model.specs.ClosedFamilies.{AllPosted, constrained, IsClosed}
 use Rattle.fd_model.specs.Models.{IsModel}
 use Rattle.fd_model.specs.PostedLeaves.{AreLeft, exactly, with_value}
-use Rattle.fd_model.specs.Seen.{IsConsistent}
-use Rattle.fd_model.proofs.Lemmas.{AllMonotone, closed_either, closed_without, greatest_for, has_view, left_once, left_some, named_right, only_member, posted_both, posted_right, whole}
-use Rattle.machine_relation.specs.Store.{Value}
-use Rattle.machine_relation.proofs.Lemmas.{as_equations, as_posts, extended, front, holds_agree, set_term, set_term_int}
-use Rattle.machine_frames.specs.Bounding.{AreBounds}
-use Rattle.machine_frames.proofs.Lemmas.{bound_in, bound_low}
+use Rattle.fd_model.specs.BranchViews.{IsConsistent}
+use Rattle.fd_model.proofs.Lemmas.{AllMonotone, closed_either, closed_without, greatest_for, has_view, left_once, left_some, named_right, only_member}
+use Rattle.fd_model.proofs.Lemmas.{posted_both, posted_right, whole}
+use Rattle.branch_meaning.specs.Store.{Value}
+use Rattle.branch_meaning.proofs.Lemmas.{as_equations, as_posts, extended, front, holds_agree, set_term, set_term_int}
+use Rattle.branch_lemmas.specs.VariableBounds.{AreBounds}
+use Rattle.branch_lemmas.proofs.Lemmas.{bound_in, bound_low}
 
 -- ---- x in n..n
 
@@ -110,7 +111,8 @@ rising_wider low N M [] l r = tt
 rising_wider low N M (x ∷ xs) l r = (r.0, (let i = r.1 in omega (arith, i, l)), rising_wider (suc x) N M xs l r.2)
 
 -- A variable that may have any number up to N keeps these numbers.
-pub left_free : (M N : ℕ) (ps : List Indexical) (D : Family) (k : ℕ) → N ≤ M → AreLeft M ps D → ((n : ℕ) → has (D k) n ≡ true → n ≤ N) → ((n : ℕ) → n ≤ N → IsModel M M [] ps (put_value k n D)) → D k ≡ universe N
+pub left_free : (M N : ℕ) (ps : List Indexical) (D : Family) (k : ℕ) → N ≤ M → AreLeft M ps D → ((n : ℕ) → has (D k) n ≡ true → n ≤ N)
+    → ((n : ℕ) → n ≤ N → IsModel M M [] ps (put_value k n D)) → D k ≡ universe N
 left_free M N ps D k within a low put =
     rising_same 0 M (D k) (universe N) (a.family.rising k) (rising_wider 0 N M (universe N) within (universe_rising N))
     (record { each = λ n h. in_universe N n (low n h) })
@@ -127,7 +129,9 @@ bounds_monotone M N [] a = tt
 bounds_monotone M N (q ∷ bs) a = (subst (λ (p : Indexical). IsMonotone M p.range) (sym a.0.1) (record { grows = λ S T f g i. record { each = λ n h. h } }), bounds_monotone M N bs a.1)
 
 -- A variable that only bounds name may have any number up to theirs.
-pub bounds_put : (M N : ℕ) (k n : ℕ) (T : Family) → n ≤ N → N ≤ M → (bs : List Indexical) → AreBounds N bs → AllPosted (λ p. IsSubset (T p.target) (set_of M T p.range)) bs → AllPosted (λ p. IsSubset (put_value k n T p.target) (set_of M (put_value k n T) p.range)) bs
+pub bounds_put : (M N : ℕ) (k n : ℕ) (T : Family) → n ≤ N → N ≤ M → (bs : List Indexical) → AreBounds N bs
+    → AllPosted (λ p. IsSubset (T p.target) (set_of M T p.range)) bs
+    → AllPosted (λ p. IsSubset (put_value k n T p.target) (set_of M (put_value k n T) p.range)) bs
 bounds_put M N k n T l within [] a h = tt
 bounds_put M N k n T l within (q ∷ bs) a h = (
   subst (λ (p : Indexical). IsSubset (put_value k n T p.target) (set_of M (put_value k n T) p.range)) (sym a.0.1) (record {
@@ -141,7 +145,8 @@ bounds_put M N k n T l within (q ∷ bs) a h = (
   here : IsSubset (T a.0.0) (set_of M T (bound N a.0.0).range)
   here = subst (λ (p : Indexical). IsSubset (T p.target) (set_of M T p.range)) a.0.1 h.0
 
-pub put_begun : (M N : ℕ) (qs bs : List Indexical) (k n : ℕ) (T : Family) → n ≤ N → N ≤ M → AreBounds N bs → has (constrained qs) k ≡ false → IsModel M M [] (qs ++ bs) T → IsModel M M [] (qs ++ bs) (put_value k n T)
+pub put_begun : (M N : ℕ) (qs bs : List Indexical) (k n : ℕ) (T : Family) → n ≤ N → N ≤ M → AreBounds N bs → has (constrained qs) k ≡ false
+    → IsModel M M [] (qs ++ bs) T → IsModel M M [] (qs ++ bs) (put_value k n T)
 put_begun M N qs bs k n T l within a none m =
     let old = other_value M qs k n T (let i = within in omega (arith, l, i)) none (front M M qs bs T m) in
     let R = put_value k n T in

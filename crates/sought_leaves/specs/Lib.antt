@@ -1,2 +1,2 @@
-pub mod Seeking
+pub mod LeafSearch
 pub mod Laws

@@ -8,22 +8,22 @@ use wam_code::{Code, CodeParts, Register};
 
 /// What is found of a place's frame. A place to which none leads has none.
 #[derive(Drop)]
-pub(crate) struct Frame {
+pub(crate) struct FoundFrame {
     is_known: bool,
     slots: Option<Vec<Slot>>,
 }
 
-impl Frame {
+impl FoundFrame {
     /// The frame alone.
     pub(crate) fn into_slots(self) -> Option<Vec<Slot>> {
         self.slots
     }
 }
 
-fn unknown_frames(alloc: Global, count: usize) -> Result<Vec<Frame>, NoMemory> {
+fn unknown_frames(alloc: Global, count: usize) -> Result<Vec<FoundFrame>, NoMemory> {
     let mut frames = Vec::with_capacity(alloc, count)?;
     for _ in 0..count {
-        frames.push(Frame {
+        frames.push(FoundFrame {
             is_known: false,
             slots: None,
         })?;
@@ -120,13 +120,13 @@ pub(crate) fn put_behind(
 /// Notes a place's frame, where none was noted before.
 fn note(
     alloc: Global,
-    frames: &mut [Frame],
+    frames: &mut [FoundFrame],
     to: usize,
     slots: &Option<Vec<Slot>>,
 ) -> Result<(), NoMemory> {
     if to < frames.len() && !frames[to].is_known {
         let slots = copy_frame(alloc, slots)?;
-        frames[to] = Frame {
+        frames[to] = FoundFrame {
             is_known: true,
             slots,
         };
@@ -138,7 +138,7 @@ fn note(
 fn note_behind(
     alloc: Global,
     parts: &CodeParts,
-    frames: &mut [Frame],
+    frames: &mut [FoundFrame],
     behind: &mut Vec<usize>,
     at: usize,
 ) -> Result<(), NoMemory> {
@@ -153,7 +153,7 @@ fn note_behind(
 }
 
 /// The frames of places, each as the first place that leads there hands it on.
-pub(crate) fn frames_of(alloc: Global, parts: &CodeParts) -> Result<Vec<Frame>, NoMemory> {
+pub(crate) fn frames_of(alloc: Global, parts: &CodeParts) -> Result<Vec<FoundFrame>, NoMemory> {
     let mut frames = unknown_frames(alloc, parts.code.len())?;
     let mut behind = Vec::new(alloc);
     for at in 0..parts.code.len() {

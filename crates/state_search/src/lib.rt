@@ -1,8 +1,8 @@
 //! States by which compiled code is verified, found from the code alone.
 #![tactic(auto)]
 
-mod finding;
 mod frames;
+mod place_states;
 mod registers;
 
-pub use crate::finding::list_code;
+pub use crate::place_states::list_code;

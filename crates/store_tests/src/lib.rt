@@ -2,11 +2,11 @@
 #![tactic(auto)]
 
 #[cfg(test)]
+mod assertions;
+#[cfg(test)]
 mod codes;
 #[cfg(test)]
 mod range_codes;
-#[cfg(test)]
-mod same;
 #[cfg(test)]
 mod searches;
 #[cfg(test)]

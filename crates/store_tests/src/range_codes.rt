@@ -3,8 +3,8 @@
 ghost use Rattle.std.specs.Prelude.{◌≡◌, ◌<◌, IsTrue};
 ghost use Rattle.range_code.specs.Frames.{IsArg, AreArgs};
 
+use crate::assertions::same;
 use crate::codes::code_of;
-use crate::same::same;
 use domain_ranges::{Domain, View};
 use fd_language::{Feature, Need, RangeNode};
 use range_code::{

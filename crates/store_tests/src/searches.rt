@@ -1,6 +1,6 @@
 //! Searches for the least and the greatest cost.
 
-use crate::same::same;
+use crate::assertions::same;
 use crate::stores::{instance, post_one, shared_code};
 use bound_search::{best, may_search};
 use fd_language::RangeNode;

@@ -1,7 +1,7 @@
 //! Posts on a store, and how many activations they take.
 
+use crate::assertions::same;
 use crate::codes::code_of;
-use crate::same::same;
 use fd_language::RangeNode;
 use propagate_queue::{Agenda, Cheapest, Fifo, Instance, Posted, Store};
 use range_code::{Activations, Arg, RangeCode};

@@ -1,8 +1,8 @@
 mod Steps
-mod Unify
+mod UnifyInstructions
 mod ReadSteps
 mod BuildSteps
 mod Structure
 mod Head
-mod Bound
+mod BoundStructures
 mod PairSteps

@@ -11,18 +11,19 @@ use Rattle.branch_state.specs.Steps.{IsTouchBelow}
 use Rattle.wam_code.specs.declared.instruction.Register.{Register}
 use Rattle.wam_code.specs.Area.{Area}
 use Rattle.code_areas.specs.Areas.{Contents}
-use Rattle.code_steps.specs.Registers.{IsWritten}
-use Rattle.code_states.specs.Machine.{registers_of, CanHold, IsSameBehind}
-use Rattle.code_states.specs.Safety.{IsSafe}
-use Rattle.code_states.specs.declared.went.Went.TheVariants.{On}
+use Rattle.code_meaning.specs.Registers.{IsWritten}
+use Rattle.code_safety.specs.Machine.{registers_of, CanHold, IsSameBehind}
+use Rattle.code_safety.specs.Safety.{IsSafe}
+use Rattle.code_safety.specs.declared.instruction_outcomes.Went.TheVariants.{On}
 use Rattle.term_instructions.specs.Pairs.{IsPairAt, FirstIsSeen, IsPairRead}
 use Rattle.term_instructions.specs.ReadMode.{IsReadTo}
-use Rattle.term_instructions.specs.declared.reading.ReadPosition.{ReadPosition}
+use Rattle.term_instructions.specs.declared.read_mode.ReadPosition.{ReadPosition}
 use Rattle.term_instructions.proofs.Head.{args_own, get_started, get_read, looked_all}
 use Rattle.term_instructions.proofs.ReadSteps.{reads_variable, read_both}
-use Rattle.term_instructions.proofs.Unify.{variable_needs}
+use Rattle.term_instructions.proofs.UnifyInstructions.{variable_needs}
 
-module _ (area : Area) (s : branch.State) (at : ℕ) (c : Contents) (safe : IsSafe area s at 0 c) (f : AtomId) (args : Bor (List Cell)) (sees : FirstIsSeen s c (seen.Struct f args)) (two : length args.now ≡ 2) (r q : Register) (p : IsPairAt area at f r q) where
+module _ (area : Area) (s : branch.State) (at : ℕ) (c : Contents) (safe : IsSafe area s at 0 c) (f : AtomId) (args : Bor (List Cell))
+    (sees : FirstIsSeen s c (seen.Struct f args)) (two : length args.now ≡ 2) (r q : Register) (p : IsPairAt area at f r q) where
   pub both_own : All (IsCell s) args.now
   both_own = let k = sees.2 in args_own area s at c safe f 2 1 p.asks sees.0 sees.1 f args.now k.0 k.1 k.2 k.3
 
@@ -33,7 +34,8 @@ module _ (area : Area) (s : branch.State) (at : ℕ) (c : Contents) (safe : IsSa
   pub first_holds : CanHold c r
   first_holds = variable_needs area s (suc at) (length args.now - 0) c begun (omega (arith, two)) r p.first_is
 
-  module _ (x : Cell) (x_is : drop 0 args.now ≡ x ∷ drop 1 args.now) (x_own : IsCell s x) (c1 : Contents) (w1 : IsWritten (registers_of c) r x (registers_of c1)) (same1 : IsSameBehind c c1) (slots1 : length c1.slots ≡ length c.slots) where
+  module _ (x : Cell) (x_is : drop 0 args.now ≡ x ∷ drop 1 args.now) (x_own : IsCell s x) (c1 : Contents)
+      (w1 : IsWritten (registers_of c) r x (registers_of c1)) (same1 : IsSameBehind c c1) (slots1 : length c1.slots ≡ length c.slots) where
     abbrev start : ReadPosition
     start = record { at = suc at; next = 0 }
 
@@ -51,9 +53,11 @@ module _ (area : Area) (s : branch.State) (at : ℕ) (c : Contents) (safe : IsSa
     second_holds = variable_needs area s (suc (suc at)) (length args.now - 1) c1 one.safe (omega (arith, two)) q p.second_is
 
     -- Both are read.
-    pub pair_read : (y : Cell) → drop 1 args.now ≡ y ∷ drop 2 args.now → IsCell s y → (c2 : Contents) → IsWritten (registers_of c1) q y (registers_of c2) → IsSameBehind c1 c2 → length c2.slots ≡ length c1.slots → IsPairRead area s at c c2 (suc (suc (suc at)))
+    pub pair_read : (y : Cell) → drop 1 args.now ≡ y ∷ drop 2 args.now → IsCell s y → (c2 : Contents) → IsWritten (registers_of c1) q y (registers_of c2)
+        → IsSameBehind c1 c2 → length c2.slots ≡ length c1.slots → IsPairRead area s at c c2 (suc (suc (suc at)))
     pair_read y y_is y_own c2 w2 same2 slots2 =
-        let next : IsReadTo area args.now s [] middle c1 s [] end c2 = reads_variable area args.now s [] (suc (suc at)) 1 c1 one.safe (omega (arith, two)) one.own (All-nil (IsTouchBelow _)) y y_is q p.second_is y_own c2 w2 same2 slots2 end refl refl in
+        let next : IsReadTo area args.now s [] middle c1 s [] end c2 = reads_variable area args.now s [] (suc (suc at)) 1 c1 one.safe (omega (arith, two))
+        one.own (All-nil (IsTouchBelow _)) y y_is q p.second_is y_own c2 w2 same2 slots2 end refl refl in
         let all = read_both area args.now s [] start c s [] middle c1 one s [] end c2 next in
         let k = sees.2 in
         let g = get_read area s at c safe f 2 1 p.asks sees.0 sees.1 (suc at) refl s c2 f args.now k.0 k.1 k.2 k.3 refl two args.now refl [] refl {E = NoMemory} (Ok (On (suc (suc (suc at)))))

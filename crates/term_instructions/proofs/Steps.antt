@@ -1,5 +1,6 @@
 -- The get and put groups are safe.
-use Rattle.std.proofs.Common.{◌≡◌, ℕ, zero, suc, ◌<◌, Bool, true, false, ◌&&◌, IsTrue, ◌∷◌, [], length, Some, None, refl, ap, sym, ◌∙◌, subst, arith, length-append, ℤ}
+use Rattle.std.proofs.Common.{◌≡◌, ℕ, zero, suc, ◌<◌, Bool, true, false, ◌&&◌, IsTrue, ◌∷◌, [], length, Some, None, refl, ap, sym, ◌∙◌, subst, arith}
+use Rattle.std.proofs.Common.{length-append, ℤ}
 use Rattle.std.proofs.lemmas.Bool.{and_parts}
 use Rattle.fd_language.specs.Family.{has}
 use Rattle.term_pool.specs.declared.AtomId.{AtomId}
@@ -16,17 +17,18 @@ use Rattle.wam_code.specs.Area.{State, Area, Holds}
 use Rattle.wam_code.specs.Effect.{is_set, is_free, with_set, plain_effect}
 use Rattle.wam_code.specs.VerifiedCode.{goes_on}
 use Rattle.code_areas.specs.Areas.{cell_at, IsSet, Contents}
-use Rattle.code_steps.specs.Registers.{cell_in, IsWritten}
-use Rattle.code_states.specs.Machine.{registers_of, HasCell, CanHold, IsSameBehind}
-use Rattle.code_states.specs.Queries.{StaysInside}
-use Rattle.code_states.specs.Safety.{Fits, AreOwn, IsSafe, IsSafeThen}
-use Rattle.code_states.specs.Standing.{went_by}
-use Rattle.code_states.specs.Work.{LeadsOn}
-use Rattle.code_states.specs.declared.went.Went.{Went}
-use Rattle.code_states.specs.declared.went.Went.TheVariants.{On, Back}
-use Rattle.code_states.specs.Equating.{Equates}
+use Rattle.code_meaning.specs.Registers.{cell_in, IsWritten}
+use Rattle.code_safety.specs.Machine.{registers_of, HasCell, CanHold, IsSameBehind}
+use Rattle.code_safety.specs.Queries.{StaysInside}
+use Rattle.code_safety.specs.Safety.{Fits, AreOwn, IsSafe, IsSafeThen}
+use Rattle.code_safety.specs.RepresentedBranch.{went_by}
+use Rattle.code_safety.specs.Work.{LeadsOn}
+use Rattle.code_safety.specs.declared.instruction_outcomes.Went.{Went}
+use Rattle.code_safety.specs.declared.instruction_outcomes.Went.TheVariants.{On, Back}
+use Rattle.code_safety.specs.CellEquations.{Equates}
 use Rattle.term_instructions.specs.Arguments.{LeadsAmong, LeadsFrom}
-use Rattle.code_states.proofs.Lemmas.{same_cells, next_inside, found, when_parts, some_is, free_holds, set_holds, written_fits, written_own, cells_kept, back_safe, next_safe, same_behind, behind_both, same_below, below_heap}
+use Rattle.code_safety.proofs.Lemmas.{same_cells, next_inside, found, when_parts, some_is, free_holds, set_holds, written_fits, written_own, cells_kept}
+use Rattle.code_safety.proofs.Lemmas.{back_safe, next_safe, same_behind, behind_both, same_below, below_heap}
 
 pub owed_set : (t : State) (r : Register) → (with_set t r).owed ≡ t.owed
 owed_set t (X n) = refl
@@ -81,16 +83,20 @@ new_slot_own s s' e d o = subst (λ (t : branch.State). IsCell t d) (sym e) (go 
 
 module _ (area : Area) (s : branch.State) (at : ℕ) (c : Contents) (safe : IsSafe area s at 0 c) where
   -- a register takes a cell of the branch
-  pub written_safe : (i : Code) (r : Register) → Holds area at i → goes_on i ≡ true → ((t u : State) → plain_effect area.entries i t ≡ Some u → u ≡ with_set t r) → (c' : Contents) (d : HeapCell) → IsCell s d
+  pub written_safe : (i : Code) (r : Register) → Holds area at i → goes_on i ≡ true
+      → ((t u : State) → plain_effect area.entries i t ≡ Some u → u ≡ with_set t r) → (c' : Contents) (d : HeapCell) → IsCell s d
       → IsWritten (registers_of c) r d (registers_of c') → IsSameBehind c c' → length c'.slots ≡ length c.slots → IsSafe area s (suc at) 0 c'
   written_safe i r holds on sets c' d own w same size =
       let f = found area s at 0 c i safe holds in
       let k = sets f.state f.handed f.effect_is in
       let o = written_own s c c' r d safe.here.registers_own safe.here.slots_own own w in
-      next_safe area s s at 0 c c' safe (same_below s) same i holds on f 0 (subst (λ u. Fits u c'.registers c'.slots) (sym k) (written_fits f.state c c' r d f.fits w size)) (ap (λ (u : State). u.owed) k ∙ owed_set f.state r ∙ f.owes) safe.sound (λ e l. l) o.0 o.1
+      next_safe area s s at 0 c c' safe (same_below s) same i holds on f 0
+      (subst (λ u. Fits u c'.registers c'.slots) (sym k) (written_fits f.state c c' r d f.fits w size)) (ap (λ (u : State). u.owed) k ∙ owed_set f.state r
+      ∙ f.owes) safe.sound (λ e l. l) o.0 o.1
 
   -- two cells are made equal
-  pub equal_safe : (i : Code) → Holds area at i → goes_on i ≡ true → ((t u : State) → plain_effect area.entries i t ≡ Some u → u ≡ t) → (s' : branch.State) (d e : HeapCell) (equal : Bool) → Equates s d e s' equal → IsSameBelow s s' → IsSafeThen area s' c (went_by at equal)
+  pub equal_safe : (i : Code) → Holds area at i → goes_on i ≡ true → ((t u : State) → plain_effect area.entries i t ≡ Some u → u ≡ t)
+      → (s' : branch.State) (d e : HeapCell) (equal : Bool) → Equates s d e s' equal → IsSameBelow s s' → IsSafeThen area s' c (went_by at equal)
   equal_safe i holds on stays s' d e true q below =
       let f = found area s at 0 c i safe holds in
       let k = stays f.state f.handed f.effect_is in
@@ -110,7 +116,8 @@ module _ (area : Area) (s : branch.State) (at : ℕ) (c : Contents) (safe : IsSa
       let q = and_parts (has f.state.regs a) (is_free f.state r) p.0 in
       (f.fits.set a q.0, free_holds f.state c r f.fits q.1)
 
-  pub get_variable_safe : (r : Register) (a : ℕ) → Holds area at (GetVariable r a) → (c' : Contents) (d : HeapCell) → cell_at c.registers a ≡ Some d → IsWritten (registers_of c) r d (registers_of c') → IsSameBehind c c' → length c'.slots ≡ length c.slots → IsSafe area s (suc at) 0 c'
+  pub get_variable_safe : (r : Register) (a : ℕ) → Holds area at (GetVariable r a) → (c' : Contents) (d : HeapCell) → cell_at c.registers a ≡ Some d
+      → IsWritten (registers_of c) r d (registers_of c') → IsSameBehind c c' → length c'.slots ≡ length c.slots → IsSafe area s (suc at) 0 c'
   get_variable_safe r a holds c' d here =
       written_safe (GetVariable r a) r holds refl (λ t u e. (when_parts (has t.regs a && is_free t r) (with_set t r) u e).1) c' d (safe.here.registers_own a d here)
 
@@ -121,7 +128,8 @@ module _ (area : Area) (s : branch.State) (at : ℕ) (c : Contents) (safe : IsSa
       let q = and_parts (has f.state.regs a) (is_set f.state r) p.0 in
       (f.fits.set a q.0, set_holds f.state c r f.fits q.1)
 
-  pub get_value_safe : (r : Register) (a : ℕ) → Holds area at (GetValue r a) → (s' : branch.State) (d e : HeapCell) (equal : Bool) → Equates s d e s' equal → IsSameBelow s s' → IsSafeThen area s' c (went_by at equal)
+  pub get_value_safe : (r : Register) (a : ℕ) → Holds area at (GetValue r a) → (s' : branch.State) (d e : HeapCell) (equal : Bool) → Equates s d e s' equal
+      → IsSameBelow s s' → IsSafeThen area s' c (went_by at equal)
   get_value_safe r a holds = equal_safe (GetValue r a) holds refl (λ t u e. (when_parts (has t.regs a && is_set t r) t u e).1)
 
   pub get_constant_needs : (k : AtomId) (a : ℕ) → Holds area at (GetConstant k a) → IsSet c.registers a
@@ -132,7 +140,8 @@ module _ (area : Area) (s : branch.State) (at : ℕ) (c : Contents) (safe : IsSa
   pub get_constant_own : (k : AtomId) (a : ℕ) → Holds area at (GetConstant k a) → IsCell s (cell.Atom k)
   get_constant_own k a holds = atom_own k (safe.verified.there at (GetConstant k a) holds)
 
-  pub get_constant_safe : (k : AtomId) (a : ℕ) → Holds area at (GetConstant k a) → (s' : branch.State) (d e : HeapCell) (equal : Bool) → Equates s d e s' equal → IsSameBelow s s' → IsSafeThen area s' c (went_by at equal)
+  pub get_constant_safe : (k : AtomId) (a : ℕ) → Holds area at (GetConstant k a) → (s' : branch.State) (d e : HeapCell) (equal : Bool) → Equates s d e s' equal
+      → IsSameBelow s s' → IsSafeThen area s' c (went_by at equal)
   get_constant_safe k a holds = equal_safe (GetConstant k a) holds refl (λ t u e. (when_parts (has t.regs a) t u e).1)
 
   pub get_integer_needs : (z : ℤ) (a : ℕ) → Holds area at (GetInteger z a) → IsSet c.registers a
@@ -140,7 +149,8 @@ module _ (area : Area) (s : branch.State) (at : ℕ) (c : Contents) (safe : IsSa
       let f = found area s at 0 c (GetInteger z a) safe holds in
       f.fits.set a (when_parts (has f.state.regs a) f.state f.handed f.effect_is).0
 
-  pub get_integer_safe : (z : ℤ) (a : ℕ) → Holds area at (GetInteger z a) → (s' : branch.State) (d e : HeapCell) (equal : Bool) → Equates s d e s' equal → IsSameBelow s s' → IsSafeThen area s' c (went_by at equal)
+  pub get_integer_safe : (z : ℤ) (a : ℕ) → Holds area at (GetInteger z a) → (s' : branch.State) (d e : HeapCell) (equal : Bool) → Equates s d e s' equal
+      → IsSameBelow s s' → IsSafeThen area s' c (went_by at equal)
   get_integer_safe z a holds = equal_safe (GetInteger z a) holds refl (λ t u e. (when_parts (has t.regs a) t u e).1)
 
   pub put_value_needs : (r : Register) (a : ℕ) → Holds area at (PutValue r a) → HasCell c r
@@ -148,15 +158,18 @@ module _ (area : Area) (s : branch.State) (at : ℕ) (c : Contents) (safe : IsSa
       let f = found area s at 0 c (PutValue r a) safe holds in
       set_holds f.state c r f.fits (when_parts (is_set f.state r) (with_set f.state (X a)) f.handed f.effect_is).0
 
-  pub put_value_safe : (r : Register) (a : ℕ) → Holds area at (PutValue r a) → (c' : Contents) (d : HeapCell) → cell_in (registers_of c) r ≡ Some d → IsWritten (registers_of c) (X a) d (registers_of c') → IsSameBehind c c' → length c'.slots ≡ length c.slots → IsSafe area s (suc at) 0 c'
+  pub put_value_safe : (r : Register) (a : ℕ) → Holds area at (PutValue r a) → (c' : Contents) (d : HeapCell) → cell_in (registers_of c) r ≡ Some d
+      → IsWritten (registers_of c) (X a) d (registers_of c') → IsSameBehind c c' → length c'.slots ≡ length c.slots → IsSafe area s (suc at) 0 c'
   put_value_safe r a holds c' d here =
       written_safe (PutValue r a) (X a) holds refl (λ t u e. (when_parts (is_set t r) (with_set t (X a)) u e).1) c' d (held_own s c r d safe.here.registers_own safe.here.slots_own here)
 
-  pub put_constant_safe : (k : AtomId) (a : ℕ) → Holds area at (PutConstant k a) → (c' : Contents) → IsWritten (registers_of c) (X a) (cell.Atom k) (registers_of c') → IsSameBehind c c' → length c'.slots ≡ length c.slots → IsSafe area s (suc at) 0 c'
+  pub put_constant_safe : (k : AtomId) (a : ℕ) → Holds area at (PutConstant k a) → (c' : Contents)
+      → IsWritten (registers_of c) (X a) (cell.Atom k) (registers_of c') → IsSameBehind c c' → length c'.slots ≡ length c.slots → IsSafe area s (suc at) 0 c'
   put_constant_safe k a holds c' =
       written_safe (PutConstant k a) (X a) holds refl (λ t u e. some_is (with_set t (X a)) u e) c' (cell.Atom k) (atom_own k (safe.verified.there at (PutConstant k a) holds))
 
-  pub put_integer_safe : (z : ℤ) (a : ℕ) → Holds area at (PutInteger z a) → (c' : Contents) → IsWritten (registers_of c) (X a) (cell.Int z) (registers_of c') → IsSameBehind c c' → length c'.slots ≡ length c.slots → IsSafe area s (suc at) 0 c'
+  pub put_integer_safe : (z : ℤ) (a : ℕ) → Holds area at (PutInteger z a) → (c' : Contents) → IsWritten (registers_of c) (X a) (cell.Int z) (registers_of c')
+      → IsSameBehind c c' → length c'.slots ≡ length c.slots → IsSafe area s (suc at) 0 c'
   put_integer_safe z a holds c' =
       written_safe (PutInteger z a) (X a) holds refl (λ t u e. some_is (with_set t (X a)) u e) c' (cell.Int z) (tt, tt)
 
@@ -165,15 +178,20 @@ module _ (area : Area) (s : branch.State) (at : ℕ) (c : Contents) (safe : IsSa
       let f = found area s at 0 c (PutVariable r a) safe holds in
       free_holds f.state c r f.fits (when_parts (is_free f.state r) (with_set (with_set f.state r) (X a)) f.handed f.effect_is).0
 
-  pub put_variable_safe : (r : Register) (a : ℕ) → Holds area at (PutVariable r a) → (s' : branch.State) → s' ≡ with_heap s (with_new_slot s.heaps.now) → IsSound s' → (d : HeapCell) → d ≡ cell.Ref (length s.heaps.now.slots) → (c' c'' : Contents)
-      → IsWritten (registers_of c) r d (registers_of c') → IsSameBehind c c' → length c'.slots ≡ length c.slots → IsWritten (registers_of c') (X a) d (registers_of c'') → IsSameBehind c' c'' → length c''.slots ≡ length c'.slots → IsSafe area s' (suc at) 0 c''
+  pub put_variable_safe : (r : Register) (a : ℕ) → Holds area at (PutVariable r a) → (s' : branch.State) → s' ≡ with_heap s (with_new_slot s.heaps.now)
+      → IsSound s' → (d : HeapCell) → d ≡ cell.Ref (length s.heaps.now.slots) → (c' c'' : Contents)
+      → IsWritten (registers_of c) r d (registers_of c') → IsSameBehind c c' → length c'.slots ≡ length c.slots
+      → IsWritten (registers_of c') (X a) d (registers_of c'') → IsSameBehind c' c'' → length c''.slots ≡ length c'.slots → IsSafe area s' (suc at) 0 c''
   put_variable_safe r a holds s' added sound d is c' c'' w same size w' same' size' =
       let f = found area s at 0 c (PutVariable r a) safe holds in
       let k = (when_parts (is_free f.state r) (with_set (with_set f.state r) (X a)) f.handed f.effect_is).1 in
       let keep = new_slot_own s s' added in
-      let own : IsCell s' d = subst (IsCell s') (sym is) (subst (λ (t : branch.State). IsCell t (cell.Ref (length s.heaps.now.slots))) (sym added) (omega (arith, length-append s.heaps.now.slots (free ∷ [])), tt)) in
+      let own : IsCell s' d = subst (IsCell s') (sym is)
+      (subst (λ (t : branch.State). IsCell t (cell.Ref (length s.heaps.now.slots))) (sym added)
+      (omega (arith, length-append s.heaps.now.slots (free ∷ [])), tt)) in
       let o = written_own s' c c' r d (cells_kept s s' keep c.registers safe.here.registers_own) (cells_kept s s' keep c.slots safe.here.slots_own) own w in
       let o' = written_own s' c' c'' (X a) d o.0 o.1 own w' in
       let fits = written_fits (with_set f.state r) c' c'' (X a) d (written_fits f.state c c' r d f.fits w size) w' size' in
-      next_safe area s s' at 0 c c'' safe (below_heap s s' (added ∙ ap (with_heap s) (sym (ap (λ (t : branch.State). t.heaps.now) added)))) (behind_both c c' c'' same same') (PutVariable r a) holds refl f 0 (subst (λ u. Fits u c''.registers c''.slots) (sym k) fits)
+      next_safe area s s' at 0 c c'' safe (below_heap s s' (added ∙ ap (with_heap s) (sym (ap (λ (t : branch.State). t.heaps.now) added))))
+      (behind_both c c' c'' same same') (PutVariable r a) holds refl f 0 (subst (λ u. Fits u c''.registers c''.slots) (sym k) fits)
       (ap (λ (u : State). u.owed) k ∙ owed_set (with_set f.state r) (X a) ∙ owed_set f.state r ∙ f.owes) sound keep o'.0 o'.1

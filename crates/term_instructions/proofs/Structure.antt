@@ -9,7 +9,7 @@ use Rattle.heap_cells.specs.declared.Cell.{Cell}
 use Rattle.heap_cells.specs.declared.Cell.TheVariants as cell
 use Rattle.heap_cells.specs.Cells.{Heaps, IsOf}
 use Rattle.heap_cells.specs.Atoms.{IsAtomBelow}
-use Rattle.machine_frames.proofs.Lemmas.{of_grown}
+use Rattle.branch_lemmas.proofs.Lemmas.{of_grown}
 use Rattle.branch_state.specs.Compounds.{IsMade}
 use Rattle.branch_state.specs.States as branch
 use Rattle.branch_state.specs.States.{IsCell, IsSound, IsSameBelow, with_heap}
@@ -19,27 +19,29 @@ use Rattle.wam_code.specs.Area.{State, Area, Holds, name_of}
 use Rattle.wam_code.specs.VerifiedCode.{IsAtom}
 use Rattle.wam_code.specs.Effect.{with_set, with_owed}
 use Rattle.code_areas.specs.Areas.{Contents}
-use Rattle.code_steps.specs.Registers.{IsWritten}
-use Rattle.code_steps.specs.WriteMode.{PutEnd, Builds}
-use Rattle.code_steps.specs.Standing.{Stands}
-use Rattle.code_steps.proofs.Lemmas.{start_put, end_put}
-use Rattle.code_states.specs.Machine.{saved_of, registers_of, stack_of, IsSameBehind}
-use Rattle.code_states.specs.Safety.{Fits, AreReturns, AreBehind, IsSafe, IsSafeThen}
-use Rattle.code_states.specs.Standing.{KeepsStanding}
-use Rattle.code_states.specs.Work.{LeadsOn}
+use Rattle.code_meaning.specs.Registers.{IsWritten}
+use Rattle.code_meaning.specs.WriteMode.{PutEnd, Builds}
+use Rattle.code_meaning.specs.StateMeaning.{Stands}
+use Rattle.code_meaning.proofs.Lemmas.{start_put, end_put}
+use Rattle.code_safety.specs.Machine.{saved_of, registers_of, stack_of, IsSameBehind}
+use Rattle.code_safety.specs.Safety.{Fits, AreReturns, AreBehind, IsSafe, IsSafeThen}
+use Rattle.code_safety.specs.RepresentedBranch.{KeepsStanding}
+use Rattle.code_safety.specs.Work.{LeadsOn}
 use Rattle.term_instructions.specs.WriteMode.{for_goal, BuildsAt, IsGatheredTo, IsPutAt, PutsOn}
-use Rattle.code_states.specs.declared.went.Went.{Went}
-use Rattle.code_states.specs.declared.went.Went.TheVariants.{On}
-use Rattle.code_states.proofs.Lemmas.{found, some_is, written_fits, written_own, cells_kept, returns_kept, points_then, next_safe, same_behind, behind_both, same_below, below_heap, below_both}
+use Rattle.code_safety.specs.declared.instruction_outcomes.Went.{Went}
+use Rattle.code_safety.specs.declared.instruction_outcomes.Went.TheVariants.{On}
+use Rattle.code_safety.proofs.Lemmas.{found, some_is, written_fits, written_own, cells_kept, returns_kept, points_then, next_safe, same_behind, behind_both}
+use Rattle.code_safety.proofs.Lemmas.{same_below, below_heap, below_both}
 use Rattle.term_instructions.proofs.Steps.{led_from}
-use Rattle.term_instructions.proofs.Unify.{fits_owed}
+use Rattle.term_instructions.proofs.UnifyInstructions.{fits_owed}
 use Rattle.term_instructions.proofs.BuildSteps.{gathered_both}
 
 has_more : (a k : ℕ) (regs : List ℕ) → has regs k ≡ true → has (a ∷ regs) k ≡ true
 has_more a k regs e = elim (cases_Bool (a == k)) [ inl i ↦ ap (λ b. b || has regs k) i | inr i ↦ ap (λ b. b || has regs k) i ∙ e ]
 
 -- a register of a place may take any cell of the branch
-pub register_safe : (area : Area) (s : branch.State) (at k : ℕ) (c : Contents) → IsSafe area s at k c → (a : ℕ) (d : Cell) → IsCell s d → (c' : Contents) → IsWritten (registers_of c) (X a) d (registers_of c') → IsSameBehind c c' → length c'.slots ≡ length c.slots → IsSafe area s at k c'
+pub register_safe : (area : Area) (s : branch.State) (at k : ℕ) (c : Contents) → IsSafe area s at k c → (a : ℕ) (d : Cell) → IsCell s d → (c' : Contents)
+    → IsWritten (registers_of c) (X a) d (registers_of c') → IsSameBehind c c' → length c'.slots ≡ length c.slots → IsSafe area s at k c'
 register_safe area s at k c safe a d own c' w same size =
     let r = safe.here.reached in
     let fits = written_fits r.state c c' (X a) d r.fits w size in
@@ -60,7 +62,8 @@ register_safe area s at k c safe a d own c' w same size =
     }
 
 -- Cells are made equal, or more are there.
-pub equated_safe : (area : Area) (s s' : branch.State) (at k : ℕ) (c : Contents) → IsSafe area s at k c → IsSameBelow s s' → IsSound s' → ((d : Cell) → IsCell s d → IsCell s' d) → IsSafe area s' at k c
+pub equated_safe : (area : Area) (s s' : branch.State) (at k : ℕ) (c : Contents) → IsSafe area s at k c → IsSameBelow s s' → IsSound s'
+    → ((d : Cell) → IsCell s d → IsCell s' d) → IsSafe area s' at k c
 equated_safe area s s' at k c safe below sound keep = record {
   states = safe.states;
   verified = safe.verified;
@@ -77,7 +80,8 @@ equated_safe area s s' at k c safe below sound keep = record {
 }
 
 -- the heap grows
-pub grown_safe : (area : Area) (s s' : branch.State) (at k : ℕ) (c : Contents) → IsSafe area s at k c → s' ≡ with_heap s s'.heaps.now → IsSound s' → ((d : Cell) → IsCell s d → IsCell s' d) → IsSafe area s' at k c
+pub grown_safe : (area : Area) (s s' : branch.State) (at k : ℕ) (c : Contents) → IsSafe area s at k c → s' ≡ with_heap s s'.heaps.now → IsSound s'
+    → ((d : Cell) → IsCell s d → IsCell s' d) → IsSafe area s' at k c
 grown_safe area s s' at k c safe heap = equated_safe area s s' at k c safe (below_heap s s' heap)
 
 -- more is posted
@@ -99,11 +103,15 @@ module _ (area : Area) (s : branch.State) (at : ℕ) (c : Contents) (safe : IsSa
       let e = found area s at 0 c (PutStructure f n a) safe holds in
       let k = some_is (with_owed (with_set e.state (X a)) n) e.handed e.effect_is in
       let o = written_own s c c1 (X a) (cell.Int z) safe.here.registers_own safe.here.slots_own (tt, tt) w in
-      let fits : Fits e.handed c1.registers c1.slots = subst (λ v. Fits v c1.registers c1.slots) (sym k) (fits_owed (with_set e.state (X a)) n c1.registers c1.slots (written_fits e.state c c1 (X a) (cell.Int z) e.fits w size)) in
+      let fits : Fits e.handed c1.registers c1.slots = subst (λ v. Fits v c1.registers c1.slots) (sym k)
+      (fits_owed (with_set e.state (X a)) n c1.registers c1.slots (written_fits e.state c c1 (X a) (cell.Int z) e.fits w size)) in
       next_safe area s s at 0 c c1 safe (same_below s) same (PutStructure f n a) holds refl e n fits (ap (λ (v : State). v.owed) k) safe.sound (λ x l. l) o.0 o.1
 
-  module _ (c1 : Contents) (z : ℤ) (w1 : IsWritten (registers_of c) (X a) (cell.Int z) (registers_of c1)) (same1 : IsSameBehind c c1) (empty : List Cell) (none : empty ≡ []) (s2 : branch.State) (next : ℕ) (c2 : Contents) (cells : List Cell) (g : IsGatheredTo area n s (suc at) c1 empty s2 next c2 cells) (all : length cells ≡ n)
-      (s3 : branch.State) (new : Cell) (given : List Cell) (given_is : given ≡ cells) (made : IsMade f given s2 s3 new) (heap : s3 ≡ with_heap s2 s3.heaps.now) (sound : IsSound s3) (c3 : Contents) (w3 : IsWritten (registers_of c2) (X a) new (registers_of c3)) (same3 : IsSameBehind c2 c3) where
+  module _ (c1 : Contents) (z : ℤ) (w1 : IsWritten (registers_of c) (X a) (cell.Int z) (registers_of c1)) (same1 : IsSameBehind c c1) (empty : List Cell)
+      (none : empty ≡ []) (s2 : branch.State) (next : ℕ) (c2 : Contents) (cells : List Cell) (g : IsGatheredTo area n s (suc at) c1 empty s2 next c2 cells)
+      (all : length cells ≡ n)
+      (s3 : branch.State) (new : Cell) (given : List Cell) (given_is : given ≡ cells) (made : IsMade f given s2 s3 new) (heap : s3 ≡ with_heap s2 s3.heaps.now)
+      (sound : IsSound s3) (c3 : Contents) (w3 : IsWritten (registers_of c2) (X a) new (registers_of c3)) (same3 : IsSameBehind c2 c3) where
     pub put_behind : IsSameBehind c c3
     put_behind = behind_both c c1 c3 same1 (behind_both c1 c2 c3 g.behind same3)
 
@@ -120,37 +128,64 @@ module _ (area : Area) (s : branch.State) (at : ℕ) (c : Contents) (safe : IsSa
     put_stands N small marks shown name b m st =
         let named = m.same f (safe.verified.there at (PutStructure f n a) holds) in
         let one = start_put INFINITY N marks area shown name s.heaps.now s.levels.current.posted at (registers_of c) (stack_of c) b st f n a holds (registers_of c1) w1.0.else w1.1 w1.2 w1.3 in
-        let two : BuildsAt N marks area shown name (name_of area f) (for_goal a) s (suc at) c1 [] (n - length {A = Cell} []) b = subst (λ k. BuildsAt N marks area shown name (name_of area f) (for_goal a) s (suc at) c1 [] k b) (let e : n ≡ n - length {A = Cell} [] = omega arith in e)
-        (subst (λ rs. Builds INFINITY N marks area shown name s.heaps.now s.levels.current.posted 0 (suc at) (registers_of c1) [] n (map saved_of rs) b (PutEnd area shown b (name_of area f) a)) (sym same1.returns) one) in
-        let three = g.keeps N small marks shown name (name_of area f) (for_goal a) b m (subst (λ l. BuildsAt N marks area shown name (name_of area f) (for_goal a) s (suc at) c1 l (n - length l) b) (sym none) two) in
+        let two : BuildsAt N marks area shown name (name_of area f) (for_goal a) s (suc at) c1 [] (n - length {A = Cell} []) b = subst
+        (λ k. BuildsAt N marks area shown name (name_of area f) (for_goal a) s (suc at) c1 [] k b) (let e : n ≡ n - length {A = Cell} [] = omega arith in e)
+        (subst (λ rs. Builds INFINITY N marks area shown name s.heaps.now s.levels.current.posted 0 (suc at) (registers_of c1) [] n (map saved_of rs) b
+        (PutEnd area shown b (name_of area f) a)) (sym same1.returns) one) in
+        let three = g.keeps N small marks shown name (name_of area f) (for_goal a) b m
+        (subst (λ l. BuildsAt N marks area shown name (name_of area f) (for_goal a) s (suc at) c1 l (n - length l) b) (sym none) two) in
         let four : BuildsAt N marks area shown name (name_of area f) (for_goal a) s2 next c2 given 0 b =
-        subst (λ l. BuildsAt N marks area shown name (name_of area f) (for_goal a) s2 next c2 l 0 b) (sym given_is) (subst (λ k. BuildsAt N marks area shown name (name_of area f) (for_goal a) s2 next c2 cells k b) (let e : n - length cells ≡ 0 = omega (arith, all) in e) three) in
-        let five = end_put INFINITY N marks area shown name s2.heaps.now s2.levels.current.posted next (registers_of c2) (stack_of c2) b f named given s3.heaps.now new made.grown made.own.0 (made.term name) a four (registers_of c3) w3 in
+        subst (λ l. BuildsAt N marks area shown name (name_of area f) (for_goal a) s2 next c2 l 0 b) (sym given_is)
+        (subst (λ k. BuildsAt N marks area shown name (name_of area f) (for_goal a) s2 next c2 cells k b)
+        (let e : n - length cells ≡ 0 = omega (arith, all) in e) three) in
+        let five = end_put INFINITY N marks area shown name s2.heaps.now s2.levels.current.posted next (registers_of c2) (stack_of c2) b f named given
+        s3.heaps.now new made.grown made.own.0 (made.term name) a four (registers_of c3) w3 in
         subst (λ rs. Stands INFINITY N marks area shown name s3.heaps.now s3.levels.current.posted next (registers_of c3) (map saved_of rs) b) (sym same3.returns)
         (subst (λ ps. Stands INFINITY N marks area shown name s3.heaps.now ps next (registers_of c3) (stack_of c2) b) (sym (ap (λ (t : branch.State). t.levels.current.posted) heap)) five)
 
   -- The register takes it.
-  pub put_done : (c1 : Contents) (z : ℤ) → IsWritten (registers_of c) (X a) (cell.Int z) (registers_of c1) → IsSameBehind c c1 → (from : ℕ) → from ≡ suc at → (s' : branch.State) (c' : Contents) {E : Type 0} (r : Result Went E) → IfOk r (PutsOn area f n a s from c1 [] s' c')
+  pub put_done : (c1 : Contents) (z : ℤ) → IsWritten (registers_of c) (X a) (cell.Int z) (registers_of c1) → IsSameBehind c c1 → (from : ℕ) → from ≡ suc at
+      → (s' : branch.State) (c' : Contents) {E : Type 0} (r : Result Went E) → IfOk r (PutsOn area f n a s from c1 [] s' c')
       → IfOk r (IsSafeThen area s' c') × IfOk r (KeepsStanding area s at c s' c') × IfOk r (LeadsOn area at) × OnOk r (IsSameBehind c c') × OnOk r (IsSameBelow s s')
   put_done c1 z w1 same1 from is s' c' (Err e) p = (tt, tt, tt, tt, tt)
   put_done c1 z w1 same1 from is s' c' (Ok w) p =
       let t = p.put in
       let g : IsGatheredTo area n s (suc at) c1 [] p.middle p.next p.contents p.args = subst (λ i. IsGatheredTo area n s i c1 [] p.middle p.next p.contents p.args) is p.gathered in (
         subst (IsSafeThen area s' c') (sym t.leads) (put_safe c1 z w1 same1 [] refl p.middle p.next p.contents p.args g p.all s' t.built p.args refl t.made t.heap t.sound c' t.written t.same t.slots),
-        subst (KeepsStanding area s at c s' c') (sym t.leads) (put_stands c1 z w1 same1 [] refl p.middle p.next p.contents p.args g p.all s' t.built p.args refl t.made t.heap t.sound c' t.written t.same),
+        subst (KeepsStanding area s at c s' c') (sym t.leads)
+            (put_stands c1 z w1 same1 [] refl p.middle p.next p.contents p.args g p.all s' t.built p.args refl t.made t.heap t.sound c' t.written t.same),
         subst (LeadsOn area at) (sym t.leads) (led_from area s at c safe (PutStructure f n a) holds refl from is (On p.next) p.gathered.leads),
         put_behind c1 z w1 same1 [] refl p.middle p.next p.contents p.args g p.all s' t.built p.args refl t.made t.heap t.sound c' t.written t.same,
         put_below c1 z w1 same1 [] refl p.middle p.next p.contents p.args g p.all s' t.built p.args refl t.made t.heap t.sound c' t.written t.same,
       )
 
 -- The arguments that are left were gathered before.
-pub puts_on : (area : Area) (f : AtomId) (n a : ℕ) (s1 : branch.State) (at : ℕ) (c1 : Contents) (cells : List Cell) (s2 : branch.State) (next : ℕ) (c2 : Contents) (args : List Cell) → IsGatheredTo area n s1 at c1 cells s2 next c2 args → length args ≡ n → (given : List Cell) → given ≡ args → (s' : branch.State) (c' : Contents) {E : Type 0} (r : Result Went E)
+pub puts_on : (area : Area) (f : AtomId) (n a : ℕ) (s1 : branch.State) (at : ℕ) (c1 : Contents) (cells : List Cell) (s2 : branch.State) (next : ℕ)
+    (c2 : Contents) (args : List Cell) → IsGatheredTo area n s1 at c1 cells s2 next c2 args → length args ≡ n → (given : List Cell) → given ≡ args
+    → (s' : branch.State) (c' : Contents) {E : Type 0} (r : Result Went E)
     → IfOk r (IsPutAt f given a next s2 c2 s' c') → IfOk r (PutsOn area f n a s1 at c1 cells s' c')
-puts_on area f n a s1 at c1 cells s2 next c2 args g all given is s' c' (Ok w) p = record { next = next; middle = s2; contents = c2; args = args; gathered = g; all = all; put = subst (λ l. IsPutAt f l a next s2 c2 s' c' w) is p }
+puts_on area f n a s1 at c1 cells s2 next c2 args g all given is s' c' (Ok w) p = record {
+  next = next;
+  middle = s2;
+  contents = c2;
+  args = args;
+  gathered = g;
+  all = all;
+  put = subst (λ l. IsPutAt f l a next s2 c2 s' c' w) is p;
+}
 puts_on area f n a s1 at c1 cells s2 next c2 args g all given is s' c' (Err e) p = tt
 
 -- Some arguments were gathered before the others.
-pub puts_from : (area : Area) (f : AtomId) (n a : ℕ) (s : branch.State) (from : ℕ) (c : Contents) (s1 : branch.State) (at : ℕ) (c1 : Contents) (cells : List Cell) → IsGatheredTo area n s from c [] s1 at c1 cells → (s' : branch.State) (c' : Contents) {E : Type 0} (r : Result Went E)
+pub puts_from : (area : Area) (f : AtomId) (n a : ℕ) (s : branch.State) (from : ℕ) (c : Contents) (s1 : branch.State) (at : ℕ) (c1 : Contents)
+    (cells : List Cell) → IsGatheredTo area n s from c [] s1 at c1 cells → (s' : branch.State) (c' : Contents) {E : Type 0} (r : Result Went E)
     → IfOk r (PutsOn area f n a s1 at c1 cells s' c') → IfOk r (PutsOn area f n a s from c [] s' c')
-puts_from area f n a s from c s1 at c1 cells g s' c' (Ok w) p = record { next = p.next; middle = p.middle; contents = p.contents; args = p.args; gathered = gathered_both area n s from c [] s1 at c1 cells p.middle p.next p.contents p.args g p.gathered; all = p.all; put = p.put }
+puts_from area f n a s from c s1 at c1 cells g s' c' (Ok w) p = record {
+  next = p.next;
+  middle = p.middle;
+  contents = p.contents;
+  args = p.args;
+  gathered = gathered_both area n s from c [] s1 at c1 cells p.middle p.next p.contents p.args g p.gathered;
+  all = p.all;
+  put = p.put;
+}
 puts_from area f n a s from c s1 at c1 cells g s' c' (Err e) p = tt

@@ -4,9 +4,9 @@ use Rattle.wam_code.specs.declared.instruction.Code.{Code}
 use Rattle.wam_code.specs.declared.instruction.Code.TheVariants.{UnifyVariable, UnifyValue, UnifyConstant, UnifyInteger, UnifyVoid}
 use Rattle.wam_code.specs.Area.{State, Area, Holds}
 use Rattle.wam_code.specs.Effect.{unify_effect}
-use Rattle.code_states.specs.Queries.{StaysInside}
-use Rattle.code_states.specs.declared.went.Went.{Went}
-use Rattle.code_states.specs.declared.went.Went.TheVariants.{On, Back}
+use Rattle.code_safety.specs.Queries.{StaysInside}
+use Rattle.code_safety.specs.declared.instruction_outcomes.Went.{Went}
+use Rattle.code_safety.specs.declared.instruction_outcomes.Went.TheVariants.{On, Back}
 use Rattle.term_instructions.specs.declared.arguments.Argument.{Argument}
 use Rattle.term_instructions.specs.declared.arguments.Argument.TheVariants.{Variable, Value, Constant, Integer, Void}
 

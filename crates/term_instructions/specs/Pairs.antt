@@ -9,11 +9,11 @@ use Rattle.wam_code.specs.declared.instruction.Register.{Register}
 use Rattle.wam_code.specs.declared.instruction.Code.TheVariants.{GetStructure, UnifyVariable}
 use Rattle.wam_code.specs.Area.{Area, Holds}
 use Rattle.code_areas.specs.Areas.{cell_at, Contents}
-use Rattle.code_states.specs.Machine.{IsSameBehind}
-use Rattle.code_states.specs.Safety.{IsSafe}
-use Rattle.code_states.specs.Standing.{KeepsStanding}
-use Rattle.code_states.specs.Work.{LeadsOn}
-use Rattle.code_states.specs.declared.went.Went.TheVariants.{On}
+use Rattle.code_safety.specs.Machine.{IsSameBehind}
+use Rattle.code_safety.specs.Safety.{IsSafe}
+use Rattle.code_safety.specs.RepresentedBranch.{KeepsStanding}
+use Rattle.code_safety.specs.Work.{LeadsOn}
+use Rattle.code_safety.specs.declared.instruction_outcomes.Went.TheVariants.{On}
 
 -- The first argument is asked for a structure of two with this name, and these registers take both.
 pub record IsPairAt (area : Area) (at : ℕ) (f : AtomId) (first second : Register) : Type 0 where

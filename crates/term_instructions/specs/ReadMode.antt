@@ -11,16 +11,16 @@ use Rattle.branch_state.specs.States.{IsCell, IsSameBelow}
 use Rattle.branch_state.specs.Steps.{AreTouchesOf, posted_with}
 use Rattle.wam_code.specs.Area.{Area}
 use Rattle.code_areas.specs.Areas.{Contents}
-use Rattle.code_steps.specs.ReadMode.{Reads}
-use Rattle.code_states.specs.Machine.{registers_of, stack_of, IsSameBehind}
-use Rattle.code_states.specs.Safety.{IsSafe, IsSafeBack, IsSafeThen}
-use Rattle.code_states.specs.Standing.{IsNaming, HasNoModel, StandsThen}
-use Rattle.term_instructions.specs.declared.reading.ReadPosition.{ReadPosition}
-use Rattle.term_instructions.specs.declared.reading.Look.{Look}
-use Rattle.term_instructions.specs.declared.reading.Start.{Start}
-use Rattle.term_instructions.specs.declared.reading.Start.TheVariants as start
-use Rattle.term_instructions.specs.declared.reading.Look.TheVariants.{Read, Refused, Unclear}
-use Rattle.code_states.specs.declared.went.Went.{Went}
+use Rattle.code_meaning.specs.ReadMode.{Reads}
+use Rattle.code_safety.specs.Machine.{registers_of, stack_of, IsSameBehind}
+use Rattle.code_safety.specs.Safety.{IsSafe, IsSafeBack, IsSafeThen}
+use Rattle.code_safety.specs.RepresentedBranch.{IsNaming, HasNoModel, StandsThen}
+use Rattle.term_instructions.specs.declared.read_mode.ReadPosition.{ReadPosition}
+use Rattle.term_instructions.specs.declared.read_mode.Look.{Look}
+use Rattle.term_instructions.specs.declared.read_mode.Start.{Start}
+use Rattle.term_instructions.specs.declared.read_mode.Start.TheVariants as start
+use Rattle.term_instructions.specs.declared.read_mode.Look.TheVariants.{Read, Refused, Unclear}
+use Rattle.code_safety.specs.declared.instruction_outcomes.Went.{Went}
 use Rattle.term_instructions.specs.Arguments.{LeadsAmong, LeadsFrom}
 
 -- The cells left are to be equal to the terms that the code gives from the place on, where what was
@@ -29,7 +29,8 @@ abbrev pub ReadsAt : ℕ → List ℕ → Area → List ℕ → Naming → branc
 ReadsAt N marks area shown name s told at c left b = Reads INFINITY N marks area shown name s.heaps.now (posted_with s told) 0 at (registers_of c) left (stack_of c) b
 
 -- It is safe to read on, and the machine stands for the same branches.
-pub record IsReadTo (area : Area) (cells : List Cell) (s : branch.State) (told : List Touch) (from : ReadPosition) (c : Contents) (s' : branch.State) (told' : List Touch) (to : ReadPosition) (c' : Contents) : Type 0 where
+pub record IsReadTo (area : Area) (cells : List Cell) (s : branch.State) (told : List Touch) (from : ReadPosition) (c : Contents) (s' : branch.State)
+    (told' : List Touch) (to : ReadPosition) (c' : Contents) : Type 0 where
   pub safe : IsSafe area s' to.at (length cells - to.next) c'
   pub within : to.next ≤ length cells
   pub leads : LeadsAmong area from.at to.at
@@ -37,14 +38,16 @@ pub record IsReadTo (area : Area) (cells : List Cell) (s : branch.State) (told :
   pub are_told : AreTouchesOf s' told'
   pub behind : IsSameBehind c c'
   pub below : IsSameBelow s s'
-  pub keeps : (N : ℕ) (small : N ≤ INFINITY) (marks : List ℕ) (shown : List ℕ) (name : Naming) (b : Branch) → IsNaming area name → ReadsAt N marks area shown name s told from.at c (drop from.next cells) b → ReadsAt N marks area shown name s' told' to.at c' (drop to.next cells) b
+  pub keeps : (N : ℕ) (small : N ≤ INFINITY) (marks : List ℕ) (shown : List ℕ) (name : Naming) (b : Branch) → IsNaming area name
+      → ReadsAt N marks area shown name s told from.at c (drop from.next cells) b → ReadsAt N marks area shown name s' told' to.at c' (drop to.next cells) b
 
 -- It is safe to go back, and no such branch has a model.
 pub record IsRefused (area : Area) (cells : List Cell) (s : branch.State) (told : List Touch) (from : ReadPosition) (c : Contents) (s' : branch.State) (c' : Contents) : Type 0 where
   pub safe : IsSafeBack area s' c'
   pub behind : IsSameBehind c c'
   pub below : IsSameBelow s s'
-  pub none : (N : ℕ) (small : N ≤ INFINITY) (marks : List ℕ) (shown : List ℕ) (name : Naming) (b : Branch) → IsNaming area name → ReadsAt N marks area shown name s told from.at c (drop from.next cells) b → HasNoModel N b
+  pub none : (N : ℕ) (small : N ≤ INFINITY) (marks : List ℕ) (shown : List ℕ) (name : Naming) (b : Branch) → IsNaming area name
+      → ReadsAt N marks area shown name s told from.at c (drop from.next cells) b → HasNoModel N b
 
 abbrev pub ReadsOn : Area → List Cell → branch.State → List Touch → ReadPosition → Contents → branch.State → List Touch → Contents → Option ReadPosition → Type 0
 ReadsOn area cells s told from c s' told' c' (Some to) = IsReadTo area cells s told from c s' told' to c'
@@ -66,7 +69,8 @@ pub record ReadsThen (area : Area) (cells : List Cell) (s : branch.State) (told 
   pub leads : LeadsFrom area at w
   pub behind : IsSameBehind c c'
   pub below : IsSameBelow s s'
-  pub stands : (N : ℕ) (small : N ≤ INFINITY) (marks : List ℕ) (shown : List ℕ) (name : Naming) (b : Branch) → IsNaming area name → ReadsAt N marks area shown name s told at c cells b → StandsThen N marks area shown name s' c' w b
+  pub stands : (N : ℕ) (small : N ≤ INFINITY) (marks : List ℕ) (shown : List ℕ) (name : Naming) (b : Branch) → IsNaming area name
+      → ReadsAt N marks area shown name s told at c cells b → StandsThen N marks area shown name s' c' w b
 
 -- constants of one kind that differ
 abbrev pub AreOther : Cell → Cell → Type 0

@@ -7,7 +7,7 @@ use Rattle.heap_cells.specs.declared.Cell.{Cell}
 use Rattle.heap_cells.specs.declared.Cell.TheVariants as cell
 use Rattle.heap_cells.specs.Cells.{Cells, with_new_slot}
 use Rattle.heap_cells.specs.Terms.{Naming, Same}
-use Rattle.machine_frames.specs.Frames.{IsGrown}
+use Rattle.branch_lemmas.specs.Frames.{IsGrown}
 use Rattle.branch_state.specs.States as branch
 use Rattle.branch_state.specs.Compounds.{IsMade}
 use Rattle.branch_state.specs.States.{IsCell, IsSameBelow, IsSound, with_heap}
@@ -15,15 +15,15 @@ use Rattle.term_pool.specs.declared.AtomId.{AtomId}
 use Rattle.wam_code.specs.declared.instruction.Register.TheVariants.{X}
 use Rattle.wam_code.specs.Area.{Area, name_of}
 use Rattle.code_areas.specs.Areas.{Contents}
-use Rattle.code_steps.specs.Registers.{IsWritten}
-use Rattle.code_steps.specs.WriteMode.{End, GetEnd, PutEnd, Builds}
-use Rattle.code_states.specs.Machine.{registers_of, stack_of, IsSameBehind}
-use Rattle.code_states.specs.Safety.{IsSafe, IsSafeThen}
-use Rattle.code_states.specs.Standing.{IsNaming, StandsThen}
-use Rattle.code_states.specs.declared.went.Went.{Went}
-use Rattle.code_states.specs.declared.went.Went.TheVariants.{On}
-use Rattle.term_instructions.specs.declared.building.Gathered.{Gathered}
-use Rattle.term_instructions.specs.declared.building.Gathered.TheVariants.{Pair, Listed}
+use Rattle.code_meaning.specs.Registers.{IsWritten}
+use Rattle.code_meaning.specs.WriteMode.{End, GetEnd, PutEnd, Builds}
+use Rattle.code_safety.specs.Machine.{registers_of, stack_of, IsSameBehind}
+use Rattle.code_safety.specs.Safety.{IsSafe, IsSafeThen}
+use Rattle.code_safety.specs.RepresentedBranch.{IsNaming, StandsThen}
+use Rattle.code_safety.specs.declared.instruction_outcomes.Went.{Went}
+use Rattle.code_safety.specs.declared.instruction_outcomes.Went.TheVariants.{On}
+use Rattle.term_instructions.specs.declared.write_mode.Gathered.{Gathered}
+use Rattle.term_instructions.specs.declared.write_mode.Gathered.TheVariants.{Pair, Listed}
 use Rattle.term_instructions.specs.Arguments.{LeadsAmong, LeadsFrom}
 
 -- what the structure is for: the head's argument with this cell, or a goal's argument in this
@@ -44,7 +44,8 @@ gathered (for_goal r) cells = cells
 -- These cells are the first arguments of a structure with a name, of which so many are left to be
 -- given from the place on.
 abbrev pub BuildsAt : ℕ → List ℕ → Area → List ℕ → Naming → Name → Purpose → branch.State → ℕ → Contents → List Cell → ℕ → Branch → Type 0
-BuildsAt N marks area shown name f use' s at c cells left b = Builds INFINITY N marks area shown name s.heaps.now s.levels.current.posted 0 at (registers_of c) (gathered use' cells) left (stack_of c) b (end_of area shown b f use')
+BuildsAt N marks area shown name f use' s at c cells left b = Builds INFINITY N marks area shown name s.heaps.now s.levels.current.posted 0 at (registers_of c)
+    (gathered use' cells) left (stack_of c) b (end_of area shown b f use')
 
 -- It is safe to go on to a structure's n arguments, and the machine stands for the same branches.
 pub record IsGatheredTo (area : Area) (n : ℕ) (s : branch.State) (at : ℕ) (c : Contents) (cells : List Cell) (s' : branch.State) (at' : ℕ) (c' : Contents) (cells' : List Cell) : Type 0 where
@@ -56,7 +57,9 @@ pub record IsGatheredTo (area : Area) (n : ℕ) (s : branch.State) (at : ℕ) (c
   pub behind : IsSameBehind c c'
   pub below : IsSameBelow s s'
   pub grown : IsGrown s.heaps.now s'.heaps.now
-  pub keeps : (N : ℕ) (small : N ≤ INFINITY) (marks : List ℕ) (shown : List ℕ) (name : Naming) (f : Name) (use' : Purpose) (b : Branch) → IsNaming area name → BuildsAt N marks area shown name f use' s at c cells (n - length cells) b → BuildsAt N marks area shown name f use' s' at' c' cells' (n - length cells') b
+  pub keeps : (N : ℕ) (small : N ≤ INFINITY) (marks : List ℕ) (shown : List ℕ) (name : Naming) (f : Name) (use' : Purpose) (b : Branch) → IsNaming area name
+      → BuildsAt N marks area shown name f use' s at c cells (n - length cells) b
+      → BuildsAt N marks area shown name f use' s' at' c' cells' (n - length cells') b
 
 -- An instruction gave the cell d, the first of so many arguments that are left, whatever was gathered before.
 abbrev pub GivesOne : Area → ℕ → branch.State → ℕ → Contents → branch.State → Contents → Cell
@@ -88,7 +91,8 @@ pub record BuildsThen (area : Area) (f : AtomId) (n : ℕ) (d : Cell) (s : branc
   pub leads : LeadsFrom area at w
   pub behind : IsSameBehind c c'
   pub below : IsSameBelow s s'
-  pub stands : (N : ℕ) (small : N ≤ INFINITY) (marks : List ℕ) (shown : List ℕ) (name : Naming) (b : Branch) → IsNaming area name → BuildsAt N marks area shown name (name_of area f) (for_head d) s at c [] n b → StandsThen N marks area shown name s' c' w b
+  pub stands : (N : ℕ) (small : N ≤ INFINITY) (marks : List ℕ) (shown : List ℕ) (name : Naming) (b : Branch) → IsNaming area name
+      → BuildsAt N marks area shown name (name_of area f) (for_head d) s at c [] n b → StandsThen N marks area shown name s' c' w b
 
 -- so for each cell that comes to a variable
 abbrev pub BuildsFor : Area → AtomId → ℕ → ℕ → branch.State → ℕ → Contents → branch.State

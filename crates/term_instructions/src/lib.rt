@@ -2,16 +2,16 @@
 #![tactic(auto)]
 
 mod arguments;
-mod building;
 mod gets;
 mod pairs;
 mod puts;
-mod reading;
+mod read_mode;
 mod registers;
 mod structures;
+mod write_mode;
 
 pub use crate::gets::{get_constant, get_integer, get_value, get_variable};
 pub use crate::pairs::get_pair;
 pub use crate::puts::{put_constant, put_integer, put_value, put_variable};
 pub use crate::structures::{Scratch, get_structure, put_structure};
-pub use code_states::Went;
+pub use code_safety::Went;

@@ -3,13 +3,13 @@
 ghost use Rattle.std.specs.Prelude.{◌<◌, length, IfOk, IfSome};
 ghost use Rattle.wam_code.specs.declared.instruction.Code.TheVariants as step;
 ghost use Rattle.wam_code.specs.Area.{Holds};
-ghost use Rattle.code_states.specs.Safety.{IsSafe};
+ghost use Rattle.code_safety.specs.Safety.{IsSafe};
 ghost use Rattle.term_instructions.specs.Pairs.{IsPairAt, FirstIsSeen, GetsPair};
 
 use crate::registers::write;
 use branch_state::BranchState;
 use code_areas::Areas;
-use code_states::behind;
+use code_safety::behind;
 use fd_language::NoMemory;
 use heap_cells::Seen;
 use propagate_queue::Agenda;

@@ -1,8 +1,8 @@
 //! Registers of code in a machine's areas.
 
 ghost use Rattle.std.specs.Prelude.{◌≡◌, ◌<◌, ◌≤◌, length, Some, OnOk};
-ghost use Rattle.code_steps.specs.Registers.{cell_in, IsWritten};
-ghost use Rattle.code_states.specs.Machine.{registers_of, HasCell, CanHold, IsSameBehind};
+ghost use Rattle.code_meaning.specs.Registers.{cell_in, IsWritten};
+ghost use Rattle.code_safety.specs.Machine.{registers_of, HasCell, CanHold, IsSameBehind};
 
 use code_areas::Areas;
 use fd_language::NoMemory;

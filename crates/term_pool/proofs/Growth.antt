@@ -1,5 +1,6 @@
 -- What is stored is kept while names, parts and nodes are added.
-use Rattle.std.proofs.Common.{◌≡◌, ℕ, suc, ◌<◌, ◌≤◌, ◌+◌, ◌⊎◌, inl, inr, List, [], ◌∷◌, ◌++◌, Some, None, Bool, true, cond, refl, sym, ap, subst, ◌∙◌, arith, length, take, drop, length-append}
+use Rattle.std.proofs.Common.{◌≡◌, ℕ, suc, ◌<◌, ◌≤◌, ◌+◌, ◌⊎◌, inl, inr, List, [], ◌∷◌, ◌++◌, Some, None, Bool, true, cond, refl, sym, ap, subst, ◌∙◌, arith}
+use Rattle.std.proofs.Common.{length, take, drop, length-append}
 use Rattle.std.specs.Prelude.{slice_get, option_map, OnOk, OnErr, IfOk, IsOk, IsTrue, Result, Ok, Err, All, IsUtf8, codes}
 use Rattle.std.specs.List.{list_any}
 use Rattle.std.specs.Str.{bytes_eq}
@@ -14,9 +15,10 @@ use Rattle.term_pool.specs.declared.Stored.{Stored}
 use Rattle.term_pool.specs.declared.Stored.TheVariants as stored
 use Rattle.term_pool.specs.Contents.{first_names, Shape, var, int, atom, comp, Entry, Contents, name_in, shape_at, interned}
 use Rattle.term_pool.specs.Terms.{Extends, term_of, shape_term}
-use Rattle.term_pool.specs.Valid.{IsPool, IsWithin, HasMachineNumbers, AreDistinct}
+use Rattle.term_pool.specs.PoolInvariant.{IsPool, IsWithin, HasMachineNumbers, AreDistinct}
 use Rattle.term_pool.specs.PoolFields.{stored_shape, entry_of, entries_of, HasParts, AreStored, Grows}
-use Rattle.term_pool.proofs.Names.{pushed_at, slice_get_seam, name_in-append, name_in-Some, named_is_there, slice_get-name_in, interned_grows, distinct_interned, utf8_interned}
+use Rattle.term_pool.proofs.Names.{pushed_at, slice_get_seam, name_in-append, name_in-Some, named_is_there, slice_get-name_in, interned_grows}
+use Rattle.term_pool.proofs.Names.{distinct_interned, utf8_interned}
 use Rattle.term_pool.proofs.Laws.{term_of_entry, shape_term_kept, extends_refl, extends_push}
 
 part_kept : (from count : ℕ) (xs ys : List TermId) → from + count ≤ length xs → take count (drop from (xs ++ ys)) ≡ take count (drop from xs)
@@ -133,7 +135,8 @@ stored_push names parts ns n k h w m = record {
 
 -- the pool that begins
 pub distinct_first : AreDistinct first_names
-distinct_first = distinct_interned (codes "[]" ∷ codes "." ∷ []) (codes "..") (distinct_interned (codes "[]" ∷ []) (codes ".") (distinct_interned [] (codes "[]") (λ a b la lb e. absurd (omega arith))))
+distinct_first = distinct_interned (codes "[]" ∷ codes "." ∷ []) (codes "..")
+    (distinct_interned (codes "[]" ∷ []) (codes ".") (distinct_interned [] (codes "[]") (λ a b la lb e. absurd (omega arith))))
 
 texts_first : All IsUtf8 first_names
 unfolding lib.Utf8.encode
@@ -155,7 +158,8 @@ first_pool = record {
 
 pub first_stored : (names : List Name) (parts : List TermId) (ns : List Placed) → names ≡ first_names → ns ≡ [] → AreStored names parts ns
 first_stored names parts ns e h = record {
-  pool = subst (λ (xs : List Placed). IsPool (record { names = names; entries = entries_of parts xs })) (sym h) (subst (λ (l : List Name). IsPool (record { names = l; entries = [] })) (sym e) first_pool);
+  pool = subst (λ (xs : List Placed). IsPool (record { names = names; entries = entries_of parts xs })) (sym h)
+      (subst (λ (l : List Name). IsPool (record { names = l; entries = [] })) (sym e) first_pool);
   held = λ i n s. let none : slice_get ns i ≡ None = ap (λ (xs : List Placed). slice_get xs i) h in absurd cc;
 }
 
@@ -175,16 +179,19 @@ pub after_intern : {A E : Type 0} (r : Result A E) (old new : List Name) (text :
 after_intern (Ok x) old new text o e = inl o
 after_intern (Err x) old new text o e = inr e
 
-pub stored_interned : (old new : List Name) (text : Name) → IsUtf8 text → (parts : List TermId) (ns : List Placed) → (new ≡ interned old text) ⊎ (new ≡ old) → AreStored old parts ns → AreStored new parts ns
+pub stored_interned : (old new : List Name) (text : Name) → IsUtf8 text → (parts : List TermId) (ns : List Placed) → (new ≡ interned old text) ⊎ (new ≡ old)
+    → AreStored old parts ns → AreStored new parts ns
 stored_interned old new text u parts ns (inl e) k = subst (λ (names : List Name). AreStored names parts ns) (sym e) (stored_named old text u parts ns k)
 stored_interned old new text u parts ns (inr e) k = subst (λ (names : List Name). AreStored names parts ns) (sym e) k
 
-pub extends_interned : (old new : List Name) (text : Name) (es : List Entry) → (new ≡ interned old text) ⊎ (new ≡ old) → Extends (record { names = old; entries = es }) (record { names = new; entries = es })
+pub extends_interned : (old new : List Name) (text : Name) (es : List Entry) → (new ≡ interned old text) ⊎ (new ≡ old)
+    → Extends (record { names = old; entries = es }) (record { names = new; entries = es })
 extends_interned old new text es (inl e) = let g = interned_grows old text in record { names = (g.0, e ∙ g.1); entries = ([], sym (append-nil es)) }
 extends_interned old new text es (inr e) = record { names = ([], e ∙ sym (append-nil old)); entries = ([], sym (append-nil es)) }
 
 -- a name that is there has its number
-pub known_atom : {E : Type 0} (r : Result AtomId E) (old new : List Name) (text : Name) → AreDistinct old → (IsTrue (list_any (bytes_eq text) old) → IsOk r) → IfOk r (λ x. slice_get new x.number ≡ Some text)
+pub known_atom : {E : Type 0} (r : Result AtomId E) (old new : List Name) (text : Name) → AreDistinct old → (IsTrue (list_any (bytes_eq text) old) → IsOk r)
+    → IfOk r (λ x. slice_get new x.number ≡ Some text)
     → OnOk r (new ≡ interned old text) → (a : AtomId) → a.number < length old → name_in old a ≡ text → r ≡ Ok a
 known_atom {E} r old new text d known stands names a l e = go r known stands names
   where

@@ -1,5 +1,6 @@
 -- Laws of the terms that ids stand for.
-use Rattle.std.proofs.Common.{◌≡◌, ℕ, zero, suc, ◌<◌, ◌+◌, List, [], ◌∷◌, ◌++◌, Option, Some, None, refl, sym, ap, subst, ◌∙◌, arith, length, length-append, append_assoc}
+use Rattle.std.proofs.Common.{◌≡◌, ℕ, zero, suc, ◌<◌, ◌+◌, List, [], ◌∷◌, ◌++◌, Option, Some, None, refl, sym, ap, subst, ◌∙◌, arith, length, length-append}
+use Rattle.std.proofs.Common.{append_assoc}
 use Rattle.std.specs.Prelude.{slice_get, option_map, unwrap_or, All, IsUtf8}
 use Rattle.std.proofs.lemmas.List.{append-nil}
 use Rattle.std.proofs.lemmas.List.Elements.{All-head, All-tail}
@@ -8,7 +9,7 @@ use Rattle.term_pool.specs.declared.AtomId.{AtomId}
 use Rattle.term_pool.specs.declared.TermId.{TermId}
 use Rattle.term_pool.specs.Contents.{Shape, var, int, atom, comp, Entry, Contents, atom_name, name_in, shape_at, place_at}
 use Rattle.term_pool.specs.Terms.{terms_by, term_by, term_by_id, terms_from, term_of, shape_term, KeepsTerms, Extends}
-use Rattle.term_pool.specs.Valid.{IsPool, IsWithin, HasMachineNumbers, IsStorable, AreStorable}
+use Rattle.term_pool.specs.PoolInvariant.{IsPool, IsWithin, HasMachineNumbers, IsStorable, AreStorable}
 use Rattle.term_pool.proofs.Names.{slice_get-append, slice_get_seam, slice_get_found, name_in-append, utf8_name}
 
 -- parts with the same terms make the same term
@@ -109,7 +110,8 @@ terms_kept old new p x t h =
     let names : terms_from new.names [] new.entries ≡ terms_from (old.names ++ x.names.0) [] (old.entries ++ x.entries.0) = cc (x.names.1, x.entries.1) in
     let split = terms_from-append (old.names ++ x.names.0) [] old.entries x.entries.0 in
     let same : terms_from (old.names ++ x.names.0) [] old.entries ≡ front = names_kept old.names x.names.0 [] old.entries (λ i e s. (i, p.within i e s)) in
-    let whole : terms_from new.names [] new.entries ≡ terms_from (old.names ++ x.names.0) front x.entries.0 = names ∙ split ∙ ap (λ (ts : List Term). terms_from (old.names ++ x.names.0) ts x.entries.0) same in
+    let whole : terms_from new.names [] new.entries ≡ terms_from (old.names ++ x.names.0) front x.entries.0 = names ∙ split
+    ∙ ap (λ (ts : List Term). terms_from (old.names ++ x.names.0) ts x.entries.0) same in
     ap (λ (ts : List Term). term_by_id ts t) whole
     ∙ front_kept (old.names ++ x.names.0) front x.entries.0 t (omega (arith, length-terms_from old.names [] old.entries))
 
@@ -152,7 +154,8 @@ parts_storable : (c : Contents) (n : ℕ) (ts : List TermId) → All (λ t. t.nu
 parts_storable c n [] a h = tt
 parts_storable c n (t ∷ ts) a h = (h t (All-head (λ t. t.number < n) t ts a), parts_storable c n ts (All-tail (λ t. t.number < n) t ts a) h)
 
-shape_storable : (c : Contents) → IsPool c → (n : ℕ) (s : Shape) → IsWithin (length c.names) n s → HasMachineNumbers s → ((t : TermId) → t.number < n → IsStorable (term_of c t)) → IsStorable (shape_term c s)
+shape_storable : (c : Contents) → IsPool c → (n : ℕ) (s : Shape) → IsWithin (length c.names) n s → HasMachineNumbers s
+    → ((t : TermId) → t.number < n → IsStorable (term_of c t)) → IsStorable (shape_term c s)
 shape_storable c p n (var x) w m h = m
 shape_storable c p n (int z) w m h = m
 shape_storable c p n (atom a) w m h = name_is_text c p a

@@ -1,6 +1,7 @@
 -- The lemmas that other crates may cite, by their subjects. All else in proofs/ is this crate's own.
 -- Laws of the terms that ids stand for.
-pub use Rattle.term_pool.proofs.Laws.{term_is_storable, term_of_shape, shape_within, name_kept, extends_refl, extends_trans, place_kept, term_of_entry, terms_by_same}
+pub use Rattle.term_pool.proofs.Laws.{term_is_storable, term_of_shape, shape_within, name_kept, extends_refl, extends_trans, place_kept, term_of_entry}
+pub use Rattle.term_pool.proofs.Laws.{terms_by_same}
 -- Names by their numbers.
 pub use Rattle.term_pool.proofs.Names.{slice_get-append, pushed_at, name_in-append, same_text, slice_get_found, slice_get_seam}
 -- The parts of a compound, where there are one or two.

@@ -1,5 +1,6 @@
 -- Names by their numbers.
-use Rattle.std.proofs.Common.{◌≡◌, ℕ, zero, suc, ◌<◌, ◌⊎◌, inl, inr, List, [], ◌∷◌, ◌++◌, Option, Some, Bool, true, false, cond, refl, sym, ap, ◌∙◌, arith, length, get_or}
+use Rattle.std.proofs.Common.{◌≡◌, ℕ, zero, suc, ◌<◌, ◌⊎◌, inl, inr, List, [], ◌∷◌, ◌++◌, Option, Some, Bool, true, false, cond, refl, sym, ap, ◌∙◌, arith}
+use Rattle.std.proofs.Common.{length, get_or}
 use Rattle.std.specs.Prelude.{map, slice_get, ◌||◌, option_map, unwrap_or, All, IsUtf8}
 use Rattle.std.specs.List.{list_any, position}
 use Rattle.std.specs.Str.{bytes_eq}
@@ -11,7 +12,7 @@ use Rattle.std.proofs.lemmas.List.{map-append, append-nil}
 use Rattle.fd_language.specs.Term.{Name}
 use Rattle.term_pool.specs.declared.AtomId.{AtomId}
 use Rattle.term_pool.specs.Contents.{name_in, interned}
-use Rattle.term_pool.specs.Valid.{AreDistinct}
+use Rattle.term_pool.specs.PoolInvariant.{AreDistinct}
 
 pub same_text : (a b : List ℕ) → bytes_eq a b ≡ true → a ≡ b
 same_text a b e = (bytes_eq-Decides a b).0 e
@@ -94,7 +95,8 @@ interned_grows names text = go (list_any (bytes_eq text) names)
 
 -- a name that is not among them is no name of theirs
 pub distinct_push : (names : List Name) (text : Name) → list_any (bytes_eq text) names ≡ false → AreDistinct names → AreDistinct (names ++ text ∷ [])
-distinct_push names text absent d a b la lb e = go (pushed_at names text _ a.number (slice_get-name_in (names ++ text ∷ []) a la)) (pushed_at names text _ b.number (slice_get-name_in (names ++ text ∷ []) b lb))
+distinct_push names text absent d a b la lb e = go (pushed_at names text _ a.number (slice_get-name_in (names ++ text ∷ []) a la))
+    (pushed_at names text _ b.number (slice_get-name_in (names ++ text ∷ []) b lb))
   where
     na : Name
     na = name_in (names ++ text ∷ []) a

@@ -7,7 +7,7 @@ use Rattle.fd_language.specs.PlacedTerm.{PlacedTerm, atom, comp, part}
 use Rattle.term_pool.specs.declared.TermId.{TermId}
 use Rattle.term_pool.specs.Contents as pool
 use Rattle.term_pool.specs.Contents.{Shape, Entry, Contents, name_in, shape_at, place_at}
-use Rattle.term_pool.specs.Valid.{IsPool, IsWithin}
+use Rattle.term_pool.specs.PoolInvariant.{IsPool, IsWithin}
 use Rattle.term_pool.proofs.Names.{slice_get-append, slice_get_seam, slice_get_found}
 use Rattle.term_pool.specs.PlacedTerms.{parts_by, placed_by, placed_by_id, placed_from, placed_of}
 

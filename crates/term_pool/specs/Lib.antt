@@ -1,5 +1,5 @@
 pub mod Contents
 pub mod Terms
-pub mod Valid
+pub mod PoolInvariant
 pub mod PoolFields
 pub mod PlacedTerms

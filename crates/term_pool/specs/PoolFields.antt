@@ -6,7 +6,7 @@ use Rattle.term_pool.specs.declared.Stored.{Stored}
 use Rattle.term_pool.specs.declared.Stored.TheVariants as stored
 use Rattle.term_pool.specs.declared.Placed.{Placed}
 use Rattle.term_pool.specs.Contents.{Shape, var, int, atom, comp, Entry}
-use Rattle.term_pool.specs.Valid.{IsPool}
+use Rattle.term_pool.specs.PoolInvariant.{IsPool}
 
 -- a stored node, whose parts stand in the list of all parts
 abbrev pub stored_shape : List TermId → Stored → Shape

@@ -10,7 +10,7 @@ ghost use Rattle.std.specs.Str.{bytes_eq};
 ghost use Rattle.term_pool.specs.declared.AtomId.{AtomId as AtomNumber};
 ghost use Rattle.term_pool.specs.Contents.{Contents, first_names, atom_name, shape_at, place_at, interned};
 ghost use Rattle.term_pool.specs.Terms.{term_of, shape_term, KeepsTerms, Extends};
-ghost use Rattle.term_pool.specs.Valid.{IsPool, IsWithin, HasMachineNumbers, shape_of};
+ghost use Rattle.term_pool.specs.PoolInvariant.{IsPool, IsWithin, HasMachineNumbers, shape_of};
 ghost use Rattle.term_pool.specs.PoolFields.{stored_shape, HasParts, Grows};
 
 use fd_language::NoMemory;

@@ -49,7 +49,8 @@ pub no_stop : (c : Contents) (p : ℕ) (x : Terminal) → machine.is_stop (termi
 no_stop c p (tokens.Name a) = refl
 no_stop c p _ = refl
 
-closes_nothing : (c : Contents) (done : List PlacedTerm) (ts : List TermId) (y : Item) (ys : List Item) (t : PlacedTerm) (p : ℕ) (x : Terminal) → closing_of (Some y) x ≡ closings.Nothing → closed (stack_of c (top done) ts (y ∷ ys)) t (terminal_at c p x) ≡ None
+closes_nothing : (c : Contents) (done : List PlacedTerm) (ts : List TermId) (y : Item) (ys : List Item) (t : PlacedTerm) (p : ℕ) (x : Terminal)
+    → closing_of (Some y) x ≡ closings.Nothing → closed (stack_of c (top done) ts (y ∷ ys)) t (terminal_at c p x) ≡ None
 closes_nothing c done ts Parenthesis ys t p tokens.Close e = absurd cc
 closes_nothing c done ts (Curly q) ys t p tokens.CloseCurly e = absurd cc
 closes_nothing c done ts (Call q a n) ys t p tokens.Close e = absurd cc
@@ -60,7 +61,8 @@ closes_nothing c done ts (Listed q n) ys t p tokens.Bar e = absurd cc
 closes_nothing c done ts (Tail q n) ys t p tokens.CloseList e = absurd cc
 closes_nothing c done ts _ ys t p _ e = refl
 
-nothing_closed : (r : Parser) (t : PlacedTerm) (p : ℕ) (x : Terminal) (o : Option Item) → last_item r.items.items ≡ o → closing_of o x ≡ closings.Nothing → (done : List PlacedTerm) → closed (stack r done) t (terminal_at r.pool p x) ≡ None
+nothing_closed : (r : Parser) (t : PlacedTerm) (p : ℕ) (x : Terminal) (o : Option Item) → last_item r.items.items ≡ o → closing_of o x ≡ closings.Nothing
+    → (done : List PlacedTerm) → closed (stack r done) t (terminal_at r.pool p x) ≡ None
 nothing_closed r t p x None e h done =
     ap (λ (zs : List Item). closed (stack_of r.pool (top done) r.arguments.items (reverse zs)) t (terminal_at r.pool p x)) (last_none r.items.items e)
     ∙ ap (λ (b : Bool). cond b (Some (want (top (t ∷ done)))) None) (no_stop r.pool p x)
@@ -68,16 +70,25 @@ nothing_closed r t p x (Some y) e h done =
     ap (λ (zs : List Item). closed (stack_of r.pool (top done) r.arguments.items zs) t (terminal_at r.pool p x)) (turned r.items.items y e)
     ∙ closes_nothing r.pool done r.arguments.items y (reverse (front r.items.items)) t p x h
 
-pub moves_nothing : (r r2 : Parser) (t : TermId) (x : Terminal) → closing_of (last_item r.items.items) x ≡ closings.Nothing → (p : ℕ) → Moves r.pool (λ done. closed (stack r done) (placed_of r.pool t) (terminal_at r.pool p x)) r2 false
-moves_nothing r r2 t x h p = moves_not r.pool (λ done. closed (stack r done) (placed_of r.pool t) (terminal_at r.pool p x)) r2 (nothing_closed r (placed_of r.pool t) p x (last_item r.items.items) refl h)
+pub moves_nothing : (r r2 : Parser) (t : TermId) (x : Terminal) → closing_of (last_item r.items.items) x ≡ closings.Nothing → (p : ℕ)
+    → Moves r.pool (λ done. closed (stack r done) (placed_of r.pool t) (terminal_at r.pool p x)) r2 false
+moves_nothing r r2 t x h p = moves_not r.pool (λ done. closed (stack r done) (placed_of r.pool t) (terminal_at r.pool p x)) r2
+    (nothing_closed r (placed_of r.pool t) p x (last_item r.items.items) refl h)
 
 -- the token is this one
-pub moves_token : (r r2 : Parser) (t : TermId) (x y : Terminal) (p : ℕ) → x ≡ y → Moves r.pool (λ done. closed (stack r done) (placed_of r.pool t) (terminal_at r.pool p y)) r2 true → Moves r.pool (λ done. closed (stack r done) (placed_of r.pool t) (terminal_at r.pool p x)) r2 true
+pub moves_token : (r r2 : Parser) (t : TermId) (x y : Terminal) (p : ℕ) → x ≡ y
+    → Moves r.pool (λ done. closed (stack r done) (placed_of r.pool t) (terminal_at r.pool p y)) r2 true
+    → Moves r.pool (λ done. closed (stack r done) (placed_of r.pool t) (terminal_at r.pool p x)) r2 true
 moves_token r r2 t x y p e m = subst (λ (z : Terminal). Moves r.pool (λ done. closed (stack r done) (placed_of r.pool t) (terminal_at r.pool p z)) r2 true) (sym e) m
 
-pub if_token : {E : Type 0} (res : Result Bool E) (r r2 : Parser) (t : TermId) (x y : Terminal) → x ≡ y → IfOk res (λ b. (p : ℕ) → Moves r.pool (λ done. closed (stack r done) (placed_of r.pool t) (terminal_at r.pool p y)) r2 b) → IfOk res (λ b. (p : ℕ) → Moves r.pool (λ done. closed (stack r done) (placed_of r.pool t) (terminal_at r.pool p x)) r2 b)
+pub if_token : {E : Type 0} (res : Result Bool E) (r r2 : Parser) (t : TermId) (x y : Terminal) → x ≡ y
+    → IfOk res (λ b. (p : ℕ) → Moves r.pool (λ done. closed (stack r done) (placed_of r.pool t) (terminal_at r.pool p y)) r2 b)
+    → IfOk res (λ b. (p : ℕ) → Moves r.pool (λ done. closed (stack r done) (placed_of r.pool t) (terminal_at r.pool p x)) r2 b)
 if_token res r r2 t x y e m = subst (λ (z : Terminal). IfOk res (λ b. (p : ℕ) → Moves r.pool (λ done. closed (stack r done) (placed_of r.pool t) (terminal_at r.pool p z)) r2 b)) (sym e) m
 
-pub if_closed : {E : Type 0} (res : Result Bool E) (r r2 : Parser) (t : TermId) (x y : Terminal) → x ≡ y → IfOk res (Moves r.pool (λ done. closed (stack r done) (placed_of r.pool t) (terminal_at r.pool 0 y)) r2) → ((p : ℕ) → terminal_at r.pool p y ≡ terminal_at r.pool 0 y) → IfOk res (λ b. (p : ℕ) → Moves r.pool (λ done. closed (stack r done) (placed_of r.pool t) (terminal_at r.pool p x)) r2 b)
+pub if_closed : {E : Type 0} (res : Result Bool E) (r r2 : Parser) (t : TermId) (x y : Terminal) → x ≡ y
+    → IfOk res (Moves r.pool (λ done. closed (stack r done) (placed_of r.pool t) (terminal_at r.pool 0 y)) r2)
+    → ((p : ℕ) → terminal_at r.pool p y ≡ terminal_at r.pool 0 y)
+    → IfOk res (λ b. (p : ℕ) → Moves r.pool (λ done. closed (stack r done) (placed_of r.pool t) (terminal_at r.pool p x)) r2 b)
 if_closed (Ok b) r r2 t x y e m same = λ p. subst (λ (z : terminals.Terminal). Moves r.pool (λ done. closed (stack r done) (placed_of r.pool t) z) r2 b) (sym (ap (terminal_at r.pool p) e ∙ same p)) m
 if_closed (Err f) r r2 t x y e m same = tt

@@ -13,16 +13,16 @@ use Rattle.fd_language.specs.Reading.{terminal_of, terminal_by, names_behind, na
 use Rattle.term_pool.specs.declared.AtomId.{AtomId}
 use Rattle.term_pool.specs.Contents.{Contents, atom_name}
 use Rattle.term_pool.specs.Terms.{Extends}
-use Rattle.term_pool.specs.Valid.{IsPool}
+use Rattle.term_pool.specs.PoolInvariant.{IsPool}
 use Rattle.term_pool.proofs.Lemmas.{name_kept, extends_refl}
 use Rattle.term_reader.specs.declared.parser.Terminal.{Terminal}
 use Rattle.term_reader.specs.declared.parser.Terminal.TheVariants as tokens
 use Rattle.term_reader.specs.declared.variables.Variables.{Variables}
 use Rattle.term_reader.specs.View.{terminal_at, IsTerminal}
-use Rattle.term_reader.specs.Numbering.{IsIndexed, id_number, with_id}
+use Rattle.term_reader.specs.VariableNumbers.{IsIndexed, id_number, with_id}
 use Rattle.term_reader.specs.GrammarTokens.{AreVariables, names_of, names_on, Knows, Sees}
 use Rattle.term_reader.proofs.PlacedLaws.{extends_names}
-use Rattle.term_reader.proofs.Naming.{number_named, names_named}
+use Rattle.term_reader.proofs.VariableNumbers.{number_named, names_named}
 
 pub ids_more : (c d : Contents) → Extends c d → (ids : List AtomId) → All (λ a. a.number < length c.names) ids → All (λ a. a.number < length d.names) ids
 ids_more c d x ids h k e lt = let old = h k e lt in let more = extends_names c d x in omega (arith, old, more)
@@ -43,7 +43,8 @@ variables_more c d x v h = record {
 
 -- a word that is an operator
 pub knows_operator : (c d : Contents) (a : AtomId) (f g : Option Operator) (text : Name) → Extends c d → IsPool d → a.number < length d.names → atom_name d a ≡ text
-    → option_map (operator_of text) f ≡ infix_of text → option_map (operator_of text) g ≡ prefix_of text → is_operator text ≡ true → Knows c d (λ p. word_terminal p text) (tokens.OperatorWord a (record { «infix» = f; prefix = g }))
+    → option_map (operator_of text) f ≡ infix_of text → option_map (operator_of text) g ≡ prefix_of text → is_operator text ≡ true
+    → Knows c d (λ p. word_terminal p text) (tokens.OperatorWord a (record { «infix» = f; prefix = g }))
 knows_operator c d a f g text x v own named between before is = record {
   grows = x;
   valid = v;
@@ -56,7 +57,8 @@ knows_operator c d a f g text x v own named between before is = record {
 }
 
 -- a word that is none
-pub knows_name : (c d : Contents) (a : AtomId) (text : Name) → Extends c d → IsPool d → a.number < length d.names → atom_name d a ≡ text → is_operator text ≡ false → Knows c d (λ p. word_terminal p text) (tokens.Name a)
+pub knows_name : (c d : Contents) (a : AtomId) (text : Name) → Extends c d → IsPool d → a.number < length d.names → atom_name d a ≡ text
+    → is_operator text ≡ false → Knows c d (λ p. word_terminal p text) (tokens.Name a)
 knows_name c d a text x v own named is = record {
   grows = x;
   valid = v;
@@ -65,7 +67,8 @@ knows_name c d a text x v own named is = record {
 }
 
 -- a token that changes no variables
-pub sees : (c d : Contents) (v : Variables) (l : Lexeme) (at : ℕ → model.Terminal) (x : Terminal) → AreVariables c v → Knows c d at x → terminal_of (names_of c v) l ≡ at l.place → names_on l.kind (names_of c v) l ≡ names_of c v → Sees c d v v l (Some x)
+pub sees : (c d : Contents) (v : Variables) (l : Lexeme) (at : ℕ → model.Terminal) (x : Terminal) → AreVariables c v → Knows c d at x
+    → terminal_of (names_of c v) l ≡ at l.place → names_on l.kind (names_of c v) l ≡ names_of c v → Sees c d v v l (Some x)
 sees c d v l at x h k e n = record {
   grows = k.grows;
   valid = k.valid;
@@ -88,9 +91,11 @@ pub sees_word : (c d : Contents) (v : Variables) (l : Lexeme) (x : Terminal) →
 sees_word c d v l x h e k = sees c d v l (λ p. word_terminal p l.text) x h k (kind_terminal (names_of c v) l Word e) (kind_names (names_of c v) l Word e ∙ kind_behind (names_of c v) l Word e)
 
 pub sees_quoted : (c d : Contents) (v : Variables) (l : Lexeme) (x : Terminal) → AreVariables c v → l.kind ≡ Quoted → Knows c d (λ p. model.name p (unquoted l.text)) x → Sees c d v v l (Some x)
-sees_quoted c d v l x h e k = sees c d v l (λ p. model.name p (unquoted l.text)) x h k (kind_terminal (names_of c v) l Quoted e) (kind_names (names_of c v) l Quoted e ∙ kind_behind (names_of c v) l Quoted e)
+sees_quoted c d v l x h e k = sees c d v l (λ p. model.name p (unquoted l.text)) x h k (kind_terminal (names_of c v) l Quoted e)
+    (kind_names (names_of c v) l Quoted e ∙ kind_behind (names_of c v) l Quoted e)
 
-pub sees_punct : (c : Contents) (v : Variables) (l : Lexeme) (x : Terminal) → IsPool c → AreVariables c v → l.kind ≡ Punct → IsTerminal c x → ((d : Contents) (p : ℕ) → terminal_at d p x ≡ punct_terminal p l.tight l.text) → Sees c c v v l (Some x)
+pub sees_punct : (c : Contents) (v : Variables) (l : Lexeme) (x : Terminal) → IsPool c → AreVariables c v → l.kind ≡ Punct → IsTerminal c x
+    → ((d : Contents) (p : ℕ) → terminal_at d p x ≡ punct_terminal p l.tight l.text) → Sees c c v v l (Some x)
 sees_punct c v l x valid h e t is =
     sees c c v l (λ p. punct_terminal p l.tight l.text) x h (record { grows = extends_refl c; valid = valid; terminal = t; is = is c })
     (kind_terminal (names_of c v) l Punct e) (kind_names (names_of c v) l Punct e ∙ kind_behind (names_of c v) l Punct e)
@@ -100,8 +105,10 @@ pick_all P true d ids a h k = All-push P ids a h k
 pick_all P false true ids a h k = h
 pick_all P false false ids a h k = All-push P ids a h k
 
-pub sees_variable : (c d : Contents) (v w : Variables) (l : Lexeme) (a : AtomId) (n : ℕ) → AreVariables c v → l.kind ≡ Variable → Extends c d → IsPool d → a.number < length d.names → atom_name d a ≡ l.text
-    → n ≡ id_number v.anonymous v.names.items a → w.names.items ≡ with_id v.anonymous v.names.items a → w.anonymous ≡ v.anonymous → IsIndexed w.anonymous w.names.items w.numbers.items → Sees c d v w l (Some (tokens.Variable n))
+pub sees_variable : (c d : Contents) (v w : Variables) (l : Lexeme) (a : AtomId) (n : ℕ) → AreVariables c v → l.kind ≡ Variable → Extends c d → IsPool d
+    → a.number < length d.names → atom_name d a ≡ l.text
+    → n ≡ id_number v.anonymous v.names.items a → w.names.items ≡ with_id v.anonymous v.names.items a → w.anonymous ≡ v.anonymous
+    → IsIndexed w.anonymous w.names.items w.numbers.items → Sees c d v w l (Some (tokens.Variable n))
 sees_variable c d v w l a n h e x valid own named number names an indexed =
     let h2 = variables_more c d x v h in
     let old = names_kept c d x v.names.items h.names in
@@ -116,7 +123,9 @@ sees_variable c d v w l a n h e x valid own named number names an indexed =
       valid = valid;
       variables = record {
         indexed = indexed;
-        names = subst (λ (ids : List AtomId). All (λ b. b.number < length d.names) ids) (sym names) (pick_all (λ b. b.number < length d.names) (a.number == v.anonymous.number) (list_any (λ b. a.number == b.number) v.names.items) v.names.items a h2.names own);
+        names = subst (λ (ids : List AtomId). All (λ b. b.number < length d.names) ids) (sym names)
+            (pick_all (λ b. b.number < length d.names) (a.number == v.anonymous.number) (list_any (λ b. a.number == b.number) v.names.items) v.names.items a
+            h2.names own);
         anonymous = subst (λ (b : AtomId). b.number < length d.names) (sym an) h2.anonymous;
         spelled = ap (atom_name d) an ∙ h2.spelled;
       };

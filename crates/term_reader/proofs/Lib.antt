@@ -1,5 +1,5 @@
-mod Sound
-mod Complete
+mod Soundness
+mod Completeness
 mod PlacedLaws
 mod Stacks
 mod Moves
@@ -7,14 +7,14 @@ mod Lists
 mod OpenBrackets
 mod Closings
 mod Operands
-mod Naming
+mod VariableNumbers
 mod GrammarTokens
 mod Readers
 mod Texts
 mod Naturals
 mod Verdicts
-mod Readable
-mod Plain
+mod TextOutcomes
+mod PlainTerms
 mod VariableNames
 pub mod Lemmas
 mod GivenParts

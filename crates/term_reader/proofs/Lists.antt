@@ -8,7 +8,7 @@ use Rattle.term_pool.specs.declared.TermId.{TermId}
 use Rattle.term_pool.specs.declared.TheConstants.{CONS}
 use Rattle.term_pool.specs.Contents.{Contents, atom_name}
 use Rattle.term_pool.specs.Terms.{Extends}
-use Rattle.term_pool.specs.Valid.{IsPool}
+use Rattle.term_pool.specs.PoolInvariant.{IsPool}
 use Rattle.term_pool.proofs.Lemmas.{extends_trans}
 use Rattle.term_pool.specs.PlacedTerms.{placed_of}
 use Rattle.term_reader.specs.PlacedTerms.{parts_of, Adds}
@@ -29,7 +29,8 @@ pub record ListSoFar (c d : Contents) (elements : List TermId) (place count : �
   pub valid : IsPool d
   pub stands : term.number < length d.entries
 
-pub list_ends : (c d : Contents) (elements : List TermId) (place count : ℕ) (last term : TermId) → ListSoFar c d elements place count last term → count ≡ 0 → Adds c d (list_of place (parts_of c elements) (placed_of c last)) term
+pub list_ends : (c d : Contents) (elements : List TermId) (place count : ℕ) (last term : TermId) → ListSoFar c d elements place count last term → count ≡ 0
+    → Adds c d (list_of place (parts_of c elements) (placed_of c last)) term
 list_ends c d elements place count last term k e = record {
   grows = k.grows;
   valid = k.valid;

@@ -6,7 +6,7 @@ use Rattle.fd_language.specs.ReadingSteps.{Stack, top, State, after, wanted}
 use Rattle.term_pool.specs.declared.TermId.{TermId}
 use Rattle.term_pool.specs.Contents.{Contents}
 use Rattle.term_pool.specs.Terms.{Extends}
-use Rattle.term_pool.specs.Valid.{IsPool}
+use Rattle.term_pool.specs.PoolInvariant.{IsPool}
 use Rattle.term_pool.proofs.Lemmas.{extends_refl}
 use Rattle.term_reader.specs.declared.parser.Terminal.{Terminal}
 use Rattle.term_reader.specs.declared.parser.Terminal.TheVariants as tokens
@@ -15,12 +15,14 @@ use Rattle.term_reader.specs.declared.parser.Expecting.{Expecting}
 use Rattle.term_reader.specs.declared.parser.Expecting.TheVariants as expect
 use Rattle.term_reader.specs.declared.parser.Parser.{Parser}
 use Rattle.term_reader.specs.PlacedTerms.{Adds}
-use Rattle.term_reader.specs.View.{terminal_at, IsTerminal, stack_of, stack, state, state_by, HaveIds, HaveRoom, AreTerms, IsWhole, IsExpecting, Moves, IsNatural}
+use Rattle.term_reader.specs.View.{terminal_at, IsTerminal, stack_of, stack, state, state_by, HaveIds, HaveRoom, AreTerms, IsWhole, IsExpecting, Moves}
+use Rattle.term_reader.specs.View.{IsNatural}
 use Rattle.term_reader.proofs.Stacks.{terms_more, ids_more, stack_kept}
 
 -- ---- the state that is reached
 
-pub state_is : (r : Parser) (ts : List TermId) (ys : List Item) (e : Expecting) → r.arguments.items ≡ ts → reverse r.items.items ≡ ys → r.expecting ≡ e → (done : List PlacedTerm) → state r done ≡ state_by r.pool (stack_of r.pool (top done) ts ys) e
+pub state_is : (r : Parser) (ts : List TermId) (ys : List Item) (e : Expecting) → r.arguments.items ≡ ts → reverse r.items.items ≡ ys → r.expecting ≡ e
+    → (done : List PlacedTerm) → state r done ≡ state_by r.pool (stack_of r.pool (top done) ts ys) e
 state_is r ts ys e e1 e2 e3 done =
     ap (λ (us : List TermId). state_by r.pool (stack_of r.pool (top done) us (reverse r.items.items)) r.expecting) e1
     ∙ ap (λ (zs : List Item). state_by r.pool (stack_of r.pool (top done) ts zs) r.expecting) e2
@@ -59,18 +61,30 @@ pub moves_not : (c : Contents) (outcome : List PlacedTerm → Option State) (r :
 moves_not c outcome r is = record { is = is; whole = λ h. absurd cc; grows = λ h. absurd cc }
 
 -- a new term stands over the items ys
-pub moves_term : (c : Contents) (r : Parser) (ts : List TermId) (ys : List Item) (t : TermId) (x : PlacedTerm) (outcome : List PlacedTerm → Option State) → IsPool c → Adds c r.pool x t → AreTerms c ts → HaveIds c ys → HaveRoom ts ys
+pub moves_term : (c : Contents) (r : Parser) (ts : List TermId) (ys : List Item) (t : TermId) (x : PlacedTerm) (outcome : List PlacedTerm → Option State)
+    → IsPool c → Adds c r.pool x t → AreTerms c ts → HaveIds c ys → HaveRoom ts ys
     → r.arguments.items ≡ ts → reverse r.items.items ≡ ys → r.expecting ≡ expect.BehindOperand t
     → ((done : List PlacedTerm) → outcome done ≡ Some (after None (stack_of c (top done) ts ys) x)) → Moves c outcome r true
 moves_term c r ts ys t x outcome v a terms ids room e1 e2 e3 is =
     moves_to outcome
-    (record { arguments = e1; items = e2; expecting = e3; grows = a.grows; valid = a.valid; terms = terms_more c r.pool a.grows ts terms; ids = ids_more c r.pool a.grows ys ids; room = room; stands = a.within })
+    (record {
+      arguments = e1;
+      items = e2;
+      expecting = e3;
+      grows = a.grows;
+      valid = a.valid;
+      terms = terms_more c r.pool a.grows ts terms;
+      ids = ids_more c r.pool a.grows ys ids;
+      room = room;
+      stands = a.within;
+    })
     (λ done. is done
     ∙ ap (λ (s : Stack). Some (after None s x)) (sym (stack_kept c r.pool v a.grows (top done) ts terms ys ids))
     ∙ ap (λ (u : PlacedTerm). Some (after None (stack_of r.pool (top done) ts ys) u)) (sym a.is))
 
 -- the pool is as it was
-pub moves_same : (c : Contents) (r : Parser) (ts : List TermId) (ys : List Item) (e : Expecting) (outcome : List PlacedTerm → Option State) → r.pool ≡ c → IsPool c → AreTerms c ts → HaveIds c ys → HaveRoom ts ys → IsExpecting c e
+pub moves_same : (c : Contents) (r : Parser) (ts : List TermId) (ys : List Item) (e : Expecting) (outcome : List PlacedTerm → Option State) → r.pool ≡ c
+    → IsPool c → AreTerms c ts → HaveIds c ys → HaveRoom ts ys → IsExpecting c e
     → r.arguments.items ≡ ts → reverse r.items.items ≡ ys → r.expecting ≡ e
     → ((done : List PlacedTerm) → outcome done ≡ Some (state_by c (stack_of c (top done) ts ys) e)) → Moves c outcome r true
 moves_same c r ts ys e outcome same v terms ids room stands e1 e2 e3 is =
@@ -90,7 +104,8 @@ moves_same c r ts ys e outcome same v terms ids room stands e1 e2 e3 is =
 
 -- ---- an operand
 
-pub operand_term : (r r2 : Parser) (t : TermId) (x : PlacedTerm) (token : Terminal) (place : ℕ) → IsWhole r → Adds r.pool r2.pool x t → r2.arguments ≡ r.arguments → r2.items ≡ r.items → r2.expecting ≡ expect.BehindOperand t
+pub operand_term : (r r2 : Parser) (t : TermId) (x : PlacedTerm) (token : Terminal) (place : ℕ) → IsWhole r → Adds r.pool r2.pool x t
+    → r2.arguments ≡ r.arguments → r2.items ≡ r.items → r2.expecting ≡ expect.BehindOperand t
     → ((s : Stack) → wanted s (terminal_at r.pool place token) ≡ Some (after None s x)) → Moves r.pool (λ done. wanted (stack r done) (terminal_at r.pool place token)) r2 true
 operand_term r r2 t x token place w a e1 e2 e3 is =
     moves_term r.pool r2 r.arguments.items (reverse r.items.items) t x (λ done. wanted (stack r done) (terminal_at r.pool place token)) w.pool a w.arguments w.ids w.room

@@ -4,10 +4,14 @@ use Rattle.std.specs.Prelude.{pos, nat_le, ◌==◌, ◌&&◌}
 use Rattle.std.specs.Str.{chars}
 use Rattle.std.specs.Char.{len_utf8}
 use Rattle.std.proofs.lemmas.Bool.{leb-true}
-use Rattle.fd_language.specs.Characters.{is_layout, is_symbol, is_solo, is_punct, begins_variable, not_newline, is_digit_of, starts_with, tail, run_size, past_run, digits_value}
-use Rattle.fd_language.specs.Tokens.{Word, Variable, Integer, Punct, Stop, BadCharacter, FloatOut, StringOut, IntegerTooWide, base_at, has_base, has_fraction, ends_stop, Lexeme, Front, Gap, Token, Offends, greatest_integer, number_front, based_front, decimal_front, integer_front, comment_front, Inside, Between, AfterQuote, AfterBackslash, AfterDigits, Past, Broken, inside, quoted_end, quoted_front, front_at, front_by, front_of}
+use Rattle.fd_language.specs.Characters.{is_layout, is_symbol, is_solo, is_punct, begins_variable, not_newline, is_digit_of, starts_with, tail, run_size}
+use Rattle.fd_language.specs.Characters.{past_run, digits_value}
+use Rattle.fd_language.specs.Tokens.{Word, Variable, Integer, Punct, Stop, BadCharacter, FloatOut, StringOut, IntegerTooWide, base_at, has_base, has_fraction}
+use Rattle.fd_language.specs.Tokens.{ends_stop, Lexeme, Front, Gap, Token, Offends, greatest_integer, number_front, based_front, decimal_front, integer_front}
+use Rattle.fd_language.specs.Tokens.{comment_front, Inside, Between, AfterQuote, AfterBackslash, AfterDigits, Past, Broken, inside, quoted_end, quoted_front}
+use Rattle.fd_language.specs.Tokens.{front_at, front_by, front_of}
 use Rattle.char_tokens.specs.UnreadText.{Left}
-use Rattle.char_tokens.specs.Scanning.{IsNext}
+use Rattle.char_tokens.specs.NextTokens.{IsNext}
 use Rattle.term_reader.specs.GrammarTokens.{KindIsNatural, HasNatural}
 
 abbrev FrontBy : Front → Type 0

@@ -12,7 +12,7 @@ use Rattle.term_pool.specs.declared.AtomId.{AtomId}
 use Rattle.term_pool.specs.declared.TermId.{TermId}
 use Rattle.term_pool.specs.declared.TheConstants.{NIL}
 use Rattle.term_pool.specs.Contents.{Contents, atom_name}
-use Rattle.term_pool.specs.Valid.{IsPool}
+use Rattle.term_pool.specs.PoolInvariant.{IsPool}
 use Rattle.term_pool.proofs.Lemmas.{extends_trans}
 use Rattle.term_reader.specs.declared.parser.Item.{Item}
 use Rattle.term_reader.specs.declared.parser.Item.TheVariants.{Parenthesis, Curly, Call, List as Listed, Tail, Prefix, Infix}
@@ -59,7 +59,8 @@ pub moves_call : (r r2 : Parser) (last t : TermId) (p from : ℕ) (a : AtomId) �
 moves_call r r2 last t p from a w h o k e1 e2 e3 =
     let ts = r.arguments.items in
     let ys = reverse (front r.items.items) in
-    moves_term r.pool r2 (take from ts) ys t (comp (atom_name r.pool a) p (with_last (parts_of r.pool (drop from ts)) (placed_of r.pool last))) (λ done. closed (stack r done) (placed_of r.pool last) terminals.closes)
+    moves_term r.pool r2 (take from ts) ys t (comp (atom_name r.pool a) p (with_last (parts_of r.pool (drop from ts)) (placed_of r.pool last)))
+    (λ done. closed (stack r done) (placed_of r.pool last) terminals.closes)
     w.pool (subst (λ (xs : PlacedTerms). Adds r.pool r2.pool (comp (atom_name r.pool a) p xs) t) (parts_push r.pool from ts last o.room.0) k)
     (All-take (λ u. u.number < length r.pool.entries) from ts w.arguments) o.ids.1 o.room.1
     (e1 ∙ take_push from ts last o.room.0) (ap reverse e2) e3
@@ -68,7 +69,8 @@ moves_call r r2 last t p from a w h o k e1 e2 e3 =
 pub more_room : (from : ℕ) (ts : List TermId) (t : TermId) → from ≤ length ts → from ≤ length (ts ++ t ∷ [])
 more_room from ts t h = omega (arith, length-append ts (t ∷ []))
 
-pub moves_argument : (r r2 : Parser) (t : TermId) (p from : ℕ) (a : AtomId) → IsWhole r → t.number < length r.pool.entries → OnTop r (Call p a from) → r2.pool ≡ r.pool → r2.arguments.items ≡ r.arguments.items ++ t ∷ [] → r2.items.items ≡ r.items.items → r2.expecting ≡ expect.Operand
+pub moves_argument : (r r2 : Parser) (t : TermId) (p from : ℕ) (a : AtomId) → IsWhole r → t.number < length r.pool.entries → OnTop r (Call p a from)
+    → r2.pool ≡ r.pool → r2.arguments.items ≡ r.arguments.items ++ t ∷ [] → r2.items.items ≡ r.items.items → r2.expecting ≡ expect.Operand
     → (at : ℕ) → Moves r.pool (λ done. closed (stack r done) (placed_of r.pool t) (terminals.comma at)) r2 true
 moves_argument r r2 t p from a w h o e0 e1 e2 e3 at =
     let ts = r.arguments.items in
@@ -80,7 +82,8 @@ moves_argument r r2 t p from a w h o e0 e1 e2 e3 at =
     ∙ ap (λ (xs : PlacedTerms). Some (want (args p (atom_name r.pool a) xs (stack_of r.pool (top done) (take from ts) ys)))) (sym (parts_push r.pool from ts t o.room.0))
     ∙ ap (λ (us : List TermId). Some (want (args p (atom_name r.pool a) (parts_of r.pool (drop from (ts ++ t ∷ []))) (stack_of r.pool (top done) us ys)))) (sym (take_push from ts t o.room.0)))
 
-pub moves_element : (r r2 : Parser) (t : TermId) (p from : ℕ) → IsWhole r → t.number < length r.pool.entries → OnTop r (Listed p from) → r2.pool ≡ r.pool → r2.arguments.items ≡ r.arguments.items ++ t ∷ [] → r2.items.items ≡ r.items.items → r2.expecting ≡ expect.Operand
+pub moves_element : (r r2 : Parser) (t : TermId) (p from : ℕ) → IsWhole r → t.number < length r.pool.entries → OnTop r (Listed p from) → r2.pool ≡ r.pool
+    → r2.arguments.items ≡ r.arguments.items ++ t ∷ [] → r2.items.items ≡ r.items.items → r2.expecting ≡ expect.Operand
     → (at : ℕ) → Moves r.pool (λ done. closed (stack r done) (placed_of r.pool t) (terminals.comma at)) r2 true
 moves_element r r2 t p from w h o e0 e1 e2 e3 at =
     let ts = r.arguments.items in
@@ -93,7 +96,8 @@ moves_element r r2 t p from w h o e0 e1 e2 e3 at =
     ∙ ap (λ (us : List TermId). Some (want (items p (parts_of r.pool (drop from (ts ++ t ∷ []))) (stack_of r.pool (top done) us ys)))) (sym (take_push from ts t o.room.0)))
 
 -- one of the two
-pub moves_next : (r r2 : Parser) (t : TermId) → IsWhole r → t.number < length r.pool.entries → (o : Option Item) → last_item r.items.items ≡ o → TakesArguments o → r2.pool ≡ r.pool → r2.arguments.items ≡ r.arguments.items ++ t ∷ [] → r2.items.items ≡ r.items.items → r2.expecting ≡ expect.Operand
+pub moves_next : (r r2 : Parser) (t : TermId) → IsWhole r → t.number < length r.pool.entries → (o : Option Item) → last_item r.items.items ≡ o
+    → TakesArguments o → r2.pool ≡ r.pool → r2.arguments.items ≡ r.arguments.items ++ t ∷ [] → r2.items.items ≡ r.items.items → r2.expecting ≡ expect.Operand
     → (at : ℕ) → Moves r.pool (λ done. closed (stack r done) (placed_of r.pool t) (terminals.comma at)) r2 true
 moves_next r r2 t w h None e k e0 e1 e2 e3 at = absurd k
 moves_next r r2 t w h (Some Parenthesis) e k e0 e1 e2 e3 at = absurd k
@@ -126,7 +130,8 @@ pub moves_list : (r r2 : Parser) (d : Contents) (last nil t : TermId) (p from : 
 moves_list r r2 d last nil t p from w h o a k e1 e2 e3 =
     let ts = r.arguments.items in
     let ys = reverse (front r.items.items) in
-    moves_term r.pool r2 (take from ts) ys t (list_of p (with_last (parts_of r.pool (drop from ts)) (placed_of r.pool last)) (atom nil_name p)) (λ done. closed (stack r done) (placed_of r.pool last) terminals.close_list)
+    moves_term r.pool r2 (take from ts) ys t (list_of p (with_last (parts_of r.pool (drop from ts)) (placed_of r.pool last)) (atom nil_name p))
+    (λ done. closed (stack r done) (placed_of r.pool last) terminals.close_list)
     w.pool (list_made r.pool d r2.pool ts last nil t p from w.pool o.room.0 w.arguments h a k)
     (All-take (λ u. u.number < length r.pool.entries) from ts w.arguments) o.ids o.room.1
     (e1 ∙ take_push from ts last o.room.0) (ap reverse e2) e3
@@ -160,7 +165,8 @@ pub moves_curly : (r r2 : Parser) (inner t : TermId) (p : ℕ) → IsWhole r →
     → r2.arguments.items ≡ r.arguments.items → r2.items.items ≡ front r.items.items → r2.expecting ≡ expect.BehindOperand t
     → Moves r.pool (λ done. closed (stack r done) (placed_of r.pool inner) terminals.close_curly) r2 true
 moves_curly r r2 inner t p w o k e1 e2 e3 =
-    moves_term r.pool r2 r.arguments.items (reverse (front r.items.items)) t (comp curly_name p (one (placed_of r.pool inner))) (λ done. closed (stack r done) (placed_of r.pool inner) terminals.close_curly)
+    moves_term r.pool r2 r.arguments.items (reverse (front r.items.items)) t (comp curly_name p (one (placed_of r.pool inner)))
+    (λ done. closed (stack r done) (placed_of r.pool inner) terminals.close_curly)
     w.pool (subst (λ (xs : PlacedTerms). Adds r.pool r2.pool (comp curly_name p xs) t) (parts_of_one r.pool inner) k) w.arguments o.ids o.room e1 (ap reverse e2) e3
     (λ done. ap (λ (s : Stack). closed s (placed_of r.pool inner) terminals.close_curly) (stack_on_top r (Curly p) o done))
 

@@ -8,7 +8,7 @@ use Rattle.term_pool.specs.declared.TermId.{TermId}
 use Rattle.term_pool.specs.Contents as pool
 use Rattle.term_pool.specs.Contents.{Shape, Entry, Contents, atom_name}
 use Rattle.term_pool.specs.Terms.{Extends}
-use Rattle.term_pool.specs.Valid.{IsPool, IsWithin}
+use Rattle.term_pool.specs.PoolInvariant.{IsPool, IsWithin}
 use Rattle.term_pool.proofs.Lemmas.{name_in-append, extends_trans, parts_by_same, numbered_seam, front_kept}
 use Rattle.term_pool.specs.PlacedTerms.{parts_by, placed_by, placed_by_id, placed_from, placed_of}
 use Rattle.term_reader.specs.PlacedTerms.{parts_of, Adds}
@@ -47,7 +47,8 @@ placed_kept old new p x t h =
     let names : placed_from new.names [] new.entries ≡ placed_from (old.names ++ x.names.0) [] (old.entries ++ x.entries.0) = cc (x.names.1, x.entries.1) in
     let split = placed_from-append (old.names ++ x.names.0) [] old.entries x.entries.0 in
     let same : placed_from (old.names ++ x.names.0) [] old.entries ≡ front = names_kept old.names x.names.0 [] old.entries (λ i e s. (i, p.within i e s)) in
-    let whole : placed_from new.names [] new.entries ≡ placed_from (old.names ++ x.names.0) front x.entries.0 = names ∙ split ∙ ap (λ (ts : List PlacedTerm). placed_from (old.names ++ x.names.0) ts x.entries.0) same in
+    let whole : placed_from new.names [] new.entries ≡ placed_from (old.names ++ x.names.0) front x.entries.0 = names ∙ split
+    ∙ ap (λ (ts : List PlacedTerm). placed_from (old.names ++ x.names.0) ts x.entries.0) same in
     ap (λ (ts : List PlacedTerm). placed_by_id ts t) whole
     ∙ front_kept (old.names ++ x.names.0) front x.entries.0 t (omega (arith, length-placed_from old.names [] old.entries))
 
@@ -102,7 +103,8 @@ unfolding parts_of
 parts_of_two c s t = refl
 
 pub added : {E : Type 0} (r : Result TermId E) (old new : Contents) (e : Entry) → IsPool old → IsWithin (length old.names) (length old.entries) e.shape
-    → OnOk r (new ≡ record old { entries = old.entries ++ e ∷ [] }) → Extends old new → IsPool new → IfOk r (λ t. t.number ≡ length old.entries) → IfOk r (Adds old new (placed_by old.names (placed_of old) e.place e.shape))
+    → OnOk r (new ≡ record old { entries = old.entries ++ e ∷ [] }) → Extends old new → IsPool new → IfOk r (λ t. t.number ≡ length old.entries)
+    → IfOk r (Adds old new (placed_by old.names (placed_of old) e.place e.shape))
 added (Ok t) old new e p w is x v at = adds old new e t p w is x v at
 added (Err f) old new e p w is x v at = tt
 

@@ -1,5 +1,6 @@
 -- Stacks of items over a pool that grows.
-use Rattle.std.proofs.Common.{◌≡◌, ℕ, zero, suc, ◌-◌, ◌<◌, List, [], ◌∷◌, ◌++◌, length, take, drop, Option, Some, None, Bool, true, false, refl, sym, ap, subst, ◌∙◌, arith}
+use Rattle.std.proofs.Common.{◌≡◌, ℕ, zero, suc, ◌-◌, ◌<◌, List, [], ◌∷◌, ◌++◌, length, take, drop, Option, Some, None, Bool, true, false, refl, sym, ap, subst}
+use Rattle.std.proofs.Common.{◌∙◌, arith}
 use Rattle.std.specs.Prelude.{slice_get, reverse}
 use Rattle.std.proofs.lemmas.List.{reverse-append}
 use Rattle.std.proofs.lemmas.List.Elements.{All-from_recursion, All-drop, All-take}
@@ -10,7 +11,7 @@ use Rattle.fd_language.specs.ReadingSteps.{Stack, top, paren, curly, before, bet
 use Rattle.term_pool.specs.declared.TermId.{TermId}
 use Rattle.term_pool.specs.Contents.{Contents, atom_name}
 use Rattle.term_pool.specs.Terms.{Extends}
-use Rattle.term_pool.specs.Valid.{IsPool}
+use Rattle.term_pool.specs.PoolInvariant.{IsPool}
 use Rattle.term_pool.proofs.Lemmas.{name_kept, extends_trans}
 use Rattle.term_pool.specs.declared.AtomId.{AtomId}
 use Rattle.name_syntax.specs.declared.operators.Operator.{Operator}
@@ -68,11 +69,21 @@ stack_kept c d v x s ts a [] h = refl
 stack_kept c d v x s ts a (Parenthesis ∷ xs) h = ap paren (stack_kept c d v x s ts a xs h)
 stack_kept c d v x s ts a (Curly p ∷ xs) h = ap (curly p) (stack_kept c d v x s ts a xs h)
 stack_kept c d v x s ts a (Call p n from ∷ xs) h =
-    rw (name_kept c d x n h.0, parts_kept c d v x (drop from ts) (All-drop (λ t. t.number < length c.entries) from ts a), stack_kept c d v x s (take from ts) (All-take (λ t. t.number < length c.entries) from ts a) xs h.1) refl
+    rw (
+      name_kept c d x n h.0,
+      parts_kept c d v x (drop from ts) (All-drop (λ t. t.number < length c.entries) from ts a),
+      stack_kept c d v x s (take from ts) (All-take (λ t. t.number < length c.entries) from ts a) xs h.1,
+    ) refl
 stack_kept c d v x s ts a (Listed p from ∷ xs) h =
-    rw (parts_kept c d v x (drop from ts) (All-drop (λ t. t.number < length c.entries) from ts a), stack_kept c d v x s (take from ts) (All-take (λ t. t.number < length c.entries) from ts a) xs h) refl
+    rw (
+      parts_kept c d v x (drop from ts) (All-drop (λ t. t.number < length c.entries) from ts a),
+      stack_kept c d v x s (take from ts) (All-take (λ t. t.number < length c.entries) from ts a) xs h,
+    ) refl
 stack_kept c d v x s ts a (Tail p from ∷ xs) h =
-    rw (parts_kept c d v x (drop from ts) (All-drop (λ t. t.number < length c.entries) from ts a), stack_kept c d v x s (take from ts) (All-take (λ t. t.number < length c.entries) from ts a) xs h) refl
+    rw (
+      parts_kept c d v x (drop from ts) (All-drop (λ t. t.number < length c.entries) from ts a),
+      stack_kept c d v x s (take from ts) (All-take (λ t. t.number < length c.entries) from ts a) xs h,
+    ) refl
 stack_kept c d v x s ts a (Prefix p n f ∷ xs) h = rw (name_kept c d x n h.0, stack_kept c d v x s ts a xs h.1) refl
 stack_kept c d v x s ts a (Infix p n f l ∷ xs) h =
     rw (name_kept c d x n h.0, placed_kept c d v x l h.1, stack_kept c d v x s ts a xs h.2) refl
@@ -85,8 +96,10 @@ is_bracket (Infix p a f l) = false
 is_bracket _ = true
 
 stays_as : (below : Option ℕ) (c : Contents) (xs : List Item) (ys : List Item) → reverse xs ≡ ys
-    → ((ts : List TermId) (done : List PlacedTerm) (q : ℕ) (t : PlacedTerm) → reduce below (stack_of c (top done) ts ys) q t ≡ record { stack = stack_of c (top done) ts ys; priority = q; term = t }) → Stays below c xs
-stays_as below c xs ys e h ts done q t = subst (λ (zs : List Item). reduce below (stack_of c (top done) ts zs) q t ≡ record { stack = stack_of c (top done) ts zs; priority = q; term = t }) (sym e) (h ts done q t)
+    → ((ts : List TermId) (done : List PlacedTerm) (q : ℕ) (t : PlacedTerm)
+    → reduce below (stack_of c (top done) ts ys) q t ≡ record { stack = stack_of c (top done) ts ys; priority = q; term = t }) → Stays below c xs
+stays_as below c xs ys e h ts done q t = subst (λ (zs : List Item). reduce below (stack_of c (top done) ts zs) q t ≡ record
+    { stack = stack_of c (top done) ts zs; priority = q; term = t }) (sym e) (h ts done q t)
 
 stays_none : (below : Option ℕ) (c : Contents) (xs : List Item) → xs ≡ [] → Stays below c xs
 stays_none below c xs e = stays_as below c xs [] (ap reverse e) (λ ts done q t. refl)
@@ -104,10 +117,12 @@ bracket_stays below c (Infix p a f l) ys e ts done q t = absurd cc
 stays_bracket : (below : Option ℕ) (c : Contents) (xs : List Item) (x : Item) → last_item xs ≡ Some x → is_bracket x ≡ true → Stays below c xs
 stays_bracket below c xs x e h = stays_as below c xs (x ∷ reverse (front xs)) (turned xs x e) (bracket_stays below c x (reverse (front xs)) h)
 
-stays_prefix : (below : Option ℕ) (c : Contents) (xs : List Item) (p : ℕ) (a : AtomId) (f : Operator) → last_item xs ≡ Some (Prefix p a f) → gives_way below (right_limit (nameless f)) ≡ false → Stays below c xs
+stays_prefix : (below : Option ℕ) (c : Contents) (xs : List Item) (p : ℕ) (a : AtomId) (f : Operator) → last_item xs ≡ Some (Prefix p a f)
+    → gives_way below (right_limit (nameless f)) ≡ false → Stays below c xs
 stays_prefix below c xs p a f e h = stays_as below c xs (Prefix p a f ∷ reverse (front xs)) (turned xs (Prefix p a f) e) (λ ts done q t. rw h refl)
 
-stays_infix : (below : Option ℕ) (c : Contents) (xs : List Item) (p : ℕ) (a : AtomId) (f : Operator) (l : TermId) → last_item xs ≡ Some (Infix p a f l) → gives_way below (right_limit (nameless f)) ≡ false → Stays below c xs
+stays_infix : (below : Option ℕ) (c : Contents) (xs : List Item) (p : ℕ) (a : AtomId) (f : Operator) (l : TermId) → last_item xs ≡ Some (Infix p a f l)
+    → gives_way below (right_limit (nameless f)) ≡ false → Stays below c xs
 stays_infix below c xs p a f l e h = stays_as below c xs (Infix p a f l ∷ reverse (front xs)) (turned xs (Infix p a f l) e) (λ ts done q t. rw h refl)
 
 -- nothing gives way where the last item is no operator
@@ -125,7 +140,8 @@ stays_no_operation below c xs h = go (last_item xs) refl h
     go (Some (Infix p a f l)) e k = absurd k
 
 -- nothing gives way where the last operator doesn't
-pub stays_operation : (below : Option ℕ) (c : Contents) (xs : List Item) (o : Operation) (l : Option TermId) → last_item xs ≡ Some (item_of o l) → gives_way below (right_limit (nameless o.operator)) ≡ false → Stays below c xs
+pub stays_operation : (below : Option ℕ) (c : Contents) (xs : List Item) (o : Operation) (l : Option TermId) → last_item xs ≡ Some (item_of o l)
+    → gives_way below (right_limit (nameless o.operator)) ≡ false → Stays below c xs
 stays_operation below c xs o None e h = stays_prefix below c xs o.place o.name o.operator e h
 stays_operation below c xs o (Some l) e h = stays_infix below c xs o.place o.name o.operator l e h
 
@@ -137,7 +153,8 @@ one_term c t h = All-from_recursion (λ u. u.number < length c.entries) (t ∷ [
 two_terms : (c : Contents) (s t : TermId) → s.number < length c.entries → t.number < length c.entries → AreTerms c (s ∷ t ∷ [])
 two_terms c s t h k = All-from_recursion (λ u. u.number < length c.entries) (s ∷ t ∷ []) (h, (k, tt))
 
-steps_prefix : (below : Option ℕ) (c d : Contents) (xs : List Item) (p : ℕ) (n : AtomId) (f : Operator) (s t : TermId) (q : ℕ) → last_item xs ≡ Some (Prefix p n f) → gives_way below (right_limit (nameless f)) ≡ true
+steps_prefix : (below : Option ℕ) (c d : Contents) (xs : List Item) (p : ℕ) (n : AtomId) (f : Operator) (s t : TermId) (q : ℕ)
+    → last_item xs ≡ Some (Prefix p n f) → gives_way below (right_limit (nameless f)) ≡ true
     → IsPool c → HaveIds c (reverse xs) → Adds c d (comp (atom_name c n) p (parts_of c (s ∷ []))) t → Steps below c d xs (front xs) q f.priority s t
 steps_prefix below c d xs p n f s t q e h v ids a =
     let ys = reverse (front xs) in
@@ -161,7 +178,8 @@ steps_prefix below c d xs p n f s t q e h v ids a =
       operand = a.within;
     }
 
-steps_infix : (below : Option ℕ) (c d : Contents) (xs : List Item) (p : ℕ) (n : AtomId) (f : Operator) (l s t : TermId) (q : ℕ) → last_item xs ≡ Some (Infix p n f l) → gives_way below (right_limit (nameless f)) ≡ true
+steps_infix : (below : Option ℕ) (c d : Contents) (xs : List Item) (p : ℕ) (n : AtomId) (f : Operator) (l s t : TermId) (q : ℕ)
+    → last_item xs ≡ Some (Infix p n f l) → gives_way below (right_limit (nameless f)) ≡ true
     → IsPool c → HaveIds c (reverse xs) → Adds c d (comp (atom_name c n) p (parts_of c (l ∷ s ∷ []))) t → Steps below c d xs (front xs) q f.priority s t
 steps_infix below c d xs p n f l s t q e h v ids a =
     let ys = reverse (front xs) in
@@ -190,7 +208,8 @@ steps_infix below c d xs p n f l s t q e h v ids a =
 prefix_ids : (c : Contents) (xs : List Item) (p : ℕ) (n : AtomId) (f : Operator) → last_item xs ≡ Some (Prefix p n f) → HaveIds c (reverse xs) → n.number < length c.names
 prefix_ids c xs p n f e ids = let inner : HaveIds c (Prefix p n f ∷ reverse (front xs)) = subst (HaveIds c) (turned xs (Prefix p n f) e) ids in inner.0
 
-infix_ids : (c : Contents) (xs : List Item) (p : ℕ) (n : AtomId) (f : Operator) (l : TermId) → last_item xs ≡ Some (Infix p n f l) → HaveIds c (reverse xs) → (n.number < length c.names) × (l.number < length c.entries)
+infix_ids : (c : Contents) (xs : List Item) (p : ℕ) (n : AtomId) (f : Operator) (l : TermId) → last_item xs ≡ Some (Infix p n f l) → HaveIds c (reverse xs)
+    → (n.number < length c.names) × (l.number < length c.entries)
 infix_ids c xs p n f l e ids = let inner : HaveIds c (Infix p n f l ∷ reverse (front xs)) = subst (HaveIds c) (turned xs (Infix p n f l) e) ids in (inner.0, inner.1)
 
 -- the name and the operands of the last operator are the pool's
@@ -200,7 +219,8 @@ operation_ids c xs o None t e ids h = (prefix_ids c xs o.place o.name o.operator
 operation_ids c xs o (Some l) t e ids h = let k = infix_ids c xs o.place o.name o.operator l e ids in (k.0, two_terms c l t k.1 h)
 
 -- the last operator takes its operand
-pub steps_operation : (below : Option ℕ) (c d : Contents) (xs : List Item) (o : Operation) (l : Option TermId) (s t : TermId) (q : ℕ) → last_item xs ≡ Some (item_of o l) → gives_way below (right_limit (nameless o.operator)) ≡ true
+pub steps_operation : (below : Option ℕ) (c d : Contents) (xs : List Item) (o : Operation) (l : Option TermId) (s t : TermId) (q : ℕ)
+    → last_item xs ≡ Some (item_of o l) → gives_way below (right_limit (nameless o.operator)) ≡ true
     → IsPool c → HaveIds c (reverse xs) → Adds c d (comp (atom_name c o.name) o.place (parts_of c (operands l s))) t → Steps below c d xs (front xs) q o.operator.priority s t
 steps_operation below c d xs o None s t q e h v ids a = steps_prefix below c d xs o.place o.name o.operator s t q e h v ids a
 steps_operation below c d xs o (Some l) s t q e h v ids a = steps_infix below c d xs o.place o.name o.operator l s t q e h v ids a

@@ -1,5 +1,6 @@
 -- What is read, or refused, of a text.
-use Rattle.std.proofs.Common.{◌≡◌, ℕ, zero, suc, ◌+◌, ◌<◌, ◌≤◌, ◌⊎◌, inl, inr, List, [], ◌∷◌, ◌++◌, length, map, take, drop, Some, None, true, false, refl, sym, ap, subst, ◌∙◌, arith, length-append, append_assoc, append-nil}
+use Rattle.std.proofs.Common.{◌≡◌, ℕ, zero, suc, ◌+◌, ◌<◌, ◌≤◌, ◌⊎◌, inl, inr, List, [], ◌∷◌, ◌++◌, length, map, take, drop, Some, None, true, false, refl, sym}
+use Rattle.std.proofs.Common.{ap, subst, ◌∙◌, arith, length-append, append_assoc, append-nil}
 use Rattle.std.specs.Prelude.{All}
 use Rattle.std.proofs.lemmas.List.{take-append-drop, take-append-le, take_all}
 use Rattle.std.proofs.lemmas.Bool.{cases_lt}
@@ -17,17 +18,18 @@ use Rattle.char_tokens.specs.declared.token.TokenFault.{TokenFault}
 use Rattle.char_tokens.specs.declared.token.TokenFault.TheVariants as faults
 use Rattle.char_tokens.specs.Views.{cause_of}
 use Rattle.char_tokens.specs.UnreadText.{Left}
-use Rattle.char_tokens.specs.Scanning.{IsNext, Refuses, IsFirstFault, AreTokens}
+use Rattle.char_tokens.specs.NextTokens.{IsNext, Refuses, IsFirstFault, AreTokens}
 use Rattle.char_tokens.proofs.Lemmas.{Completes, completes_more, next_tokens, next_fault, fault_first}
 use Rattle.term_pool.specs.Contents.{Contents}
-use Rattle.term_pool.specs.Valid.{IsPool}
+use Rattle.term_pool.specs.PoolInvariant.{IsPool}
 use Rattle.term_reader.specs.declared.reader.Reader.{Reader}
 use Rattle.term_reader.specs.declared.reader.Sentence.{Sentence}
 use Rattle.term_reader.specs.declared.reader.Sentences.{Sentences}
 use Rattle.term_reader.specs.View.{state}
-use Rattle.term_reader.specs.Sentences.{sentence_of, sentences_of, AreOwn, IsSentence, names_after, read_of, done_of, HasRead, HasReadText, IsReader, Took, IsFaultOf, fault_of}
-use Rattle.term_reader.proofs.Sound.{sound}
-use Rattle.term_reader.proofs.Complete.{begins, begins_none}
+use Rattle.term_reader.specs.Sentences.{sentence_of, sentences_of, AreOwn, IsSentence, names_after, read_of, done_of, HasRead, HasReadText, IsReader, Took}
+use Rattle.term_reader.specs.Sentences.{IsFaultOf, fault_of}
+use Rattle.term_reader.proofs.Soundness.{sound}
+use Rattle.term_reader.proofs.Completeness.{begins, begins_none}
 use Rattle.term_reader.proofs.Readers.{start, terminals-append}
 
 -- ---- tokens by their numbers
@@ -86,7 +88,8 @@ depth_next ls l depth r k =
     let x = terminal_of (names_after [] ls) l in
     ap (brackets 0) (terminals-append [] ls (l ∷ [])) ∙ brackets-append 0 (terminals [] ls) (x ∷ []) ∙ ap (λ (n : ℕ). open_behind n x) (sym k.brackets_open)
 
-shallow_next : (ls : List Lexeme) (l : Lexeme) → IsShallow (terminals [] ls) (length ls) → brackets 0 (terminals [] (ls ++ l ∷ [])) ≤ deepest → IsShallow (terminals [] (ls ++ l ∷ [])) (length (ls ++ l ∷ []))
+shallow_next : (ls : List Lexeme) (l : Lexeme) → IsShallow (terminals [] ls) (length ls) → brackets 0 (terminals [] (ls ++ l ∷ [])) ≤ deepest
+    → IsShallow (terminals [] (ls ++ l ∷ [])) (length (ls ++ l ∷ []))
 shallow_next ls l h k j le = go (cases_lt (length ls) j)
   where
     all : List Terminal
@@ -96,7 +99,8 @@ shallow_next ls l h k j le = go (cases_lt (length ls) j)
     go (inl lt) = subst (λ (ts : List Terminal). brackets 0 ts ≤ deepest) (sym (take_all j all (omega (arith, lt, length-terminals [] (ls ++ l ∷ []), length-append ls (l ∷ []))))) k
     go (inr small) = shallow_front ls (l ∷ []) h j small
 
-read_next : (ls : List Lexeme) (l : Lexeme) (depth next : ℕ) (r r2 : Reader) → ReadAll ls depth r → IsReader r2 → HasRead (ls ++ l ∷ []) r2 → next ≡ open_behind depth (terminal_of (names_after [] ls) l) → next ≤ deepest → ReadAll (ls ++ l ∷ []) next r2
+read_next : (ls : List Lexeme) (l : Lexeme) (depth next : ℕ) (r r2 : Reader) → ReadAll ls depth r → IsReader r2 → HasRead (ls ++ l ∷ []) r2
+    → next ≡ open_behind depth (terminal_of (names_after [] ls) l) → next ≤ deepest → ReadAll (ls ++ l ∷ []) next r2
 read_next ls l depth next r r2 k w took is le =
     let behind = depth_next ls l depth r k in
     record {
@@ -111,7 +115,8 @@ read_next ls l depth next r r2 k w took is le =
 begins_front : (ls more : List Lexeme) (depth : ℕ) (r : Reader) → ReadAll ls depth r → Begins (take (length ls) (terminals [] (ls ++ more)))
 begins_front ls more depth r k = subst Begins (sym (front_is ls more)) (begins (terminals [] ls) (state r.parser (done_of (read_of r))) k.read.run)
 
-refused : (ls more : List Lexeme) (l : Lexeme) (depth : ℕ) (r : Reader) → ReadAll ls depth r → run (terminals [] (ls ++ l ∷ [])) start ≡ None → IsSyntaxFault (terminals [] (ls ++ l ∷ more)) (length ls)
+refused : (ls more : List Lexeme) (l : Lexeme) (depth : ℕ) (r : Reader) → ReadAll ls depth r → run (terminals [] (ls ++ l ∷ [])) start ≡ None
+    → IsSyntaxFault (terminals [] (ls ++ l ∷ more)) (length ls)
 refused ls more l depth r k dies =
     let ts = terminals [] (ls ++ l ∷ more) in
     let front = take (length ls + 1) ts in
@@ -124,7 +129,8 @@ refused ls more l depth r k dies =
       shallow = shallow_front ls (l ∷ more) k.shallow;
     }
 
-deep : (ls more : List Lexeme) (l : Lexeme) (depth next : ℕ) (r r2 : Reader) → ReadAll ls depth r → HasRead (ls ++ l ∷ []) r2 → next ≡ open_behind depth (terminal_of (names_after [] ls) l) → deepest < next → IsTooDeep (terminals [] (ls ++ l ∷ more)) (length ls)
+deep : (ls more : List Lexeme) (l : Lexeme) (depth next : ℕ) (r r2 : Reader) → ReadAll ls depth r → HasRead (ls ++ l ∷ []) r2
+    → next ≡ open_behind depth (terminal_of (names_after [] ls) l) → deepest < next → IsTooDeep (terminals [] (ls ++ l ∷ more)) (length ls)
 deep ls more l depth next r r2 k took is lt =
     let all = next_is ls more l in
     record {
@@ -142,7 +148,8 @@ ended text r k b = record {
   shallow = subst (IsShallow (terminals [] k.lexemes)) (sym (length-terminals [] k.lexemes)) k.shallow;
 }
 
-unended : (text : List ℕ) (r : Reader) (k : HasReadText text r) → ((done terms : List PlacedTerm) → state r.parser done ≡ want (top terms) → ⊥) → IsSyntaxFault (terminals [] k.lexemes) (length k.lexemes)
+unended : (text : List ℕ) (r : Reader) (k : HasReadText text r) → ((done terms : List PlacedTerm) → state r.parser done ≡ want (top terms) → ⊥)
+    → IsSyntaxFault (terminals [] k.lexemes) (length k.lexemes)
 unended text r k open_still =
     let ts = terminals [] k.lexemes in
     let done = done_of (read_of r) in
@@ -156,7 +163,8 @@ unended text r k open_still =
     }
 
 -- what is read of a text is its sentences, where the reader is between two
-pub found : (text : List ℕ) (r : Reader) (s : Sentences) → HasReadText text r → ((done : List PlacedTerm) → state r.parser done ≡ want (top done)) → s.pool ≡ r.parser.pool → s.list.items ≡ r.list.items → IsSentences text (sentences_of s)
+pub found : (text : List ℕ) (r : Reader) (s : Sentences) → HasReadText text r → ((done : List PlacedTerm) → state r.parser done ≡ want (top done))
+    → s.pool ≡ r.parser.pool → s.list.items ≡ r.list.items → IsSentences text (sentences_of s)
 found text r s k b e1 e2 =
     let same : sentences_of s ≡ read_of r = ap (λ (c : Contents). map (sentence_of c) s.list.items) e1 ∙ ap (map (sentence_of r.parser.pool)) e2 in
     record {
@@ -192,9 +200,11 @@ pub record ReadUpTo (text : List ℕ) (left : Left) (depth : ℕ) (r : Reader) :
   pub all : ReadAll seen depth r
 
 pub depth_within : (text : List ℕ) (left : Left) (depth : ℕ) (r : Reader) → ReadUpTo text left depth r → depth ≤ deepest
-depth_within text left depth r k = let h = k.all.shallow (length k.seen) (omega arith) in omega (arith, h, k.all.brackets_open, ap (brackets 0) (take_all (length k.seen) (terminals [] k.seen) (omega (arith, length-terminals [] k.seen))))
+depth_within text left depth r k = let h = k.all.shallow (length k.seen) (omega arith) in
+    omega (arith, h, k.all.brackets_open, ap (brackets 0) (take_all (length k.seen) (terminals [] k.seen) (omega (arith, length-terminals [] k.seen))))
 
-pub up_to_next : (text : List ℕ) (old new : Left) (l : Lexeme) (depth next : ℕ) (r r2 : Reader) → IsNext old new l → ReadUpTo text old depth r → IsReader r2 → ((ls : List Lexeme) → HasRead ls r → Took true ls l r2)
+pub up_to_next : (text : List ℕ) (old new : Left) (l : Lexeme) (depth next : ℕ) (r r2 : Reader) → IsNext old new l → ReadUpTo text old depth r → IsReader r2
+    → ((ls : List Lexeme) → HasRead ls r → Took true ls l r2)
     → ((names : List Name) → next ≡ open_behind depth (terminal_of names l)) → next ≤ deepest → ReadUpTo text new next r2
 up_to_next text old new l depth next r r2 i k w m is le = record {
   seen = k.seen ++ l ∷ [];
@@ -203,10 +213,12 @@ up_to_next text old new l depth next r r2 i k w m is le = record {
 }
 
 -- the tokens of the text, where those behind the next one are given
-all_tokens : (text : List ℕ) (old new : Left) (l : Lexeme) (seen more : List Lexeme) → IsNext old new l → Completes text old seen → HasTokens new.place true new.bytes more → TokensOf text (seen ++ l ∷ more)
+all_tokens : (text : List ℕ) (old new : Left) (l : Lexeme) (seen more : List Lexeme) → IsNext old new l → Completes text old seen
+    → HasTokens new.place true new.bytes more → TokensOf text (seen ++ l ∷ more)
 all_tokens text old new l seen more i c h = c.tokens (l ∷ more) (next_tokens old new l more i h)
 
-pub fault_refused : (text : List ℕ) (old new : Left) (l : Lexeme) (depth : ℕ) (r r2 : Reader) → IsNext old new l → ReadUpTo text old depth r → ((ls : List Lexeme) → HasRead ls r → Took false ls l r2) → AreTokens new → IsSyntaxPlace text l.place
+pub fault_refused : (text : List ℕ) (old new : Left) (l : Lexeme) (depth : ℕ) (r r2 : Reader) → IsNext old new l → ReadUpTo text old depth r
+    → ((ls : List Lexeme) → HasRead ls r → Took false ls l r2) → AreTokens new → IsSyntaxPlace text l.place
 fault_refused text old new l depth r r2 i k m h = record {
   lexemes = k.seen ++ l ∷ h.0;
   tokens = all_tokens text old new l k.seen h.0 i k.completes h.1;
@@ -234,7 +246,8 @@ pub fault_next : (text : List ℕ) (left : Left) (depth : ℕ) (r : Reader) (f :
 fault_next text left depth r f k h = fault_left text left depth r f k (fault_first left f h)
 
 -- a fault of the tokens behind the next one
-pub fault_behind : (text : List ℕ) (old new : Left) (l : Lexeme) (depth : ℕ) (r : Reader) (f : TokenFault) → IsNext old new l → ReadUpTo text old depth r → IsFirstFault new f → IsFaultOf text (fault_of f)
+pub fault_behind : (text : List ℕ) (old new : Left) (l : Lexeme) (depth : ℕ) (r : Reader) (f : TokenFault) → IsNext old new l → ReadUpTo text old depth r
+    → IsFirstFault new f → IsFaultOf text (fault_of f)
 fault_behind text old new l depth r (faults.At place cause) i k h = k.completes.faults (cause_of cause) place (next_fault old new l (cause_of cause) place i h)
 fault_behind text old new l depth r faults.NoMemory i k h = absurd h
 

@@ -1,5 +1,6 @@
 -- The variables of a sentence have names.
-use Rattle.std.proofs.Common.{◌≡◌, ℕ, ℤ, suc, ◌+◌, ◌<◌, ◌≤◌, List, [], ◌∷◌, ◌++◌, length, map, Option, Some, None, Bool, true, false, cond, refl, sym, ap, subst, ◌∙◌, arith, length-append}
+use Rattle.std.proofs.Common.{◌≡◌, ℕ, ℤ, suc, ◌+◌, ◌<◌, ◌≤◌, List, [], ◌∷◌, ◌++◌, length, map, Option, Some, None, Bool, true, false, cond, refl, sym, ap}
+use Rattle.std.proofs.Common.{subst, ◌∙◌, arith, length-append}
 use Rattle.std.specs.Prelude.{Result, Ok, Err, IfOk, reverse, option_and_then, nat_le, ◌==◌, not}
 use Rattle.std.specs.List.{position_or_len, list_any, AllByRecursion}
 use Rattle.std.specs.Str.{bytes_eq}
@@ -8,12 +9,16 @@ use Rattle.std.proofs.lemmas.List.Elements.{All-from_recursion}
 use Rattle.fd_language.specs.Term.{Name}
 use Rattle.fd_language.specs.PlacedTerm.{PlacedTerm, PlacedTerms, var, int, atom, comp, no_parts, part, one, two, with_last, plain, all_plain}
 use Rattle.fd_language.specs.Operators.{Operator, right_limit, left_limit, prefix_of, is_operator}
-use Rattle.fd_language.specs.Terminals.{Terminal, name, operator_word, variable, integer, opens, closes, open_list, close_list, open_curly, close_curly, comma, bar, stop, infix_operator, token_place, is_tight_open, is_negated}
+use Rattle.fd_language.specs.Terminals.{Terminal, name, operator_word, variable, integer, opens, closes, open_list, close_list, open_curly, close_curly, comma}
+use Rattle.fd_language.specs.Terminals.{bar, stop, infix_operator, token_place, is_tight_open, is_negated}
 use Rattle.fd_language.specs.Grammar.{list_of}
 use Rattle.fd_language.specs.Tokens.{Kind, Word, Quoted, Variable, Integer, Punct, Stop, Lexeme}
 use Rattle.fd_language.specs.Reading as model
-use Rattle.fd_language.specs.Reading.{is_anonymous, variable_number, with_variable, terminals, terminal_of, terminal_by, punct_terminal, names_behind, names_by, sentence_names, ended_by, IsSentences}
-use Rattle.fd_language.specs.ReadingSteps.{Stack, top, paren, args, items, tail, curly, before, between, State, want, at_list, at_curly_bracket, at_operator, after, Reduced, reduce, gives_way, limit, is_close, is_close_list, is_close_curly, is_comma, is_bar, is_stop, closed, lone, placed, attach, or_else, ended, behind_operand, called, wanted, begun, step, run}
+use Rattle.fd_language.specs.Reading.{is_anonymous, variable_number, with_variable, terminals, terminal_of, terminal_by, punct_terminal, names_behind, names_by}
+use Rattle.fd_language.specs.Reading.{sentence_names, ended_by, IsSentences}
+use Rattle.fd_language.specs.ReadingSteps.{Stack, top, paren, args, items, tail, curly, before, between, State, want, at_list, at_curly_bracket, at_operator}
+use Rattle.fd_language.specs.ReadingSteps.{after, Reduced, reduce, gives_way, limit, is_close, is_close_list, is_close_curly, is_comma, is_bar, is_stop, closed}
+use Rattle.fd_language.specs.ReadingSteps.{lone, placed, attach, or_else, ended, behind_operand, called, wanted, begun, step, run}
 use Rattle.fd_language.proofs.Lemmas.{accepts, position_within}
 use Rattle.term_pool.specs.Contents.{Contents, atom_name}
 use Rattle.term_reader.specs.declared.reader.Sentence.{Sentence}
@@ -22,7 +27,7 @@ use Rattle.term_reader.specs.declared.reader.ReaderFault.{ReaderFault}
 use Rattle.term_pool.specs.PlacedTerms.{placed_of}
 use Rattle.term_reader.specs.Sentences.{sentence_of, sentences_of}
 use Rattle.term_reader.specs.VariableNames.{VariablesBelow, AllVariablesBelow, HasNames, HaveNames}
-use Rattle.term_reader.proofs.Plain.{plain_placed}
+use Rattle.term_reader.proofs.PlainTerms.{plain_placed}
 
 abbrev mutual
   Below : ℕ → PlacedTerm → Type 0
@@ -165,18 +170,28 @@ bar_no bar e = refl
 bar_no _ e = absurd cc
 
 closed_by : (n : ℕ) (s : Stack) (t : PlacedTerm) (x : Terminal) → StackBelow n s → Below n t → IfBy (is_stop x) n (base s) (closed s t x)
-closed_by n (top ts) t x h k = by_test n ts (is_stop x) (is_stop x) (Some (want (top (t ∷ ts)))) None (λ e. subst (λ (b : Bool). By b n ts (want (top (t ∷ ts)))) (sym e) (record { term = t; within = k; is = refl })) (λ e. tt)
+closed_by n (top ts) t x h k = by_test n ts (is_stop x) (is_stop x) (Some (want (top (t ∷ ts)))) None
+    (λ e. subst (λ (b : Bool). By b n ts (want (top (t ∷ ts)))) (sym e) (record { term = t; within = k; is = refl })) (λ e. tt)
 closed_by n (paren s) t x h k = by_test n (base s) (is_stop x) (is_close x) (Some (after None s t)) None (λ e. goes_in n (base s) x (after None s t) (close_no x e) (h, k) refl) (λ e. tt)
 closed_by n (args p a xs s) t x h k =
-    by_test n (base s) (is_stop x) (is_close x) (Some (after None s (comp a p (with_last xs t)))) _ (λ e. goes_in n (base s) x (after None s (comp a p (with_last xs t))) (close_no x e) (h.1, all_last n xs t h.0 k) refl)
-    (λ e. by_test n (base s) (is_stop x) (is_comma x) (Some (want (args p a (with_last xs t) s))) None (λ e. goes_in n (base s) x (want (args p a (with_last xs t) s)) (comma_no x e) (all_last n xs t h.0 k, h.1) refl) (λ e. tt))
+    by_test n (base s) (is_stop x) (is_close x) (Some (after None s (comp a p (with_last xs t)))) _
+    (λ e. goes_in n (base s) x (after None s (comp a p (with_last xs t))) (close_no x e) (h.1, all_last n xs t h.0 k) refl)
+    (λ e. by_test n (base s) (is_stop x) (is_comma x) (Some (want (args p a (with_last xs t) s))) None
+    (λ e. goes_in n (base s) x (want (args p a (with_last xs t) s)) (comma_no x e) (all_last n xs t h.0 k, h.1) refl) (λ e. tt))
 closed_by n (items p xs s) t x h k =
     let all = all_last n xs t h.0 k in
-    by_test n (base s) (is_stop x) (is_close_list x) (Some (after None s (list_of p (with_last xs t) (atom _ p)))) _ (λ e. goes_in n (base s) x (after None s (list_of p (with_last xs t) (atom _ p))) (close_list_no x e) (h.1, list_below n p (with_last xs t) (atom _ p) all tt) refl)
+    by_test n (base s) (is_stop x) (is_close_list x) (Some (after None s (list_of p (with_last xs t) (atom _ p)))) _
+    (λ e. goes_in n (base s) x (after None s (list_of p (with_last xs t) (atom _ p))) (close_list_no x e) (
+      h.1,
+      list_below n p (with_last xs t) (atom _ p) all tt,
+    ) refl)
     (λ e. by_test n (base s) (is_stop x) (is_comma x) (Some (want (items p (with_last xs t) s))) _ (λ e. goes_in n (base s) x (want (items p (with_last xs t) s)) (comma_no x e) (all, h.1) refl)
-    (λ e. by_test n (base s) (is_stop x) (is_bar x) (Some (want (tail p (with_last xs t) s))) None (λ e. goes_in n (base s) x (want (tail p (with_last xs t) s)) (bar_no x e) (all, h.1) refl) (λ e. tt)))
-closed_by n (tail p xs s) t x h k = by_test n (base s) (is_stop x) (is_close_list x) (Some (after None s (list_of p xs t))) None (λ e. goes_in n (base s) x (after None s (list_of p xs t)) (close_list_no x e) (h.1, list_below n p xs t h.0 k) refl) (λ e. tt)
-closed_by n (curly p s) t x h k = by_test n (base s) (is_stop x) (is_close_curly x) (Some (after None s (comp _ p (one t)))) None (λ e. goes_in n (base s) x (after None s (comp _ p (one t))) (close_curly_no x e) (h, (k, tt)) refl) (λ e. tt)
+    (λ e. by_test n (base s) (is_stop x) (is_bar x) (Some (want (tail p (with_last xs t) s))) None
+    (λ e. goes_in n (base s) x (want (tail p (with_last xs t) s)) (bar_no x e) (all, h.1) refl) (λ e. tt)))
+closed_by n (tail p xs s) t x h k = by_test n (base s) (is_stop x) (is_close_list x) (Some (after None s (list_of p xs t))) None
+    (λ e. goes_in n (base s) x (after None s (list_of p xs t)) (close_list_no x e) (h.1, list_below n p xs t h.0 k) refl) (λ e. tt)
+closed_by n (curly p s) t x h k = by_test n (base s) (is_stop x) (is_close_curly x) (Some (after None s (comp _ p (one t)))) None
+    (λ e. goes_in n (base s) x (after None s (comp _ p (one t))) (close_curly_no x e) (h, (k, tt)) refl) (λ e. tt)
 closed_by n (before p o f s) t x h k = tt
 closed_by n (between p f a s) t x h k = tt
 
@@ -200,9 +215,12 @@ reduce_below n m (items p xs s) q t h k = stays n (items p xs s) q t h k
 reduce_below n m (tail p xs s) q t h k = stays n (tail p xs s) q t h k
 reduce_below n m (curly p s) q t h k = stays n (curly p s) q t h k
 reduce_below n m (before p o f s) q t h k =
-    either n (base s) (gives_way m (right_limit f)) (reduce m s f.priority (comp o p (one t))) (record { stack = before p o f s; priority = q; term = t }) (reduce_below n m s f.priority (comp o p (one t)) h (k, tt)) (stays n (before p o f s) q t h k)
+    either n (base s) (gives_way m (right_limit f)) (reduce m s f.priority (comp o p (one t))) (record { stack = before p o f s; priority = q; term = t })
+    (reduce_below n m s f.priority (comp o p (one t)) h (k, tt)) (stays n (before p o f s) q t h k)
 reduce_below n m (between p f a s) q t h k =
-    either n (base s) (gives_way m (right_limit f)) (reduce m s f.priority (comp f.name p (two a t))) (record { stack = between p f a s; priority = q; term = t }) (reduce_below n m s f.priority (comp f.name p (two a t)) h.1 (h.0, (k, tt))) (stays n (between p f a s) q t h k)
+    either n (base s) (gives_way m (right_limit f)) (reduce m s f.priority (comp f.name p (two a t)))
+    (record { stack = between p f a s; priority = q; term = t }) (reduce_below n m s f.priority (comp f.name p (two a t)) h.1 (h.0, (k, tt)))
+    (stays n (between p f a s) q t h k)
 
 infix_no : (x : Terminal) (f : Operator) → infix_operator x ≡ Some f → is_stop x ≡ false
 infix_no stop f e = absurd cc
@@ -211,7 +229,8 @@ infix_no _ f e = refl
 placed_by : (n : ℕ) (old : List PlacedTerm) (x : Terminal) (f : Operator) (r : Reduced) → is_stop x ≡ false → ReducedBelow n old r → IfBy (is_stop x) n old (placed (token_place x) f r)
 placed_by n old x f r e h =
     by_test n old (is_stop x) (nat_le f.priority (limit r.stack)) _ None
-    (λ _. by_test n old (is_stop x) (nat_le r.priority (left_limit f)) (Some (want (between (token_place x) f r.term r.stack))) None (λ _. goes_in n old x (want (between (token_place x) f r.term r.stack)) e (h.term, h.stack) h.kept) (λ _. tt))
+    (λ _. by_test n old (is_stop x) (nat_le r.priority (left_limit f)) (Some (want (between (token_place x) f r.term r.stack))) None
+    (λ _. goes_in n old x (want (between (token_place x) f r.term r.stack)) e (h.term, h.stack) h.kept) (λ _. tt))
     (λ _. tt)
 
 attach_by : (n : ℕ) (s : Stack) (t : PlacedTerm) (x : Terminal) (o : Option Operator) → infix_operator x ≡ o → StackBelow n s → Below n t → IfBy (is_stop x) n (base s) (attach (token_place x) o s t)
@@ -226,7 +245,8 @@ ended_by_ : (n : ℕ) (old : List PlacedTerm) (r : Reduced) (x : Terminal) → R
 ended_by_ n old r x h = subst (λ (o : List PlacedTerm). IfBy (is_stop x) n o (ended r x)) h.kept (closed_by n r.stack r.term x h.stack h.term)
 
 behind_by : (n : ℕ) (s : Stack) (t : PlacedTerm) (x : Terminal) → StackBelow n s → Below n t → IfBy (is_stop x) n (base s) (behind_operand s t x)
-behind_by n s t x h k = or_by n (base s) (is_stop x) (attach (token_place x) (infix_operator x) s t) (ended (reduce None s 0 t) x) (attach_by n s t x (infix_operator x) refl h k) (ended_by_ n (base s) (reduce None s 0 t) x (reduce_below n None s 0 t h k))
+behind_by n s t x h k = or_by n (base s) (is_stop x) (attach (token_place x) (infix_operator x) s t) (ended (reduce None s 0 t) x)
+    (attach_by n s t x (infix_operator x) refl h k) (ended_by_ n (base s) (reduce None s 0 t) x (reduce_below n None s 0 t h k))
 
 abbrev TokenBelow : ℕ → Terminal → Type 0
 TokenBelow n (variable p k) = k < n
@@ -266,9 +286,11 @@ called_by n (Some c) s x e h = goes_in n (base s) x (want (args c.0 c.1 no_parts
 step_by : (n : ℕ) (st : State) (x : Terminal) → StateBelow n st → TokenBelow n x → IfBy (is_stop x) n (state_base st) (step st x)
 step_by n (want s) x h k = wanted_by n s x h k
 step_by n (at_list p s) x h k =
-    by_test n (base s) (is_stop x) (is_close_list x) (Some (after None s (atom _ p))) (wanted (items p no_parts s) x) (λ e. goes_in n (base s) x (after None s (atom _ p)) (close_list_no x e) (h, tt) refl) (λ _. wanted_by n (items p no_parts s) x (tt, h) k)
+    by_test n (base s) (is_stop x) (is_close_list x) (Some (after None s (atom _ p))) (wanted (items p no_parts s) x)
+    (λ e. goes_in n (base s) x (after None s (atom _ p)) (close_list_no x e) (h, tt) refl) (λ _. wanted_by n (items p no_parts s) x (tt, h) k)
 step_by n (at_curly_bracket p s) x h k =
-    by_test n (base s) (is_stop x) (is_close_curly x) (Some (after None s (atom _ p))) (wanted (curly p s) x) (λ e. goes_in n (base s) x (after None s (atom _ p)) (close_curly_no x e) (h, tt) refl) (λ _. wanted_by n (curly p s) x h k)
+    by_test n (base s) (is_stop x) (is_close_curly x) (Some (after None s (atom _ p))) (wanted (curly p s) x)
+    (λ e. goes_in n (base s) x (after None s (atom _ p)) (close_curly_no x e) (h, tt) refl) (λ _. wanted_by n (curly p s) x h k)
 step_by n (at_operator p o s) x h k =
     by_test n (base s) (is_stop x) (is_tight_open x) (Some (want (args p o no_parts s))) _ (λ e. goes_in n (base s) x (want (args p o no_parts s)) (open_no x e) (tt, h) refl)
     (λ _. by_test n (base s) (is_stop x) (is_negated o x) (Some (after None s (int _ p))) _ (λ e. goes_in n (base s) x (after None s (int _ p)) (negated_no o x e) (h, tt) refl)
@@ -286,14 +308,16 @@ position_bounded p (x ∷ xs) = go (p x) (position_bounded p xs)
     go true k = omega arith
     go false k = omega (arith, k)
 
-pick_number : (names : List Name) (v : Name) (a b : Bool) (k : ℕ) → k ≤ length names → (b ≡ true → k < length names) → cond a (length names) k < length (cond a (names ++ v ∷ []) (cond b names (names ++ v ∷ [])))
+pick_number : (names : List Name) (v : Name) (a b : Bool) (k : ℕ) → k ≤ length names → (b ≡ true → k < length names)
+    → cond a (length names) k < length (cond a (names ++ v ∷ []) (cond b names (names ++ v ∷ [])))
 pick_number names v true b k le lt = omega (arith, length-append names (v ∷ []))
 pick_number names v false true k le lt = lt refl
 pick_number names v false false k le lt = omega (arith, le, length-append names (v ∷ []))
 
 number_below : (names : List Name) (v : Name) → variable_number names v < length (with_variable names v)
 unfolding variable_number with_variable
-number_below names v = pick_number names v (is_anonymous v) (list_any (bytes_eq v) names) (position_or_len (bytes_eq v) names) (position_bounded (bytes_eq v) names) (position_within (bytes_eq v) names)
+number_below names v = pick_number names v (is_anonymous v) (list_any (bytes_eq v) names) (position_or_len (bytes_eq v) names)
+    (position_bounded (bytes_eq v) names) (position_within (bytes_eq v) names)
 
 pick_more : (names : List Name) (v : Name) (a b : Bool) → length names ≤ length (cond a (names ++ v ∷ []) (cond b names (names ++ v ∷ [])))
 pick_more names v true b = omega (arith, length-append names (v ∷ []))
@@ -315,11 +339,15 @@ token_pick n false x y h k = k
 punct_below : (n p : ℕ) (tight : Bool) (text : List ℕ) → TokenBelow n (punct_terminal p tight text)
 punct_below n p tight [] = tt
 punct_below n p tight (c ∷ cs) =
-    token_pick n (c == 40) (opens p tight) _ tt (token_pick n (c == 41) closes _ tt (token_pick n (c == 91) (open_list p) _ tt (token_pick n (c == 93) close_list _ tt (token_pick n (c == 123) (open_curly p) _ tt (token_pick n (c == 125) close_curly _ tt (token_pick n (c == 44) (comma p) bar tt tt))))))
+    token_pick n (c == 40) (opens p tight) _ tt (token_pick n (c == 41) closes _ tt
+    (token_pick n (c == 91) (open_list p) _ tt (token_pick n (c == 93) close_list _ tt
+    (token_pick n (c == 123) (open_curly p) _ tt (token_pick n (c == 125) close_curly _ tt (token_pick n (c == 44) (comma p) bar tt tt))))))
 
 punct_no : (p : ℕ) (tight : Bool) (text : List ℕ) → is_stop (punct_terminal p tight text) ≡ false
 punct_no p tight [] = refl
-punct_no p tight (c ∷ cs) = pick (c == 40) (opens p tight) _ refl (pick (c == 41) closes _ refl (pick (c == 91) (open_list p) _ refl (pick (c == 93) close_list _ refl (pick (c == 123) (open_curly p) _ refl (pick (c == 125) close_curly _ refl (pick (c == 44) (comma p) bar refl refl))))))
+punct_no p tight (c ∷ cs) = pick (c == 40) (opens p tight) _ refl
+    (pick (c == 41) closes _ refl (pick (c == 91) (open_list p) _ refl
+    (pick (c == 93) close_list _ refl (pick (c == 123) (open_curly p) _ refl (pick (c == 125) close_curly _ refl (pick (c == 44) (comma p) bar refl refl))))))
   where
     pick : (b : Bool) (x y : Terminal) → is_stop x ≡ false → is_stop y ≡ false → is_stop (cond b x y) ≡ false
     pick true x y h k = h
@@ -350,12 +378,14 @@ named_last [] (m ∷ ns) t n h k = absurd h
 named_last (u ∷ ts) [] t n h k = absurd h
 named_last (u ∷ ts) (m ∷ ns) t n h k = (h.0, named_last ts ns t n h.1 k)
 
-then_named : (f : State → Option State) (P : Type 0) (done : List PlacedTerm) (b : Bool) (n : ℕ) (old : List PlacedTerm) (o : Option State) → IfBy b n old o → ((st : State) → By b n old st → f st ≡ Some (want (top done)) → P) → option_and_then f o ≡ Some (want (top done)) → P
+then_named : (f : State → Option State) (P : Type 0) (done : List PlacedTerm) (b : Bool) (n : ℕ) (old : List PlacedTerm) (o : Option State) → IfBy b n old o
+    → ((st : State) → By b n old st → f st ≡ Some (want (top done)) → P) → option_and_then f o ≡ Some (want (top done)) → P
 then_named f P done b n old None h k e = absurd cc
 then_named f P done b n old (Some st) h k e = k st h e
 
 abbrev Rest : List Lexeme → Type 0
-Rest ls = (names : List Name) (st : State) (ns : List (List Name)) (done : List PlacedTerm) → StateBelow (length names) st → Named (reverse (state_base st)) ns → run (terminals names ls) st ≡ Some (want (top done)) → Named (reverse done) (ns ++ sentence_names names ls)
+Rest ls = (names : List Name) (st : State) (ns : List (List Name)) (done : List PlacedTerm) → StateBelow (length names) st → Named (reverse (state_base st)) ns
+    → run (terminals names ls) st ≡ Some (want (top done)) → Named (reverse done) (ns ++ sentence_names names ls)
 
 at_end : Rest []
 at_end names st ns done h k e =
@@ -366,7 +396,8 @@ at_stop : (l : Lexeme) (ls : List Lexeme) → l.kind ≡ Stop → Rest ls → Re
 at_stop l ls is rest names st ns done h k e =
     let x = terminal_of names l in
     let stops : x ≡ stop = ap (λ (kd : Kind). terminal_by kd names l) is in
-    let taken : IfBy true (length names) (state_base st) (step st x) = subst (λ (y : Terminal). IfBy (is_stop y) (length names) (state_base st) (step st x)) stops (step_by (length names) st x h (subst (TokenBelow (length names)) (sym stops) tt)) in
+    let taken : IfBy true (length names) (state_base st) (step st x) = subst (λ (y : Terminal). IfBy (is_stop y) (length names) (state_base st) (step st x))
+    stops (step_by (length names) st x h (subst (TokenBelow (length names)) (sym stops) tt)) in
     let all : sentence_names names (l ∷ ls) ≡ names ∷ sentence_names [] ls =
     ap (λ (kd : Kind). ended_by kd names (sentence_names (names_behind names l) ls)) is ∙ ap (λ (kd : Kind). names ∷ sentence_names (names_by kd names l.text) ls) is in
     let behind : names_behind names l ≡ [] = ap (λ (kd : Kind). names_by kd names l.text) is in
@@ -375,7 +406,9 @@ at_stop l ls is rest names st ns done h k e =
     (then_named (λ s. run (terminals (names_behind names l) ls) s) (Named (reverse done) ((ns ++ names ∷ []) ++ sentence_names [] ls)) done true (length names) (state_base st) (step st x) taken
     (λ s2 f e2. rest [] s2 (ns ++ names ∷ []) done
     (subst (StateBelow 0) (sym f.is) tt)
-    (subst (λ (y : State). Named (reverse (state_base y)) (ns ++ names ∷ [])) (sym f.is) (subst (λ (ts : List PlacedTerm). Named ts (ns ++ names ∷ [])) (sym (reverse-append (f.term ∷ []) (state_base st))) (named_last (reverse (state_base st)) ns f.term names k f.within)))
+    (subst (λ (y : State). Named (reverse (state_base y)) (ns ++ names ∷ [])) (sym f.is)
+    (subst (λ (ts : List PlacedTerm). Named ts (ns ++ names ∷ [])) (sym (reverse-append (f.term ∷ []) (state_base st)))
+    (named_last (reverse (state_base st)) ns f.term names k f.within)))
     (subst (λ (m : List Name). run (terminals m ls) s2 ≡ Some (want (top done))) behind e2))
     e))
 
@@ -427,8 +460,13 @@ sentences_named : (c : Contents) (list : List Sentence) → Named (map (λ s. s.
 sentences_named c [] h = tt
 sentences_named c (s ∷ list) h =
     let ids = s.names.items in
-    let count : length (map (atom_name c) ids) ≡ length ids = length-map ids (atom_name c) in
-    (record { below = subst (VariablesBelow (length ids)) (plain_placed c s.term) (below_plain (length ids) (placed_of c s.term) (subst (λ (n : ℕ). Below n (placed_of c s.term)) count h.0)) }, sentences_named c list h.1)
+    let count : length (map (atom_name c) ids) ≡ length ids = length-map ids (atom_name c) in (
+      record {
+        below = subst (VariablesBelow (length ids)) (plain_placed c s.term)
+            (below_plain (length ids) (placed_of c s.term) (subst (λ (n : ℕ). Below n (placed_of c s.term)) count h.0));
+      },
+      sentences_named c list h.1,
+    )
 
 -- each variable of a sentence that is read has a name
 pub have_names : (text : List ℕ) (s : Sentences) → IsSentences text (sentences_of s) → HaveNames s

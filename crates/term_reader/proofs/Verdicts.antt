@@ -17,6 +17,7 @@ only_fault text (Syntax place) h v k = one_verdict_of_reading text v (syntax_fau
 only_fault text (TooDeep place) h v k = one_verdict_of_reading text v (too_deep place) k h
 only_fault text NoMemory h v k = tt
 
-pub only : (r : Result Sentences ReaderFault) (text : List ℕ) → IfOk r (λ s. IsSentences text (sentences_of s)) → IfErr r (IsFaultOf text) → (v : Reading) → IsReading text v → MatchResult r (λ s. v ≡ sentences (sentences_of s)) (IsFaultFor v)
+pub only : (r : Result Sentences ReaderFault) (text : List ℕ) → IfOk r (λ s. IsSentences text (sentences_of s)) → IfErr r (IsFaultOf text) → (v : Reading)
+    → IsReading text v → MatchResult r (λ s. v ≡ sentences (sentences_of s)) (IsFaultFor v)
 only (Ok s) text a f v k = one_verdict_of_reading text v (sentences (sentences_of s)) k a
 only (Err e) text a f v k = only_fault text e f v k

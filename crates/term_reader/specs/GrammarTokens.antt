@@ -5,9 +5,9 @@ use Rattle.fd_language.specs.Terminals as model
 use Rattle.fd_language.specs.Tokens.{Kind, Integer, Stop, Lexeme}
 use Rattle.fd_language.specs.Reading.{terminal_of, names_behind}
 use Rattle.term_pool.specs.Contents.{Contents, atom_name}
-use Rattle.term_pool.specs.Valid.{IsPool}
+use Rattle.term_pool.specs.PoolInvariant.{IsPool}
 use Rattle.term_pool.specs.Terms.{Extends}
-use Rattle.term_reader.specs.Numbering.{IsIndexed}
+use Rattle.term_reader.specs.VariableNumbers.{IsIndexed}
 use Rattle.term_reader.specs.View.{IsNatural, IsTerminal, terminal_at}
 use Rattle.term_reader.specs.declared.parser.Terminal.{Terminal}
 use Rattle.term_reader.specs.declared.variables.Variables.{Variables}

@@ -1,6 +1,6 @@
 pub mod PlacedTerms
 pub mod View
-pub mod Numbering
+pub mod VariableNumbers
 pub mod GrammarTokens
 pub mod Sentences
 pub mod VariableNames

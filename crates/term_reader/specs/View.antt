@@ -1,15 +1,17 @@
 -- What the parser's vectors stand for in the deciding machine.
-use Rattle.std.specs.Prelude.{◌≡◌, ℕ, ℤ, pos, neg_ℤ, ◌<◌, ◌≤◌, ◌-◌, List, [], ◌∷◌, length, reverse, take, drop, slice_get, Option, Some, None, Bool, true, false, IsTrue, All, option_map, codes}
+use Rattle.std.specs.Prelude.{◌≡◌, ℕ, ℤ, pos, neg_ℤ, ◌<◌, ◌≤◌, ◌-◌, List, [], ◌∷◌, length, reverse, take, drop, slice_get, Option, Some, None, Bool, true}
+use Rattle.std.specs.Prelude.{false, IsTrue, All, option_map, codes}
 use Rattle.fd_language.specs.PlacedTerm.{PlacedTerm, atom}
 use Rattle.fd_language.specs.Term.{Name}
 use Rattle.fd_language.specs.Operators.{right_limit, infix_of, prefix_of}
 use Rattle.fd_language.specs.Terminals as model
-use Rattle.fd_language.specs.ReadingSteps.{Stack, top, paren, args, items, tail, curly, before, between, State, want, at_list, at_curly_bracket, at_operator, after, reduce, ended, step}
+use Rattle.fd_language.specs.ReadingSteps.{Stack, top, paren, args, items, tail, curly, before, between, State, want, at_list, at_curly_bracket, at_operator}
+use Rattle.fd_language.specs.ReadingSteps.{after, reduce, ended, step}
 use Rattle.term_pool.specs.declared.AtomId.{AtomId}
 use Rattle.term_pool.specs.declared.TermId.{TermId}
 use Rattle.term_pool.specs.Contents.{Contents, atom_name}
 use Rattle.term_pool.specs.Terms.{Extends}
-use Rattle.term_pool.specs.Valid.{IsPool}
+use Rattle.term_pool.specs.PoolInvariant.{IsPool}
 use Rattle.name_syntax.specs.declared.operators.Roles.{Roles}
 use Rattle.name_syntax.specs.Operators.{operator_of, nameless}
 use Rattle.term_pool.specs.PlacedTerms.{placed_of}

@@ -10,7 +10,7 @@ ghost use Rattle.name_syntax.specs.Operators.{operator_of};
 ghost use Rattle.fd_language.specs.ReadingSteps as Machine;
 ghost use Rattle.term_pool.specs.declared.AtomId.{AtomId as Atom};
 ghost use Rattle.term_pool.specs.Contents.{Contents, atom_name};
-ghost use Rattle.term_pool.specs.Valid.{IsPool};
+ghost use Rattle.term_pool.specs.PoolInvariant.{IsPool};
 ghost use Rattle.term_pool.specs.PlacedTerms.{placed_of};
 ghost use Rattle.term_reader.specs.PlacedTerms.{parts_of, Adds};
 ghost use Rattle.term_reader.specs.View.{AreTerms, IsNoOperation, item_of, operands, HaveIds, IsNamed, IsOperatorWord, IsTerminal, IsWhole, infix_name, Moves, Steps, Stays, item_limit, last_item, stack, state, terminal_at, closing_of, allows_lone, EndsWith, StandsAtStop, IsNegative, IsNatural, TakesArguments};

@@ -5,7 +5,7 @@ ghost use Rattle.fd_language.specs.Tokens as Tokens;
 ghost use Rattle.fd_language.specs.Terminals as Terminals;
 ghost use Rattle.fd_language.specs.Reading.{punct_terminal, word_terminal};
 ghost use Rattle.term_pool.specs.Contents.{Contents};
-ghost use Rattle.term_pool.specs.Valid.{IsPool};
+ghost use Rattle.term_pool.specs.PoolInvariant.{IsPool};
 ghost use Rattle.char_tokens.specs.Views.{lexeme_of};
 ghost use Rattle.term_reader.specs.View.{terminal_at, IsTerminal};
 ghost use Rattle.term_reader.specs.GrammarTokens.{AreVariables, HasNatural, Sees, Knows};

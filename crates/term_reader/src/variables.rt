@@ -1,7 +1,7 @@
 //! The variables of a sentence, numbered from 0 as they come.
 
 ghost use Rattle.std.specs.Prelude.{◌≡◌, ◌<◌, ◌++◌, ◌∷◌, [], ℕ, List, length, slice_get, Some, None, IfOk, OnOk, MatchOption};
-ghost use Rattle.term_reader.specs.Numbering.{IsIndexed, id_number, with_id};
+ghost use Rattle.term_reader.specs.VariableNumbers.{IsIndexed, id_number, with_id};
 
 use fd_language::NoMemory;
 use std::alloc::Global;

@@ -8,8 +8,8 @@ use lib.Utf8.{encode, encodes, scalars}
 use Rattle.fd_language.specs.Term.{Name}
 use Rattle.fd_language.specs.Characters.{is_symbol}
 use Rattle.fd_language.specs.Operators.{infix_of, prefix_of, is_operator}
-use Rattle.fd_language.specs.Writing as writing
-use Rattle.fd_language.specs.Writing.{is_empty_name, is_bare, quoted_name, starts_with_symbol, ends_with_symbol, atom_text, functor_text}
+use Rattle.fd_language.specs.TermTexts as writing
+use Rattle.fd_language.specs.TermTexts.{is_empty_name, is_bare, quoted_name, starts_with_symbol, ends_with_symbol, atom_text, functor_text}
 use Rattle.term_writer.proofs.Classes.{symbol_low}
 use Rattle.term_writer.proofs.Joins.{ends-append}
 use Rattle.term_writer.proofs.TextTokens.{chars_ascii}

@@ -3,7 +3,8 @@ use Rattle.std.proofs.Common.{◌≡◌, ◌∙◌, ℕ, ◌<◌, ◌≤◌, ◌
 use Rattle.std.specs.Prelude.{◌==◌, ◌||◌, ◌&&◌, not, nat_lt, nat_le}
 use Rattle.std.specs.Char.{is_ascii_uppercase, is_ascii_alphabetic, is_ascii_alphanumeric}
 use Rattle.std.specs.List.{list_all}
-use Rattle.std.proofs.lemmas.Bool.{true≢false, ne_eqb, eqb-true, lt-leb, le-ltb, ltb-true, and_parts, and_right, or_cases, or_from, cases_lt, not-true, false_from_ne_true, agree_below, agree_below_at}
+use Rattle.std.proofs.lemmas.Bool.{true≢false, ne_eqb, eqb-true, lt-leb, le-ltb, ltb-true, and_parts, and_right, or_cases, or_from, cases_lt, not-true}
+use Rattle.std.proofs.lemmas.Bool.{false_from_ne_true, agree_below, agree_below_at}
 use Rattle.unicode_ident.specs.Ident.{is_xid_start, is_xid_continue}
 use Rattle.unicode_ident.proofs.IdentLemmas.{is_xid_start-ascii, is_xid_continue-ascii}
 use Rattle.fd_language.specs.Characters.{is_among, is_layout, is_symbol, begins_variable, is_digit_of}

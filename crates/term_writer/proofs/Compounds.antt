@@ -1,5 +1,6 @@
 -- The texts of compounds, and of all terms, have their tokens.
-use Rattle.std.proofs.Common.{◌≡◌, ◌∙◌, ℕ, suc, ℤ, pos, negsuc, ◌<◌, ◌≤◌, inl, List, [], ◌∷◌, ◌++◌, Bool, true, false, cond, Option, Some, None, refl, sym, ap, subst, arith, length, append_assoc, append-nil}
+use Rattle.std.proofs.Common.{◌≡◌, ◌∙◌, ℕ, suc, ℤ, pos, negsuc, ◌<◌, ◌≤◌, inl, List, [], ◌∷◌, ◌++◌, Bool, true, false, cond, Option, Some, None, refl, sym, ap}
+use Rattle.std.proofs.Common.{subst, arith, length, append_assoc, append-nil}
 use Rattle.std.specs.Prelude.{nat_le, nat_abs, IsUtf8, codes, decimal}
 use Rattle.std.specs.Fmt.{signed_decimal}
 use Rattle.std.specs.Str.{bytes_eq, chars}
@@ -11,14 +12,18 @@ use Rattle.fd_language.specs.Term.{Name, Term, Terms, Var, Int, Atom, Comp, no_t
 use Rattle.fd_language.specs.Operators.{Operator, infix_of}
 use Rattle.fd_language.specs.Tokens.{greatest_integer}
 use Rattle.fd_language.specs.Terminals.{Terminal, variable, integer, opens, closes, open_list, close_list, open_curly, close_curly, comma, bar}
-use Rattle.fd_language.specs.Writing.{Quoted, is_empty_name, in_parentheses, TermText, spelled_alone, spelled_atom, spelled_one, spelled_two, spelled_infix, infix_text, call_text, arguments_text, functor_text, atom_text, spelled, spelled_each}
-use Rattle.term_writer.specs.SpelledTerms.{InTokens, called, after_bar, atom_tokens, atom_rest, one_tokens, operands, infix_tokens, two_tokens, two_rest, integer_tokens, tokens_of, further}
+use Rattle.fd_language.specs.TermTexts.{Quoted, is_empty_name, in_parentheses, TermText, spelled_alone, spelled_atom, spelled_one, spelled_two, spelled_infix}
+use Rattle.fd_language.specs.TermTexts.{infix_text, call_text, arguments_text, functor_text, atom_text, spelled, spelled_each}
+use Rattle.term_writer.specs.SpelledTerms.{InTokens, called, after_bar, atom_tokens, atom_rest, one_tokens, operands, infix_tokens, two_tokens, two_rest}
+use Rattle.term_writer.specs.SpelledTerms.{integer_tokens, tokens_of, further}
 use Rattle.term_writer.specs.TextReadings.{IsVariable, IsFunctor, IsReadable, AllReadable}
-use Rattle.term_writer.proofs.TextTokens.{Lexes, open_bracket, close_bracket, list_opens, list_closes, curly_opens, curly_closes, comma_first, before_close, before_list_end, before_curly_end, before_comma, before_bar}
+use Rattle.term_writer.proofs.TextTokens.{Lexes, open_bracket, close_bracket, list_opens, list_closes, curly_opens, curly_closes, comma_first, before_close}
+use Rattle.term_writer.proofs.TextTokens.{before_list_end, before_curly_end, before_comma, before_bar}
 use Rattle.term_writer.proofs.Variables.{Parts, variable_parts}
 use Rattle.term_writer.proofs.Leaves.{atom_lexes, functor_lexes, decimal_lexes, decimal_first, negative_lexes, variable_lexes}
 use Rattle.term_writer.proofs.Beginnings.{Begins, begins_before, begins_ascii, begins_utf8, atom_begins, functor_begins}
-use Rattle.term_writer.proofs.TermTokens.{Agrees, agrees_same, Apart, apart_from, no_symbol, Behind, Lexed, LexedAt, barred, relabel, joint, joint_begins, joint_lexes}
+use Rattle.term_writer.proofs.TermTokens.{Agrees, agrees_same, Apart, apart_from, no_symbol, Behind, Lexed, LexedAt, barred, relabel, joint, joint_begins}
+use Rattle.term_writer.proofs.TermTokens.{joint_lexes}
 use Rattle.term_writer.proofs.Derivations.{text_is}
 
 -- the arguments behind the first
@@ -39,14 +44,16 @@ module _ (vars : ℕ → List ℕ) (stopped : Bool) where
   no_further = record { lexes = λ r ts h. h; behind = λ r. record { follows = before_close r; apart = plain_close } }
 
   -- an argument with those behind it
-  first_of : (a : TermText) (ta : InTokens) (xs : List TermText) (tokens : List Terminal → List Terminal) → Lexed vars stopped a ta → Furthers xs tokens → (r : List ℕ) (ts : List Terminal) → Lexes vars stopped true (41 ∷ r) ts
+  first_of : (a : TermText) (ta : InTokens) (xs : List TermText) (tokens : List Terminal → List Terminal) → Lexed vars stopped a ta → Furthers xs tokens
+      → (r : List ℕ) (ts : List Terminal) → Lexes vars stopped true (41 ∷ r) ts
       → Lexes vars stopped true ((a.at 999 ++ further_text xs) ++ 41 ∷ r) (ta.at true 999 (tokens ts))
   first_of a ta xs tokens l f r ts h =
       let b = f.behind r in
       subst (λ (w : List ℕ). Lexes vars stopped true w (ta.at true 999 (tokens ts))) (sym (append_assoc (a.at 999) (further_text xs) (41 ∷ r)))
       (l.at true true 999 (further_text xs ++ 41 ∷ r) (tokens ts) (inl refl) b.follows (apart_from (a.at 999) (further_text xs ++ 41 ∷ r) b.apart) (f.lexes r ts h))
 
-  one_further : (a : TermText) (ta : InTokens) (xs : List TermText) (tokens : List Terminal → List Terminal) → Lexed vars stopped a ta → Furthers xs tokens → Furthers (a ∷ xs) (λ ts. comma 0 ∷ ta.at true 999 (tokens ts))
+  one_further : (a : TermText) (ta : InTokens) (xs : List TermText) (tokens : List Terminal → List Terminal) → Lexed vars stopped a ta → Furthers xs tokens
+      → Furthers (a ∷ xs) (λ ts. comma 0 ∷ ta.at true 999 (tokens ts))
   one_further a ta xs tokens l f = record {
     lexes = λ r ts h. comma_first vars stopped true ((a.at 999 ++ further_text xs) ++ 41 ∷ r) (ta.at true 999 (tokens ts)) (first_of a ta xs tokens l f r ts h);
     behind = λ r. record { follows = before_comma ((a.at 999 ++ further_text xs) ++ 41 ∷ r); apart = plain_comma };
@@ -64,7 +71,8 @@ module _ (vars : ℕ → List ℕ) (stopped : Bool) where
   call_lexed f c a ta xs tokens l g tight flag limit r ts e f2 t h =
       let inner : List ℕ = arguments_text (a ∷ xs) in
       let args : Lexes vars stopped true (inner ++ 41 ∷ r) (ta.at true 999 (tokens (closes ∷ ts))) =
-      subst (λ (w : List ℕ). Lexes vars stopped true (w ++ 41 ∷ r) (ta.at true 999 (tokens (closes ∷ ts)))) (sym (arguments_split a xs)) (first_of a ta xs tokens l g r (closes ∷ ts) (close_bracket vars stopped true r ts h)) in
+      subst (λ (w : List ℕ). Lexes vars stopped true (w ++ 41 ∷ r) (ta.at true 999 (tokens (closes ∷ ts)))) (sym (arguments_split a xs))
+      (first_of a ta xs tokens l g r (closes ∷ ts) (close_bracket vars stopped true r ts h)) in
       let opened = open_bracket vars stopped true (inner ++ 41 ∷ r) (ta.at true 999 (tokens (closes ∷ ts))) args in
       let text : (functor_text Quoted f ++ (40 ∷ (inner ++ 41 ∷ []))) ++ r ≡ functor_text Quoted f ++ (40 ∷ (inner ++ 41 ∷ r)) =
       append_assoc (functor_text Quoted f) (40 ∷ (inner ++ 41 ∷ [])) r ∙ ap (λ (w : List ℕ). functor_text Quoted f ++ (40 ∷ w)) (append_assoc inner (41 ∷ []) r) in
@@ -75,22 +83,33 @@ module _ (vars : ℕ → List ℕ) (stopped : Bool) where
   call_begins f u xs = begins_before (functor_text Quoted f) (in_parentheses (arguments_text xs)) (functor_begins f u)
 
   call : (f : Name) → Callable f → (a : TermText) (ta : InTokens) (xs : List TermText) (tokens : List Terminal → List Terminal) → Lexed vars stopped a ta → Furthers xs tokens
-      → Lexed vars stopped (spelled_alone (call_text Quoted f (a ∷ xs))) (record { at = λ tight limit ts. called f (ta.at true 999 (tokens (closes ∷ ts))); rest = after_bar (λ tight limit ts. called f (ta.at true 999 (tokens (closes ∷ ts)))) })
+      → Lexed vars stopped (spelled_alone (call_text Quoted f (a ∷ xs)))
+      (record {
+        at = λ tight limit ts. called f (ta.at true 999 (tokens (closes ∷ ts)));
+        rest = after_bar (λ tight limit ts. called f (ta.at true 999 (tokens (closes ∷ ts))));
+      })
   call f c a ta xs tokens l g =
-      barred vars stopped (λ limit. call_text Quoted f (a ∷ xs)) (λ tight limit ts. called f (ta.at true 999 (tokens (closes ∷ ts)))) (λ limit. call_begins f c.utf8 (a ∷ xs)) (call_lexed f c a ta xs tokens l g)
+      barred vars stopped (λ limit. call_text Quoted f (a ∷ xs)) (λ tight limit ts. called f (ta.at true 999 (tokens (closes ∷ ts))))
+      (λ limit. call_begins f c.utf8 (a ∷ xs)) (call_lexed f c a ta xs tokens l g)
 
   -- ---- terms in braces
 
-  braces_at : (a : TermText) (ta : InTokens) → Lexed vars stopped a ta → LexedAt vars stopped (λ limit. 123 ∷ (a.at 1200 ++ 125 ∷ [])) (λ tight limit ts. open_curly 0 ∷ ta.at true 1200 (close_curly ∷ ts))
+  braces_at : (a : TermText) (ta : InTokens) → Lexed vars stopped a ta
+      → LexedAt vars stopped (λ limit. 123 ∷ (a.at 1200 ++ 125 ∷ [])) (λ tight limit ts. open_curly 0 ∷ ta.at true 1200 (close_curly ∷ ts))
   braces_at a ta l tight flag limit r ts e f t h =
       subst (λ (w : List ℕ). Lexes vars stopped tight (123 ∷ w) (open_curly 0 ∷ ta.at true 1200 (close_curly ∷ ts))) (sym (append_assoc (a.at 1200) (125 ∷ []) r))
       (curly_opens vars stopped tight (a.at 1200 ++ 125 ∷ r) (ta.at true 1200 (close_curly ∷ ts))
       (l.at true true 1200 (125 ∷ r) (close_curly ∷ ts) (inl refl) (before_curly_end r) (no_symbol 125 plain_close_curly (a.at 1200) r) (curly_closes vars stopped true r ts h)))
 
   braces : (a : TermText) (ta : InTokens) → Lexed vars stopped a ta
-      → Lexed vars stopped (spelled_alone (123 ∷ (a.at 1200 ++ 125 ∷ []))) (record { at = λ tight limit ts. open_curly 0 ∷ ta.at true 1200 (close_curly ∷ ts); rest = after_bar (λ tight limit ts. open_curly 0 ∷ ta.at true 1200 (close_curly ∷ ts)) })
+      → Lexed vars stopped (spelled_alone (123 ∷ (a.at 1200 ++ 125 ∷ [])))
+      (record {
+        at = λ tight limit ts. open_curly 0 ∷ ta.at true 1200 (close_curly ∷ ts);
+        rest = after_bar (λ tight limit ts. open_curly 0 ∷ ta.at true 1200 (close_curly ∷ ts));
+      })
   braces a ta l =
-      barred vars stopped (λ limit. 123 ∷ (a.at 1200 ++ 125 ∷ [])) (λ tight limit ts. open_curly 0 ∷ ta.at true 1200 (close_curly ∷ ts)) (λ limit. begins_ascii 123 (a.at 1200 ++ 125 ∷ []) (omega arith)) (braces_at a ta l)
+      barred vars stopped (λ limit. 123 ∷ (a.at 1200 ++ 125 ∷ [])) (λ tight limit ts. open_curly 0 ∷ ta.at true 1200 (close_curly ∷ ts))
+      (λ limit. begins_ascii 123 (a.at 1200 ++ 125 ∷ []) (omega arith)) (braces_at a ta l)
 
   one_lexed : (f : Name) → (bytes_eq f (codes "{}") ≡ false → Callable f) → (a : TermText) (ta : InTokens) → Lexed vars stopped a ta
       → Lexed vars stopped (spelled_one Quoted f a) (record { at = λ tight limit. one_tokens f ta; rest = after_bar (λ tight limit. one_tokens f ta) })
@@ -98,21 +117,28 @@ module _ (vars : ℕ → List ℕ) (stopped : Bool) where
     where
       go : (b : Bool) → bytes_eq f (codes "{}") ≡ b
           → Lexed vars stopped (cond b (spelled_alone (123 ∷ (a.at 1200 ++ 125 ∷ []))) (spelled_alone (call_text Quoted f (a ∷ []))))
-          (record { at = λ tight limit ts. cond b (open_curly 0 ∷ ta.at true 1200 (close_curly ∷ ts)) (called f (ta.at true 999 (closes ∷ ts))); rest = after_bar (λ tight limit ts. cond b (open_curly 0 ∷ ta.at true 1200 (close_curly ∷ ts)) (called f (ta.at true 999 (closes ∷ ts)))) })
+          (record {
+            at = λ tight limit ts. cond b (open_curly 0 ∷ ta.at true 1200 (close_curly ∷ ts)) (called f (ta.at true 999 (closes ∷ ts)));
+            rest = after_bar (λ tight limit ts. cond b (open_curly 0 ∷ ta.at true 1200 (close_curly ∷ ts)) (called f (ta.at true 999 (closes ∷ ts))));
+          })
       go true e = braces a ta l
       go false e = call f (c e) a ta [] (λ ts. ts) l no_further
 
   -- ---- infix terms
 
-  infix_at : (f : Name) (o : Operator) → infix_of f ≡ Some o → (a b : TermText) (ta tb : InTokens) → Lexed vars stopped a ta → Lexed vars stopped b tb → LexedAt vars stopped (infix_text o a b) (infix_tokens f (Some o) ta tb)
+  infix_at : (f : Name) (o : Operator) → infix_of f ≡ Some o → (a b : TermText) (ta tb : InTokens) → Lexed vars stopped a ta → Lexed vars stopped b tb
+      → LexedAt vars stopped (infix_text o a b) (infix_tokens f (Some o) ta tb)
   infix_at f o e a b ta tb la lb tight flag limit r ts g f2 t h = go (nat_le o.priority limit) g t
     where
-      go : (d : Bool) → Agrees (cond d (joint vars stopped a b ta tb la lb o) (in_parentheses (joint vars stopped a b ta tb la lb o))) tight flag → Apart (cond d (joint vars stopped a b ta tb la lb o) (in_parentheses (joint vars stopped a b ta tb la lb o))) r
-          → Lexes vars stopped tight (cond d (joint vars stopped a b ta tb la lb o) (in_parentheses (joint vars stopped a b ta tb la lb o)) ++ r) (cond d (operands f o ta tb flag ts) (opens 0 flag ∷ operands f o ta tb true (closes ∷ ts)))
+      go : (d : Bool) → Agrees (cond d (joint vars stopped a b ta tb la lb o) (in_parentheses (joint vars stopped a b ta tb la lb o))) tight flag
+          → Apart (cond d (joint vars stopped a b ta tb la lb o) (in_parentheses (joint vars stopped a b ta tb la lb o))) r
+          → Lexes vars stopped tight (cond d (joint vars stopped a b ta tb la lb o) (in_parentheses (joint vars stopped a b ta tb la lb o)) ++ r)
+          (cond d (operands f o ta tb flag ts) (opens 0 flag ∷ operands f o ta tb true (closes ∷ ts)))
       go true g t = joint_lexes vars stopped a b ta tb la lb o f e tight flag r ts g f2 t h
       go false g t =
           let w : List ℕ = joint vars stopped a b ta tb la lb o in
-          let inner = joint_lexes vars stopped a b ta tb la lb o f e true true (41 ∷ r) (closes ∷ ts) (inl refl) (before_close r) (no_symbol 41 plain_close w r) (close_bracket vars stopped true r ts h) in
+          let inner = joint_lexes vars stopped a b ta tb la lb o f e true true (41 ∷ r) (closes ∷ ts) (inl refl) (before_close r) (no_symbol 41 plain_close w r)
+          (close_bracket vars stopped true r ts h) in
           let same : tight ≡ flag = agrees_same (40 ∷ (w ++ 41 ∷ [])) tight flag plain_open g in
           subst (λ (x : Bool). Lexes vars stopped tight ((40 ∷ (w ++ 41 ∷ [])) ++ r) (opens 0 x ∷ operands f o ta tb true (closes ∷ ts))) same
           (subst (λ (x : List ℕ). Lexes vars stopped tight (40 ∷ x) (opens 0 tight ∷ operands f o ta tb true (closes ∷ ts))) (sym (append_assoc w (41 ∷ []) r))
@@ -138,7 +164,8 @@ module _ (vars : ℕ → List ℕ) (stopped : Bool) where
   abbrev list_tokens : InTokens → InTokens → InTokens
   list_tokens ta tb = record { at = λ tight limit ts. open_list 0 ∷ ta.at true 999 (tb.rest ts); rest = λ ts. comma 0 ∷ ta.at true 999 (tb.rest ts) }
 
-  element : (a b : TermText) (ta tb : InTokens) → Lexed vars stopped a ta → Lexed vars stopped b tb → (r : List ℕ) (ts : List Terminal) → Lexes vars stopped true r ts → Lexes vars stopped true (a.at 999 ++ (b.rest ++ 93 ∷ r)) (ta.at true 999 (tb.rest ts))
+  element : (a b : TermText) (ta tb : InTokens) → Lexed vars stopped a ta → Lexed vars stopped b tb → (r : List ℕ) (ts : List Terminal)
+      → Lexes vars stopped true r ts → Lexes vars stopped true (a.at 999 ++ (b.rest ++ 93 ∷ r)) (ta.at true 999 (tb.rest ts))
   element a b ta tb la lb r ts h =
       let k = lb.behind r in
       la.at true true 999 (b.rest ++ 93 ∷ r) (tb.rest ts) (inl refl) k.follows (apart_from (a.at 999) (b.rest ++ 93 ∷ r) k.apart) (lb.rest r ts h)
@@ -147,7 +174,8 @@ module _ (vars : ℕ → List ℕ) (stopped : Bool) where
   list_lexed a b ta tb la lb = record {
     begins = λ limit. begins_ascii 91 (a.at 999 ++ (b.rest ++ 93 ∷ [])) (omega arith);
     at = λ tight flag limit r ts e f t h.
-        (let text : (a.at 999 ++ (b.rest ++ 93 ∷ [])) ++ r ≡ a.at 999 ++ (b.rest ++ 93 ∷ r) = append_assoc (a.at 999) (b.rest ++ 93 ∷ []) r ∙ ap (λ (w : List ℕ). a.at 999 ++ w) (append_assoc b.rest (93 ∷ []) r) in
+        (let text : (a.at 999 ++ (b.rest ++ 93 ∷ [])) ++ r ≡ a.at 999 ++ (b.rest ++ 93 ∷ r) = append_assoc (a.at 999) (b.rest ++ 93 ∷ []) r
+        ∙ ap (λ (w : List ℕ). a.at 999 ++ w) (append_assoc b.rest (93 ∷ []) r) in
         subst (λ (w : List ℕ). Lexes vars stopped tight (91 ∷ w) (open_list 0 ∷ ta.at true 999 (tb.rest ts))) (sym text)
         (list_opens vars stopped tight (a.at 999 ++ (b.rest ++ 93 ∷ r)) (ta.at true 999 (tb.rest ts)) (element a b ta tb la lb r ts h)));
     rest = λ r ts h.
@@ -156,19 +184,24 @@ module _ (vars : ℕ → List ℕ) (stopped : Bool) where
     behind = λ r. record { follows = before_comma ((a.at 999 ++ b.rest) ++ 93 ∷ r); apart = plain_comma };
   }
 
-  two_lexed : (f : Name) → Callable f → (a b : TermText) (ta tb : InTokens) → Lexed vars stopped a ta → Lexed vars stopped b tb → Lexed vars stopped (spelled_two Quoted f a b) (record { at = two_tokens f ta tb; rest = two_rest f ta tb })
+  two_lexed : (f : Name) → Callable f → (a b : TermText) (ta tb : InTokens) → Lexed vars stopped a ta → Lexed vars stopped b tb
+      → Lexed vars stopped (spelled_two Quoted f a b) (record { at = two_tokens f ta tb; rest = two_rest f ta tb })
   two_lexed f c a b ta tb la lb = go (bytes_eq f (codes ".")) refl
     where
-      go : (d : Bool) → bytes_eq f (codes ".") ≡ d → Lexed vars stopped (cond d (list_spelling a b) (spelled_infix Quoted f (infix_of f) a b)) (record { at = two_tokens f ta tb; rest = two_rest f ta tb })
+      go : (d : Bool) → bytes_eq f (codes ".") ≡ d → Lexed vars stopped (cond d (list_spelling a b) (spelled_infix Quoted f (infix_of f) a b))
+          (record { at = two_tokens f ta tb; rest = two_rest f ta tb })
       go true e =
           relabel vars stopped (list_spelling a b) (list_tokens ta tb) (record { at = two_tokens f ta tb; rest = two_rest f ta tb })
           (λ tight limit ts. sym (ap (λ (x : Bool). cond x (open_list 0 ∷ ta.at true 999 (tb.rest ts)) (infix_tokens f (infix_of f) ta tb tight limit ts)) e))
           (λ ts. sym (ap (λ (x : Bool). cond x (comma 0 ∷ ta.at true 999 (tb.rest ts)) (after_bar (two_tokens f ta tb) ts)) e))
           (list_lexed a b ta tb la lb)
       go false e =
-          relabel vars stopped (spelled_infix Quoted f (infix_of f) a b) (record { at = infix_tokens f (infix_of f) ta tb; rest = after_bar (infix_tokens f (infix_of f) ta tb) }) (record { at = two_tokens f ta tb; rest = two_rest f ta tb })
+          relabel vars stopped (spelled_infix Quoted f (infix_of f) a b)
+          (record { at = infix_tokens f (infix_of f) ta tb; rest = after_bar (infix_tokens f (infix_of f) ta tb) })
+          (record { at = two_tokens f ta tb; rest = two_rest f ta tb })
           (λ tight limit ts. sym (ap (λ (x : Bool). cond x (open_list 0 ∷ ta.at true 999 (tb.rest ts)) (infix_tokens f (infix_of f) ta tb tight limit ts)) e))
-          (λ ts. sym (ap (λ (x : Bool). cond x (comma 0 ∷ ta.at true 999 (tb.rest ts)) (bar ∷ cond x (open_list 0 ∷ ta.at true 999 (tb.rest (close_list ∷ ts))) (infix_tokens f (infix_of f) ta tb true 999 (close_list ∷ ts)))) e))
+          (λ ts. sym (ap (λ (x : Bool). cond x (comma 0 ∷ ta.at true 999 (tb.rest ts))
+          (bar ∷ cond x (open_list 0 ∷ ta.at true 999 (tb.rest (close_list ∷ ts))) (infix_tokens f (infix_of f) ta tb true 999 (close_list ∷ ts)))) e))
           (infix_lexed f c (infix_of f) refl a b ta tb la lb)
 
   -- ---- leaves
@@ -178,9 +211,12 @@ module _ (vars : ℕ → List ℕ) (stopped : Bool) where
   variable_some [] p = absurd (cc (p.split))
   variable_some (c ∷ cs) p = refl
 
-  variable_lexed : (x : ℕ) → IsVariable (vars x) → Lexed vars stopped (spelled_alone (vars x)) (record { at = λ tight limit ts. variable 0 x ∷ ts; rest = after_bar (λ tight limit ts. variable 0 x ∷ ts) })
+  variable_lexed : (x : ℕ) → IsVariable (vars x) → Lexed vars stopped (spelled_alone (vars x))
+      (record { at = λ tight limit ts. variable 0 x ∷ ts; rest = after_bar (λ tight limit ts. variable 0 x ∷ ts) })
   variable_lexed x v =
-      barred vars stopped (λ limit. vars x) (λ tight limit ts. variable 0 x ∷ ts) (λ limit. begins_utf8 (vars x) v.utf8 (variable_some (vars x) (variable_parts (vars x) v))) (λ tight flag limit r ts e f t h. variable_lexes vars stopped tight x r ts v f h)
+      barred vars stopped (λ limit. vars x) (λ tight limit ts. variable 0 x ∷ ts)
+      (λ limit. begins_utf8 (vars x) v.utf8 (variable_some (vars x) (variable_parts (vars x) v)))
+      (λ tight flag limit r ts e f t h. variable_lexes vars stopped tight x r ts v f h)
 
   some_decimal : (w : List ℕ) → 0 < length w → is_empty_name w ≡ false
   some_decimal [] h = absurd (omega arith)
@@ -192,10 +228,13 @@ module _ (vars : ℕ → List ℕ) (stopped : Bool) where
 
   integer_at : (z : ℤ) → nat_abs z ≤ greatest_integer → LexedAt vars stopped (λ limit. signed_decimal z) (λ tight limit. integer_tokens z tight)
   integer_at (pos n) h tight flag limit r ts e f t l =
-      subst (λ (x : Bool). Lexes vars stopped tight (decimal n ++ r) (integer 0 x (pos n) ∷ ts)) (agrees_same (decimal n) tight flag (decimal_first n h) e) (decimal_lexes vars stopped tight n r ts h f l)
+      subst (λ (x : Bool). Lexes vars stopped tight (decimal n ++ r) (integer 0 x (pos n) ∷ ts)) (agrees_same (decimal n) tight flag (decimal_first n h) e)
+      (decimal_lexes vars stopped tight n r ts h f l)
   integer_at (negsuc n) h tight flag limit r ts e f t l = negative_lexes vars stopped tight (suc n) r ts h f l
 
-  integer_lexed : (z : ℤ) → nat_abs z ≤ greatest_integer → Lexed vars stopped (spelled_alone (signed_decimal z)) (record { at = λ tight limit. integer_tokens z tight; rest = after_bar (λ tight limit. integer_tokens z tight) })
+  integer_lexed : (z : ℤ) → nat_abs z ≤ greatest_integer
+      → Lexed vars stopped (spelled_alone (signed_decimal z))
+      (record { at = λ tight limit. integer_tokens z tight; rest = after_bar (λ tight limit. integer_tokens z tight) })
   integer_lexed z h = barred vars stopped (λ limit. signed_decimal z) (λ tight limit. integer_tokens z tight) (λ limit. integer_begins z h) (integer_at z h)
 
   atom_at : (a : Name) → IsUtf8 a → LexedAt vars stopped (λ limit. atom_text Quoted a) (λ tight limit. atom_tokens a)
@@ -204,7 +243,8 @@ module _ (vars : ℕ → List ℕ) (stopped : Bool) where
   atom_lexed : (a : Name) → IsUtf8 a → Lexed vars stopped (spelled_atom Quoted a) (record { at = λ tight limit. atom_tokens a; rest = atom_rest a })
   atom_lexed a u = record { begins = λ limit. atom_begins a u; at = atom_at a u; rest = λ r ts h. rest r ts h (bytes_eq a (codes "[]")); behind = λ r. behind r (bytes_eq a (codes "[]")) }
     where
-      rest : (r : List ℕ) (ts : List Terminal) → Lexes vars stopped true r ts → (b : Bool) → Lexes vars stopped true (cond b [] (124 ∷ atom_text Quoted a) ++ 93 ∷ r) (cond b (close_list ∷ ts) (after_bar (λ tight limit. atom_tokens a) ts))
+      rest : (r : List ℕ) (ts : List Terminal) → Lexes vars stopped true r ts → (b : Bool)
+          → Lexes vars stopped true (cond b [] (124 ∷ atom_text Quoted a) ++ 93 ∷ r) (cond b (close_list ∷ ts) (after_bar (λ tight limit. atom_tokens a) ts))
       rest r ts h true = list_closes vars stopped true r ts h
       rest r ts h false = (barred vars stopped (λ limit. atom_text Quoted a) (λ tight limit. atom_tokens a) (λ limit. atom_begins a u) (atom_at a u)).rest r ts h
 
@@ -234,7 +274,8 @@ module _ (vars : ℕ → List ℕ) (stopped : Bool) where
         two_lexed f (callable f b no_terms h.0) (spelled Quoted vars a) (spelled Quoted vars b) (tokens_of a) (tokens_of b) (lexed a h.1) (lexed b h.2.0)
     lexed (Comp f (term a (term b (term c ts)))) h =
         let lc = one_further (spelled Quoted vars c) (tokens_of c) (spelled_each Quoted vars ts) (further ts) (lexed c h.2.1.0) (lexed_each ts h.2.1.1) in
-        call f (callable f b (term c ts) h.0) (spelled Quoted vars a) (tokens_of a) (spelled_each Quoted vars (term b (term c ts))) (λ r. comma 0 ∷ (tokens_of b).at true 999 (comma 0 ∷ (tokens_of c).at true 999 (further ts r))) (lexed a h.1)
+        call f (callable f b (term c ts) h.0) (spelled Quoted vars a) (tokens_of a) (spelled_each Quoted vars (term b (term c ts)))
+        (λ r. comma 0 ∷ (tokens_of b).at true 999 (comma 0 ∷ (tokens_of c).at true 999 (further ts r))) (lexed a h.1)
         (one_further (spelled Quoted vars b) (tokens_of b) (spelled_each Quoted vars (term c ts)) (λ r. comma 0 ∷ (tokens_of c).at true 999 (further ts r)) (lexed b h.2.0) lc)
 
     pub lexed_each : (ts : Terms) → AllReadable vars ts → Furthers (spelled_each Quoted vars ts) (further ts)

@@ -1,5 +1,6 @@
 -- The tokens that spell a term derive it, at the limit.
-use Rattle.std.proofs.Common.{◌≡◌, ℕ, ℤ, pos, negsuc, ◌⊎◌, inl, inr, List, [], ◌∷◌, Option, Some, None, Bool, true, false, cond, refl, sym, ap, subst, ◌∙◌, arith}
+use Rattle.std.proofs.Common.{◌≡◌, ℕ, ℤ, pos, negsuc, ◌⊎◌, inl, inr, List, [], ◌∷◌, Option, Some, None, Bool, true, false, cond, refl, sym, ap, subst, ◌∙◌}
+use Rattle.std.proofs.Common.{arith}
 use Rattle.std.specs.Prelude.{nat_le, ◌&&◌, not, find, codes}
 use Rattle.std.specs.Str.{bytes_eq}
 use Rattle.std.proofs.lemmas.Bool.{leb-true}
@@ -7,11 +8,15 @@ use Rattle.std.proofs.lemmas.Slice.Eq.{bytes_eq-Decides}
 use Rattle.fd_language.specs.Term.{Name, Term, Terms, Var, Int, Atom, Comp, no_terms, term}
 use Rattle.fd_language.specs.PlacedTerm.{PlacedTerm, PlacedTerms, var, int, atom, comp, part, one, two}
 use Rattle.fd_language.specs.Operators.{Operator, infix_operators, infix_of, is_operator, left_limit, right_limit}
-use Rattle.fd_language.specs.Terminals.{Terminal, name, operator_word, variable, opens, closes, open_list, close_list, open_curly, close_curly, comma, bar, comma_operator, infix_operator, is_minus, token_place}
-use Rattle.fd_language.specs.Writing.{is_letter_word}
-use Rattle.fd_language.specs.Grammar.{Reads, an_integer, a_negative, a_variable, an_atom, empty_list, empty_curly, named_call, operator_call, in_parens, a_list, a_list_tail, in_curly, an_infix, Arg, a_term, Args, last, more, list_of}
+use Rattle.fd_language.specs.Terminals.{Terminal, name, operator_word, variable, opens, closes, open_list, close_list, open_curly, close_curly, comma, bar}
+use Rattle.fd_language.specs.Terminals.{comma_operator, infix_operator, is_minus, token_place}
+use Rattle.fd_language.specs.TermTexts.{is_letter_word}
+use Rattle.fd_language.specs.Grammar.{Reads, an_integer, a_negative, a_variable, an_atom, empty_list, empty_curly, named_call, operator_call, in_parens, a_list}
+use Rattle.fd_language.specs.Grammar.{a_list_tail, in_curly, an_infix, Arg, a_term, Args, last, more, list_of}
 use Rattle.fd_language.proofs.Lemmas.{within_infix}
-use Rattle.term_writer.specs.SpelledTerms.{placed, all_placed, operator_terminal, call_terminal, InTokens, called, after_bar, atom_tokens, one_tokens, operands, infix_tokens, two_tokens, two_rest, atom_rest, integer_tokens, tokens_of, further, HasArguments, AllHaveArguments, Within, SpelledIsRead}
+use Rattle.term_writer.specs.SpelledTerms.{placed, all_placed, operator_terminal, call_terminal, InTokens, called, after_bar, atom_tokens, one_tokens, operands}
+use Rattle.term_writer.specs.SpelledTerms.{infix_tokens, two_tokens, two_rest, atom_rest, integer_tokens, tokens_of, further, HasArguments, AllHaveArguments}
+use Rattle.term_writer.specs.SpelledTerms.{Within, SpelledIsRead}
 
 pub text_is : (a b : Name) → bytes_eq a b ≡ true → a ≡ b
 text_is a b e = (bytes_eq-Decides a b).0 e
@@ -85,7 +90,8 @@ list_from (behind_bar {us = us} {t = t} e) ts x d = record { elements = one x; r
 list_from {r = r} (element {vs = vs} {x = y} {t = t} e k) ts x d =
     let others = list_from k vs y e in go others.elements others.reads
   where
-    go : (ys : PlacedTerms) → (Args vs (close_list ∷ r) ys × (list_of 0 ys (atom (codes "[]") 0) ≡ comp (codes ".") 0 (two y t))) ⊎ ((us : List Terminal) × (u : PlacedTerm) × Args vs (bar ∷ us) ys × Arg us (close_list ∷ r) u × (list_of 0 ys u ≡ comp (codes ".") 0 (two y t)))
+    go : (ys : PlacedTerms) → (Args vs (close_list ∷ r) ys × (list_of 0 ys (atom (codes "[]") 0) ≡ comp (codes ".") 0 (two y t)))
+        ⊎ ((us : List Terminal) × (u : PlacedTerm) × Args vs (bar ∷ us) ys × Arg us (close_list ∷ r) u × (list_of 0 ys u ≡ comp (codes ".") 0 (two y t)))
         → ListFrom ts r (comp (codes ".") 0 (two x (comp (codes ".") 0 (two y t))))
     go ys (inl p) = record { elements = part x ys; reads = inl (more d p.0, ap (λ (l : PlacedTerm). comp (codes ".") 0 (two x l)) p.1) }
     go ys (inr p) = record { elements = part x ys; reads = inr (p.0, p.1, more d p.2, p.3, ap (λ (l : PlacedTerm). comp (codes ".") 0 (two x l)) p.4) }
@@ -93,7 +99,8 @@ list_from {r = r} (element {vs = vs} {x = y} {t = t} e k) ts x d =
 list_reads : {ts r : List Terminal} {u : PlacedTerm} → ListFrom ts r u → Reads (open_list 0 ∷ ts) r 0 u
 list_reads {ts = ts} {r = r} {u = u} l = go l.elements l.reads
   where
-    go : (ys : PlacedTerms) → (Args ts (close_list ∷ r) ys × (list_of 0 ys (atom (codes "[]") 0) ≡ u)) ⊎ ((us : List Terminal) × (t : PlacedTerm) × Args ts (bar ∷ us) ys × Arg us (close_list ∷ r) t × (list_of 0 ys t ≡ u)) → Reads (open_list 0 ∷ ts) r 0 u
+    go : (ys : PlacedTerms) → (Args ts (close_list ∷ r) ys × (list_of 0 ys (atom (codes "[]") 0) ≡ u))
+        ⊎ ((us : List Terminal) × (t : PlacedTerm) × Args ts (bar ∷ us) ys × Arg us (close_list ∷ r) t × (list_of 0 ys t ≡ u)) → Reads (open_list 0 ∷ ts) r 0 u
     go ys (inl p) = subst (Reads (open_list 0 ∷ ts) r 0) p.1 (a_list p.0)
     go ys (inr p) = subst (Reads (open_list 0 ∷ ts) r 0) p.4 (a_list_tail p.2 p.3)
 
@@ -111,13 +118,15 @@ pub record Right (sp : InTokens) (t : PlacedTerm) : Type 0 where
   pub at : (tight : Bool) (limit : ℕ) (r : List Terminal) → Within (sp.at tight limit r) r limit t
   pub rest : (r : List Terminal) → TailOf r (sp.rest r) t
 
-barred : (sp : Bool → ℕ → List Terminal → List Terminal) (t : PlacedTerm) → ((tight : Bool) (limit : ℕ) (r : List Terminal) → Within (sp tight limit r) r limit t) → Right (record { at = sp; rest = after_bar sp }) t
+barred : (sp : Bool → ℕ → List Terminal → List Terminal) (t : PlacedTerm)
+    → ((tight : Bool) (limit : ℕ) (r : List Terminal) → Within (sp tight limit r) r limit t) → Right (record { at = sp; rest = after_bar sp }) t
 barred sp t h = record { at = h; rest = λ r. behind_bar (as_arg (h true 999 (close_list ∷ r))) }
 
 atom_reads : (a : Name) (r : List Terminal) → Reads (atom_tokens a r) r 0 (atom a 0)
 atom_reads a r = go (bytes_eq a (codes "[]")) refl (bytes_eq a (codes "{}")) refl
   where
-    go : (b : Bool) → bytes_eq a (codes "[]") ≡ b → (c : Bool) → bytes_eq a (codes "{}") ≡ c → Reads (cond b (open_list 0 ∷ close_list ∷ r) (cond c (open_curly 0 ∷ close_curly ∷ r) (name 0 a ∷ r))) r 0 (atom a 0)
+    go : (b : Bool) → bytes_eq a (codes "[]") ≡ b → (c : Bool) → bytes_eq a (codes "{}") ≡ c
+        → Reads (cond b (open_list 0 ∷ close_list ∷ r) (cond c (open_curly 0 ∷ close_curly ∷ r) (name 0 a ∷ r))) r 0 (atom a 0)
     go true e c k = subst (λ (x : Name). Reads (open_list 0 ∷ close_list ∷ r) r 0 (atom x 0)) (sym (text_is a (codes "[]") e)) empty_list
     go false e true k = subst (λ (x : Name). Reads (open_curly 0 ∷ close_curly ∷ r) r 0 (atom x 0)) (sym (text_is a (codes "{}") k)) empty_curly
     go false e false k = an_atom
@@ -133,10 +142,13 @@ one_reads : (f : Name) (sp : InTokens) (t : PlacedTerm) → Right sp t → (limi
 one_reads f sp t h limit r = at_zero limit (go (bytes_eq f (codes "{}")) refl)
   where
     go : (b : Bool) → bytes_eq f (codes "{}") ≡ b → Reads (cond b (open_curly 0 ∷ sp.at true 1200 (close_curly ∷ r)) (called f (sp.at true 999 (closes ∷ r)))) r 0 (comp f 0 (one t))
-    go true e = let w = h.at true 1200 (close_curly ∷ r) in subst (λ (x : Name). Reads (open_curly 0 ∷ sp.at true 1200 (close_curly ∷ r)) r 0 (comp x 0 (one t))) (sym (text_is f (codes "{}") e)) (in_curly w.reads w.fits)
+    go true e = let w = h.at true 1200 (close_curly ∷ r) in
+        subst (λ (x : Name). Reads (open_curly 0 ∷ sp.at true 1200 (close_curly ∷ r)) r 0 (comp x 0 (one t))) (sym (text_is f (codes "{}") e))
+        (in_curly w.reads w.fits)
     go false e = call_reads f (sp.at true 999 (closes ∷ r)) r (one t) (last (as_arg (h.at true 999 (closes ∷ r))))
 
-operands_read : (f : Name) (op : Operator) (a b : InTokens) (t u : PlacedTerm) → Right a t → Right b u → Stands f op → (tight : Bool) (r : List Terminal) → Reads (operands f op a b tight r) r op.priority (comp f 0 (two t u))
+operands_read : (f : Name) (op : Operator) (a b : InTokens) (t u : PlacedTerm) → Right a t → Right b u → Stands f op → (tight : Bool) (r : List Terminal)
+    → Reads (operands f op a b tight r) r op.priority (comp f 0 (two t u))
 operands_read f op a b t u h k s tight r =
     let behind : Bool = not (is_letter_word op.name) in
     let left = h.at tight (left_limit op) (operator_terminal f ∷ b.at behind (right_limit op) r) in
@@ -145,9 +157,11 @@ operands_read f op a b t u h k s tight r =
     subst (λ (p : ℕ). Reads (operands f op a b tight r) r op.priority (comp f p (two t u))) s.place
     (subst (λ (x : Name). Reads (operands f op a b tight r) r op.priority (comp x (token_place (operator_terminal f)) (two t u))) s.named read)
 
-infix_reads : (f : Name) (found : Option Operator) → infix_of f ≡ found → (a b : InTokens) (t u : PlacedTerm) → Right a t → Right b u → (tight : Bool) (limit : ℕ) (r : List Terminal) → Within (infix_tokens f found a b tight limit r) r limit (comp f 0 (two t u))
+infix_reads : (f : Name) (found : Option Operator) → infix_of f ≡ found → (a b : InTokens) (t u : PlacedTerm) → Right a t → Right b u
+    → (tight : Bool) (limit : ℕ) (r : List Terminal) → Within (infix_tokens f found a b tight limit r) r limit (comp f 0 (two t u))
 infix_reads f None e a b t u h k tight limit r =
-    at_zero limit (call_reads f (a.at true 999 (comma 0 ∷ b.at true 999 (closes ∷ r))) r (two t u) (more (as_arg (h.at true 999 (comma 0 ∷ b.at true 999 (closes ∷ r)))) (last (as_arg (k.at true 999 (closes ∷ r))))))
+    at_zero limit (call_reads f (a.at true 999 (comma 0 ∷ b.at true 999 (closes ∷ r))) r (two t u)
+    (more (as_arg (h.at true 999 (comma 0 ∷ b.at true 999 (closes ∷ r)))) (last (as_arg (k.at true 999 (closes ∷ r))))))
 infix_reads f (Some op) e a b t u h k tight limit r = go (nat_le op.priority limit) refl
   where
     go : (c : Bool) → nat_le op.priority limit ≡ c → Within (cond c (operands f op a b tight r) (opens 0 tight ∷ operands f op a b true (closes ∷ r))) r limit (comp f 0 (two t u))
@@ -157,7 +171,8 @@ infix_reads f (Some op) e a b t u h k tight limit r = go (nat_le op.priority lim
 two_right : (f : Name) (a b : InTokens) (t u : PlacedTerm) → Right a t → Right b u → Right (record { at = two_tokens f a b; rest = two_rest f a b }) (comp f 0 (two t u))
 two_right f a b t u h k = record { at = λ tight limit r. at_limit tight limit r (bytes_eq f (codes ".")) refl; rest = λ r. rest r (bytes_eq f (codes ".")) refl }
   where
-    at_limit : (tight : Bool) (limit : ℕ) (r : List Terminal) (c : Bool) → bytes_eq f (codes ".") ≡ c → Within (cond c (open_list 0 ∷ a.at true 999 (b.rest r)) (infix_tokens f (infix_of f) a b tight limit r)) r limit (comp f 0 (two t u))
+    at_limit : (tight : Bool) (limit : ℕ) (r : List Terminal) (c : Bool) → bytes_eq f (codes ".") ≡ c
+        → Within (cond c (open_list 0 ∷ a.at true 999 (b.rest r)) (infix_tokens f (infix_of f) a b tight limit r)) r limit (comp f 0 (two t u))
     at_limit tight limit r true e =
         let list = list_reads (list_from (k.rest r) (a.at true 999 (b.rest r)) t (as_arg (h.at true 999 (b.rest r)))) in
         at_zero limit (subst (λ (x : Name). Reads (open_list 0 ∷ a.at true 999 (b.rest r)) r 0 (comp x 0 (two t u))) (sym (text_is f (codes ".") e)) list)
@@ -184,7 +199,9 @@ mutual
       let sb = reads_term b h.1.0 in
       let sc = reads_term c h.1.1.0 in
       let sx = reads_all ts h.1.1.1 in
-      barred (λ tight limit r. called f ((tokens_of a).at true 999 (comma 0 ∷ (tokens_of b).at true 999 (comma 0 ∷ (tokens_of c).at true 999 (further ts (closes ∷ r)))))) (comp f 0 (part (placed a) (part (placed b) (part (placed c) (all_placed ts)))))
+      barred (λ tight limit r. called f ((tokens_of a).at true 999
+      (comma 0 ∷ (tokens_of b).at true 999 (comma 0 ∷ (tokens_of c).at true 999 (further ts (closes ∷ r))))))
+      (comp f 0 (part (placed a) (part (placed b) (part (placed c) (all_placed ts)))))
       (λ tight limit r.
       let tc = (tokens_of c).at true 999 (further ts (closes ∷ r)) in
       let tb = (tokens_of b).at true 999 (comma 0 ∷ tc) in

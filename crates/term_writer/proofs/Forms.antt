@@ -3,9 +3,9 @@ use Rattle.std.proofs.Common.{◌≡◌, ◌<◌, ◌≤◌, List, [], ◌∷◌
 use Rattle.std.specs.Prelude.{codes}
 use Rattle.std.specs.Str.{bytes_eq}
 use Rattle.fd_language.specs.Term.{Name}
-use Rattle.fd_language.specs.Writing.{spelled, spelled_alone, call_text}
+use Rattle.fd_language.specs.TermTexts.{spelled, spelled_alone, call_text}
 use Rattle.term_pool.specs.declared.TermId.{TermId}
-use Rattle.term_writer.specs.declared.pieces.Form.TheVariants as form
+use Rattle.term_writer.specs.declared.pieces.CompoundForm.TheVariants as form
 use Rattle.term_writer.specs.Pieces.{IsForm}
 
 pub no_parts : (ts : List TermId) → length ts < 1 → ts ≡ []

@@ -7,7 +7,8 @@ use Rattle.std.specs.Str.Parse.{AllDigits, digits_value_after}
 use Rattle.std.proofs.lemmas.Bool.{le-leb, lt-ltb, le-ltb, and_parts, and_right}
 use Rattle.unicode_ident.specs.Ident.{is_xid_start, is_xid_continue}
 use Rattle.fd_language.specs.Characters.{is_symbol, begins_variable, is_digit_of, starts_with, starts_with_digit_of, run_size, past_run, digits_value}
-use Rattle.fd_language.specs.Tokens.{Token, Offends, Word, Variable, Integer, IntegerTooWide, greatest_integer, base_of, has_base, has_fraction, number_front, integer_front, ends_stop, front_at}
+use Rattle.fd_language.specs.Tokens.{Token, Offends, Word, Variable, Integer, IntegerTooWide, greatest_integer, base_of, has_base, has_fraction, number_front}
+use Rattle.fd_language.specs.Tokens.{integer_front, ends_stop, front_at}
 use Rattle.term_writer.proofs.Classes.{variable_plain, letter_is, symbol_is, Digit, digit_is, no_base, no_digit}
 use Rattle.fd_language.proofs.Lemmas.{size}
 

@@ -20,7 +20,8 @@ indexed_other vars n x v None l e d h =
 indexed_other vars n x v (Some place) l e d h = h
 
 -- the first of a variable
-pub indexed_first : (vars : List VarText) (n x : ℕ) (v : VarText) → n < length vars → v ≡ get_or vars n v → slice_get vars n ≡ Some v → nat_eq v.var x ≡ true → IsIndexed vars n x None → IsIndexed vars (n + 1) x (Some n)
+pub indexed_first : (vars : List VarText) (n x : ℕ) (v : VarText) → n < length vars → v ≡ get_or vars n v → slice_get vars n ≡ Some v → nat_eq v.var x ≡ true
+    → IsIndexed vars n x None → IsIndexed vars (n + 1) x (Some n)
 indexed_first vars n x v l e s d h =
     ap text_at s
     ∙ sym (h ∙ at_drop_more (λ (vs : List VarText). text_of vs x) vars n v l ∙ ap (λ (w : VarText). text_of (w ∷ drop (n + 1) vars) x) (sym e)

@@ -4,7 +4,7 @@ use Rattle.std.specs.Prelude.{◌&&◌, codes}
 use Rattle.std.proofs.lemmas.List.{append-nil}
 use Rattle.fd_language.specs.Characters.{is_symbol}
 use Rattle.fd_language.specs.Term.{Name}
-use Rattle.fd_language.specs.Writing.{ends_with_symbol, starts_with_symbol, gap_between, is_letter_word, is_empty_name, between, quoted_name}
+use Rattle.fd_language.specs.TermTexts.{ends_with_symbol, starts_with_symbol, gap_between, is_letter_word, is_empty_name, between, quoted_name}
 use Rattle.std.proofs.Math.Bool.{and-false}
 use Rattle.term_writer.specs.Pieces.{joined, operator_text}
 

@@ -12,16 +12,17 @@ use Rattle.fd_language.specs.Characters.{is_symbol}
 use Rattle.fd_language.specs.Operators.{infix_of, prefix_of, is_operator}
 use Rattle.fd_language.specs.Tokens.{Word, Quoted, Variable, Integer, Token, greatest_integer, front_of}
 use Rattle.fd_language.specs.Terminals.{Terminal, name, operator_word, variable, integer, open_list, close_list, open_curly, close_curly}
-use Rattle.fd_language.specs.Writing as writing
-use Rattle.fd_language.specs.Writing.{is_letter_word, is_symbol_word, is_bare, quoted_name, starts_with_symbol, ends_with_symbol, atom_text, functor_text}
+use Rattle.fd_language.specs.TermTexts as writing
+use Rattle.fd_language.specs.TermTexts.{is_letter_word, is_symbol_word, is_bare, quoted_name, starts_with_symbol, ends_with_symbol, atom_text, functor_text}
 use Rattle.term_writer.specs.SpelledTerms.{call_terminal, atom_tokens}
 use Rattle.term_writer.specs.TextReadings.{IsVariable}
 use Rattle.term_writer.proofs.QuotedNames.{name_of, token_of}
 use Rattle.term_writer.proofs.Classes.{digit_is}
 use Rattle.term_writer.proofs.Variables.{variable_parts}
 use Rattle.term_writer.proofs.Fronts.{stops, variable_front, integer_front_is}
-use Rattle.term_writer.proofs.TextTokens.{Lexes, other_first, variable_first, token_front, list_opens, list_closes, curly_opens, curly_closes, word_token, word_other, quoted_other, integer_other, Follows, before_open, chars_ascii}
-use Rattle.term_writer.proofs.Bare.{IsWord, letters, symbols, exclamation, word_read, operator_word_is, symbols_read}
+use Rattle.term_writer.proofs.TextTokens.{Lexes, other_first, variable_first, token_front, list_opens, list_closes, curly_opens, curly_closes, word_token}
+use Rattle.term_writer.proofs.TextTokens.{word_other, quoted_other, integer_other, Follows, before_open, chars_ascii}
+use Rattle.term_writer.proofs.BareWords.{IsWord, letters, symbols, exclamation, word_read, operator_word_is, symbols_read}
 use Rattle.term_writer.proofs.Derivations.{text_is}
 
 -- ---- names that stand bare
@@ -58,10 +59,12 @@ unfolding is_symbol
 minus_word = refl
 
 module _ (vars : ℕ → List ℕ) (stopped : Bool) (tight : Bool) where
-  pub word_lexes : (w r : List ℕ) (ts : List Terminal) → IsWord w → Follows r → (ends_with_symbol w && starts_with_symbol r) ≡ false → Lexes vars stopped true r ts → Lexes vars stopped tight (w ++ r) (word_token w ∷ ts)
+  pub word_lexes : (w r : List ℕ) (ts : List Terminal) → IsWord w → Follows r → (ends_with_symbol w && starts_with_symbol r) ≡ false
+      → Lexes vars stopped true r ts → Lexes vars stopped tight (w ++ r) (word_token w ∷ ts)
   word_lexes w r ts k f t h = other_first vars stopped tight Word w r (word_token w) ts (word_read r k f t) (λ p. word_other w p tight) h
 
-  named_lexes : (w r : List ℕ) (ts : List Terminal) → IsWord w → is_operator w ≡ false → Follows r → (ends_with_symbol w && starts_with_symbol r) ≡ false → Lexes vars stopped true r ts → Lexes vars stopped tight (w ++ r) (name 0 w ∷ ts)
+  named_lexes : (w r : List ℕ) (ts : List Terminal) → IsWord w → is_operator w ≡ false → Follows r → (ends_with_symbol w && starts_with_symbol r) ≡ false
+      → Lexes vars stopped true r ts → Lexes vars stopped tight (w ++ r) (name 0 w ∷ ts)
   named_lexes w r ts k o f t h = subst (λ (y : Terminal). Lexes vars stopped tight (w ++ r) (y ∷ ts)) (named_token w o) (word_lexes w r ts k f t h)
 
   quoted_lexes : (a : Name) (r : List ℕ) (ts : List Terminal) → IsUtf8 a → Follows r → Lexes vars stopped true r ts → Lexes vars stopped tight (quoted_name a ++ r) (name 0 a ∷ ts)
@@ -77,18 +80,24 @@ module _ (vars : ℕ → List ℕ) (stopped : Bool) (tight : Bool) where
       go true l t = let w = bare_word a u l e k in named_lexes a r ts w.0 w.1 f t h
       go false l t = quoted_lexes a r ts u f h
 
-  nil_atom : (a : Name) (r : List ℕ) (ts : List Terminal) → bytes_eq a (codes "[]") ≡ true → Lexes vars stopped true r ts → Lexes vars stopped tight (atom_text writing.Quoted a ++ r) (open_list 0 ∷ close_list ∷ ts)
+  nil_atom : (a : Name) (r : List ℕ) (ts : List Terminal) → bytes_eq a (codes "[]") ≡ true → Lexes vars stopped true r ts
+      → Lexes vars stopped tight (atom_text writing.Quoted a ++ r) (open_list 0 ∷ close_list ∷ ts)
   nil_atom a r ts e h =
-      let bare : is_bare a ≡ true = or_right ((is_letter_word a || is_symbol_word a) && not (is_operator a)) (bytes_eq a (codes "[]") || (bytes_eq a (codes "{}") || bytes_eq a (codes "!"))) (or_left (bytes_eq a (codes "[]")) (bytes_eq a (codes "{}") || bytes_eq a (codes "!")) e) in
+      let bare : is_bare a ≡ true = or_right ((is_letter_word a || is_symbol_word a) && not (is_operator a))
+      (bytes_eq a (codes "[]") || (bytes_eq a (codes "{}") || bytes_eq a (codes "!")))
+      (or_left (bytes_eq a (codes "[]")) (bytes_eq a (codes "{}") || bytes_eq a (codes "!")) e) in
       let text : atom_text writing.Quoted a ≡ 91 ∷ 93 ∷ [] = ap (λ (b : Bool). cond b a (quoted_name a)) bare ∙ text_is a (codes "[]") e in
-      subst (λ (w : List ℕ). Lexes vars stopped tight (w ++ r) (open_list 0 ∷ close_list ∷ ts)) (sym text) (list_opens vars stopped tight (93 ∷ r) (close_list ∷ ts) (list_closes vars stopped true r ts h))
+      subst (λ (w : List ℕ). Lexes vars stopped tight (w ++ r) (open_list 0 ∷ close_list ∷ ts)) (sym text)
+      (list_opens vars stopped tight (93 ∷ r) (close_list ∷ ts) (list_closes vars stopped true r ts h))
 
-  curly_atom : (a : Name) (r : List ℕ) (ts : List Terminal) → bytes_eq a (codes "{}") ≡ true → Lexes vars stopped true r ts → Lexes vars stopped tight (atom_text writing.Quoted a ++ r) (open_curly 0 ∷ close_curly ∷ ts)
+  curly_atom : (a : Name) (r : List ℕ) (ts : List Terminal) → bytes_eq a (codes "{}") ≡ true → Lexes vars stopped true r ts
+      → Lexes vars stopped tight (atom_text writing.Quoted a ++ r) (open_curly 0 ∷ close_curly ∷ ts)
   curly_atom a r ts e h =
       let bare : is_bare a ≡ true = or_right ((is_letter_word a || is_symbol_word a) && not (is_operator a)) (bytes_eq a (codes "[]") || (bytes_eq a (codes "{}") || bytes_eq a (codes "!")))
       (or_right (bytes_eq a (codes "[]")) (bytes_eq a (codes "{}") || bytes_eq a (codes "!")) (or_left (bytes_eq a (codes "{}")) (bytes_eq a (codes "!")) e)) in
       let text : atom_text writing.Quoted a ≡ 123 ∷ 125 ∷ [] = ap (λ (b : Bool). cond b a (quoted_name a)) bare ∙ text_is a (codes "{}") e in
-      subst (λ (w : List ℕ). Lexes vars stopped tight (w ++ r) (open_curly 0 ∷ close_curly ∷ ts)) (sym text) (curly_opens vars stopped tight (125 ∷ r) (close_curly ∷ ts) (curly_closes vars stopped true r ts h))
+      subst (λ (w : List ℕ). Lexes vars stopped tight (w ++ r) (open_curly 0 ∷ close_curly ∷ ts)) (sym text)
+      (curly_opens vars stopped tight (125 ∷ r) (close_curly ∷ ts) (curly_closes vars stopped true r ts h))
 
   pub atom_lexes : (a : Name) (r : List ℕ) (ts : List Terminal) → IsUtf8 a → Follows r → (ends_with_symbol (atom_text writing.Quoted a) && starts_with_symbol r) ≡ false → Lexes vars stopped true r ts
       → Lexes vars stopped tight (atom_text writing.Quoted a ++ r) (atom_tokens a ts)
@@ -124,7 +133,8 @@ module _ (vars : ℕ → List ℕ) (stopped : Bool) (tight : Bool) where
 
   -- ---- integers and variables
 
-  decimal_from : (n : ℕ) (ds r : List ℕ) (ts : List Terminal) → decimal n ≡ ds → IsUtf8 ds → chars ds ≡ ds → 0 < length ds → AllDigits 10 ds → digits_value 10 ds ≡ n → n ≤ greatest_integer → Follows r → Lexes vars stopped true r ts
+  decimal_from : (n : ℕ) (ds r : List ℕ) (ts : List Terminal) → decimal n ≡ ds → IsUtf8 ds → chars ds ≡ ds → 0 < length ds → AllDigits 10 ds
+      → digits_value 10 ds ≡ n → n ≤ greatest_integer → Follows r → Lexes vars stopped true r ts
       → Lexes vars stopped tight (ds ++ r) (integer 0 tight (pos n) ∷ ts)
   decimal_from n [] r ts e u same some all value le f h = absurd (omega arith)
   decimal_from n (d ∷ ds) r ts e u same some all value le f h =
@@ -133,7 +143,8 @@ module _ (vars : ℕ → List ℕ) (stopped : Bool) (tight : Bool) where
       let here : front_of ((d ∷ ds) ++ r) ≡ Token (Integer (pos n)) (length (d ∷ ds)) = subst (λ (v : ℕ). front_of ((d ∷ ds) ++ r) ≡ Token (Integer (pos v)) (length (d ∷ ds))) value front in
       other_first vars stopped tight (Integer (pos n)) (d ∷ ds) r (integer 0 tight (pos n)) ts here (λ p. integer_other (d ∷ ds) (pos n) p tight) h
 
-  pub decimal_lexes : (n : ℕ) (r : List ℕ) (ts : List Terminal) → n ≤ greatest_integer → Follows r → Lexes vars stopped true r ts → Lexes vars stopped tight (decimal n ++ r) (integer 0 tight (pos n) ∷ ts)
+  pub decimal_lexes : (n : ℕ) (r : List ℕ) (ts : List Terminal) → n ≤ greatest_integer → Follows r → Lexes vars stopped true r ts
+      → Lexes vars stopped tight (decimal n ++ r) (integer 0 tight (pos n) ∷ ts)
   decimal_lexes n r ts le f h =
       let small : n < 2 ^ 64 = omega arith in
       let num = decimal_is_IsNumeral n small in
@@ -153,14 +164,16 @@ digit_stops (d ∷ ds) r h some e u =
     subst (stops is_symbol) (sym (chars_ascii d (ds ++ r) (digit_is d (lt-ltb (digit_value d) 10 h.0)).low)) (digit_is d (lt-ltb (digit_value d) 10 h.0)).symbol
 
 module _ (vars : ℕ → List ℕ) (stopped : Bool) (tight : Bool) where
-  pub negative_lexes : (n : ℕ) (r : List ℕ) (ts : List Terminal) → n ≤ greatest_integer → Follows r → Lexes vars stopped true r ts → Lexes vars stopped tight (45 ∷ (decimal n ++ r)) (operator_word 0 (codes "-") ∷ integer 0 true (pos n) ∷ ts)
+  pub negative_lexes : (n : ℕ) (r : List ℕ) (ts : List Terminal) → n ≤ greatest_integer → Follows r → Lexes vars stopped true r ts
+      → Lexes vars stopped tight (45 ∷ (decimal n ++ r)) (operator_word 0 (codes "-") ∷ integer 0 true (pos n) ∷ ts)
   negative_lexes n r ts le f h =
       let small : n < 2 ^ 64 = omega arith in
       let num = decimal_is_IsNumeral n small in
       let ascii = IsAscii-decimal n small in
       let stop = digit_stops (decimal n) r num.0.1 num.0.0 (chars-IsAscii (decimal n) ascii) (IsUtf8-from_ascii (decimal n) ascii) in
       subst (λ (y : Terminal). Lexes vars stopped tight (45 ∷ (decimal n ++ r)) (y ∷ integer 0 true (pos n) ∷ ts)) (operator_token (45 ∷ []) minus_operator)
-      (other_first vars stopped tight Word (45 ∷ []) (decimal n ++ r) (word_token (45 ∷ [])) (integer 0 true (pos n) ∷ ts) (symbols_read (45 ∷ []) (decimal n ++ r) minus_word stop) (λ p. word_other (45 ∷ []) p tight)
+      (other_first vars stopped tight Word (45 ∷ []) (decimal n ++ r) (word_token (45 ∷ [])) (integer 0 true (pos n) ∷ ts)
+      (symbols_read (45 ∷ []) (decimal n ++ r) minus_word stop) (λ p. word_other (45 ∷ []) p tight)
       (decimal_lexes vars stopped true n r ts le f h))
 
   pub variable_lexes : (x : ℕ) (r : List ℕ) (ts : List Terminal) → IsVariable (vars x) → Follows r → Lexes vars stopped true r ts → Lexes vars stopped tight (vars x ++ r) (variable 0 x ∷ ts)

@@ -1,5 +1,6 @@
 -- The numbers that the variables of a sentence have in the end.
-use Rattle.std.proofs.Common.{◌≡◌, ◌∙◌, ℕ, suc, ◌+◌, List, [], ◌∷◌, ◌++◌, Bool, true, false, cond, Some, refl, sym, ap, subst, arith, length, append_assoc, append-nil}
+use Rattle.std.proofs.Common.{◌≡◌, ◌∙◌, ℕ, suc, ◌+◌, List, [], ◌∷◌, ◌++◌, Bool, true, false, cond, Some, refl, sym, ap, subst, arith, length, append_assoc}
+use Rattle.std.proofs.Common.{append-nil}
 use Rattle.std.specs.Prelude.{◌||◌, slice_get}
 use Rattle.std.specs.List.{position_or_len, list_any}
 use Rattle.std.specs.Str.{bytes_eq}
@@ -8,7 +9,8 @@ use Rattle.std.proofs.lemmas.Slice.Eq.{bytes_eq-Decides}
 use Rattle.fd_language.specs.Term.{Name}
 use Rattle.fd_language.specs.Tokens.{Kind, Variable, Lexeme}
 use Rattle.fd_language.specs.Terminals.{Terminal, variable, stop}
-use Rattle.fd_language.specs.Reading.{is_anonymous, variable_number, with_variable, terminal_by, terminal_of, terminals, names_by, names_behind, ended_by, sentence_names}
+use Rattle.fd_language.specs.Reading.{is_anonymous, variable_number, with_variable, terminal_by, terminal_of, terminals, names_by, names_behind, ended_by}
+use Rattle.fd_language.specs.Reading.{sentence_names}
 use Rattle.term_writer.proofs.OtherPlaces.{IsNumbered, Alike, like_variable, like_stop, AllAlike, no_token, and}
 use Rattle.term_writer.proofs.TextTokens.{Spelt, at_end, at_stop, at_variable, at_other}
 
@@ -127,5 +129,6 @@ module _ (vars : ℕ → List ℕ) where
   unfolding final
   one_sentence (at_stop {l = l} k) names = ap (λ (x : Kind). ended_by x names []) k
   one_sentence (at_variable {l = l} {ls = ls} x k t a s) names =
-      ap (λ (y : Kind). ended_by y names (sentence_names (names_behind names l) ls)) k ∙ ap (λ (ns : List Name). sentence_names ns ls) (variable_behind l names x k t) ∙ one_sentence s (with_variable names (vars x))
+      ap (λ (y : Kind). ended_by y names (sentence_names (names_behind names l) ls)) k
+      ∙ ap (λ (ns : List Name). sentence_names ns ls) (variable_behind l names x k t) ∙ one_sentence s (with_variable names (vars x))
   one_sentence (at_other {l = l} {ls = ls} o s) names = o.still names (sentence_names (names_behind names l) ls) ∙ ap (λ (ns : List Name). sentence_names ns ls) (o.keeps names) ∙ one_sentence s names

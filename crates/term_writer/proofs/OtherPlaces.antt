@@ -3,9 +3,12 @@ use Rattle.std.proofs.Common.{◌≡◌, ◌∙◌, ℕ, ℤ, ◌≤◌, List, [
 use Rattle.fd_language.specs.Term.{Name}
 use Rattle.fd_language.specs.PlacedTerm.{PlacedTerm, PlacedTerms, var, int, atom, comp, no_parts, part, one, two}
 use Rattle.fd_language.specs.Operators.{Operator, left_limit, right_limit, prefix_of}
-use Rattle.fd_language.specs.Terminals.{Terminal, name, operator_word, variable, integer, opens, closes, open_list, close_list, open_curly, close_curly, comma, bar, stop, infix_operator, is_tight_open, is_negated, may_follow}
+use Rattle.fd_language.specs.Terminals.{Terminal, name, operator_word, variable, integer, opens, closes, open_list, close_list, open_curly, close_curly, comma}
+use Rattle.fd_language.specs.Terminals.{bar, stop, infix_operator, is_tight_open, is_negated, may_follow}
 use Rattle.term_writer.specs.TextReadings.{number_among}
-use Rattle.fd_language.specs.Grammar.{nil_name, curly_name, list_of, Reads, an_integer, a_negative, a_variable, an_atom, empty_list, empty_curly, named_call, operator_call, in_parens, operator_in_parens, a_list, a_list_tail, in_curly, a_prefix, an_infix, Arg, a_term, an_operator, Args, last, more}
+use Rattle.fd_language.specs.Grammar.{nil_name, curly_name, list_of, Reads, an_integer, a_negative, a_variable, an_atom, empty_list, empty_curly, named_call}
+use Rattle.fd_language.specs.Grammar.{operator_call, in_parens, operator_in_parens, a_list, a_list_tail, in_curly, a_prefix, an_infix, Arg, a_term, an_operator}
+use Rattle.fd_language.specs.Grammar.{Args, last, more}
 
 -- m is the number at which the text of the variable x stands among the names
 pub record IsNumbered (vars : ℕ → List ℕ) (names : List Name) (x m : ℕ) : Type 0 where
@@ -108,10 +111,12 @@ module _ (vars : ℕ → List ℕ) (names : List Name) where
   listed : (p q : ℕ) {ts rest : List Terminal} {us : PlacedTerms} → MovedArgs ts (close_list ∷ rest) us → Moved (open_list q ∷ ts) rest 0 (list_of p us (atom nil_name p))
   listed p q (moved_args (and like_close_list k) d s) = moved k (a_list d) (list_stands p q s same_atom)
 
-  ended : (p q : ℕ) {ts zs rest : List Terminal} {us vs : PlacedTerms} {t : PlacedTerm} → Args ts (bar ∷ zs) vs → AllStand vars names us vs → MovedArg zs (close_list ∷ rest) t → Moved (open_list q ∷ ts) rest 0 (list_of p us t)
+  ended : (p q : ℕ) {ts zs rest : List Terminal} {us vs : PlacedTerms} {t : PlacedTerm} → Args ts (bar ∷ zs) vs → AllStand vars names us vs
+      → MovedArg zs (close_list ∷ rest) t → Moved (open_list q ∷ ts) rest 0 (list_of p us t)
   ended p q d s (moved_arg (and like_close_list k) e r) = moved k (a_list_tail d e) (list_stands p q s r)
 
-  tailed : (p q : ℕ) {ts zs rest : List Terminal} {us : PlacedTerms} {t : PlacedTerm} → MovedArgs ts (bar ∷ zs) us → ((ws : List Terminal) → AllAlike vars names zs ws → MovedArg ws (close_list ∷ rest) t)
+  tailed : (p q : ℕ) {ts zs rest : List Terminal} {us : PlacedTerms} {t : PlacedTerm} → MovedArgs ts (bar ∷ zs) us
+      → ((ws : List Terminal) → AllAlike vars names zs ws → MovedArg ws (close_list ∷ rest) t)
       → Moved (open_list q ∷ ts) rest 0 (list_of p us t)
   tailed p q (moved_args (and {ys = ys} like_bar k) d s) later = ended p q d s (later ys k)
 
@@ -130,7 +135,8 @@ module _ (vars : ℕ → List ℕ) (names : List Name) where
   others : {p : ℕ} {ts zs rest : List Terminal} {t u : PlacedTerm} {us : PlacedTerms} → Arg ts (comma p ∷ zs) u → Stands vars names t u → MovedArgs zs rest us → MovedArgs ts rest (part t us)
   others d s (moved_args k ds ss) = moved_args k (more d ds) (same_part s ss)
 
-  first_arg : {p : ℕ} {ts zs rest : List Terminal} {t : PlacedTerm} {us : PlacedTerms} → MovedArg ts (comma p ∷ zs) t → ((ws : List Terminal) → AllAlike vars names zs ws → MovedArgs ws rest us) → MovedArgs ts rest (part t us)
+  first_arg : {p : ℕ} {ts zs rest : List Terminal} {t : PlacedTerm} {us : PlacedTerms} → MovedArg ts (comma p ∷ zs) t
+      → ((ws : List Terminal) → AllAlike vars names zs ws → MovedArgs ws rest us) → MovedArgs ts rest (part t us)
   first_arg (moved_arg (and {ys = ys} like_comma k) d s) later = others d s (later ys k)
 
   last_arg : {ts rest : List Terminal} {t : PlacedTerm} → MovedArg ts rest t → MovedArgs ts rest (one t)

@@ -1,5 +1,6 @@
 -- Names in quotes, from their bytes to the names.
-use Rattle.std.proofs.Common.{◌≡◌, ◌∙◌, ℕ, suc, ◌+◌, ◌<◌, ◌≤◌, ◌⊎◌, inl, inr, List, [], ◌∷◌, ◌++◌, Bool, true, false, refl, sym, ap, arith, append_assoc, length, get_or, length-append}
+use Rattle.std.proofs.Common.{◌≡◌, ◌∙◌, ℕ, suc, ◌+◌, ◌<◌, ◌≤◌, ◌⊎◌, inl, inr, List, [], ◌∷◌, ◌++◌, Bool, true, false, refl, sym, ap, arith, append_assoc}
+use Rattle.std.proofs.Common.{length, get_or, length-append}
 use Rattle.std.specs.Prelude.{◌==◌, nat_lt, IsUtf8}
 use Rattle.std.specs.Fmt.{digits}
 use Rattle.std.specs.List.{list_all}
@@ -12,8 +13,8 @@ use lib.Utf8.{encode, encodes}
 use Rattle.fd_language.specs.Term.{Name}
 use Rattle.fd_language.specs.Characters.{starts_with, tail}
 use Rattle.fd_language.specs.Tokens.{Token, Quoted, Between, quoted_spells, front_of, front_by, unquoted}
-use Rattle.fd_language.specs.Writing.{quoted_byte, quoted_bytes, quoted_name}
-use Rattle.term_writer.proofs.Quoting.{stands, all_front, all_spells}
+use Rattle.fd_language.specs.TermTexts.{quoted_byte, quoted_bytes, quoted_name}
+use Rattle.term_writer.proofs.QuotedCharacters.{stands, all_front, all_spells}
 use Rattle.fd_language.proofs.Lemmas.{size, size-append, ends_here, quote_front}
 
 is_low : ℕ → Bool

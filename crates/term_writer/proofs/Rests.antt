@@ -4,12 +4,12 @@ use Rattle.std.specs.Prelude.{All, codes}
 use Rattle.std.specs.Str.{bytes_eq}
 use Rattle.fd_language.specs.Term.{Name, Term, Var, Int, Atom, Comp}
 use Rattle.fd_language.specs.Operators.{Operator, infix_of}
-use Rattle.fd_language.specs.Writing.{Mode, TermText, spelled, spelled_alone, spelled_infix, atom_text, call_text}
+use Rattle.fd_language.specs.TermTexts.{Mode, TermText, spelled, spelled_alone, spelled_infix, atom_text, call_text}
 use Rattle.term_pool.specs.declared.TermId.{TermId}
 use Rattle.term_pool.specs.Contents.{Contents}
 use Rattle.term_pool.specs.Terms.{terms_by, term_of}
 use Rattle.name_syntax.specs.declared.operators.Operator.{Operator as CodeOperator}
-use Rattle.term_writer.specs.declared.pieces.Form.TheVariants as form
+use Rattle.term_writer.specs.declared.pieces.CompoundForm.TheVariants as form
 use Rattle.term_writer.specs.declared.pieces.Rest.TheVariants as rest
 use Rattle.term_writer.specs.Pieces.{IsForm, IsRest, weight}
 use Rattle.term_writer.proofs.Steps.{first_within, second_within}
@@ -52,7 +52,10 @@ module _ (c : Contents) (t : TermId) where
         tail_as (Comp f (terms_by (term_of c) (u ∷ v ∷ []))) (as_parts (u ∷ v ∷ []) h.0) (λ mode vars.
         let x : TermText = spelled mode vars (term_of c u) in
         let y : TermText = spelled mode vars (term_of c v) in
-        subst (λ (b : Bool). IsTail (cond b (record { at = λ limit. codes "[" ++ (x.at 999 ++ (y.rest ++ codes "]")); rest = codes "," ++ (x.at 999 ++ y.rest) }) (spelled_infix mode f (infix_of f) x y))) (sym h.1)
+        subst (λ (b : Bool). IsTail (cond b (record {
+          at = λ limit. codes "[" ++ (x.at 999 ++ (y.rest ++ codes "]"));
+          rest = codes "," ++ (x.at 999 ++ y.rest);
+        }) (spelled_infix mode f (infix_of f) x y))) (sym h.1)
         (subst (λ (o : Option Operator). IsTail (spelled_infix mode f o x y)) (sym h.2) refl))
 
     pub rest_call : IsForm f ts form.Call → IsRest c t rest.Tail
@@ -69,6 +72,7 @@ module _ (c : Contents) (t : TermId) where
               let x : TermText = spelled mode vars (term_of c u) in
               let y : TermText = spelled mode vars (term_of c v) in
               ap (λ (z : Term). (spelled mode vars z).rest) is
-              ∙ ap (λ (b : Bool). (cond b (record { at = λ limit. codes "[" ++ (x.at 999 ++ (y.rest ++ codes "]")); rest = codes "," ++ (x.at 999 ++ y.rest) }) (spelled_infix mode f (infix_of f) x y)).rest) h.1;
+              ∙ ap (λ (b : Bool). (cond b (record { at = λ limit. codes "[" ++ (x.at 999 ++ (y.rest ++ codes "]")); rest = codes "," ++ (x.at 999 ++ y.rest) })
+              (spelled_infix mode f (infix_of f) x y)).rest) h.1;
           lighter = omega (arith, ap weight is);
         }

@@ -10,18 +10,20 @@ use Rattle.fd_language.specs.Characters.{is_symbol, is_punct, begins_variable}
 use Rattle.fd_language.specs.Operators.{Operator, prefix_operators, prefix_of}
 use Rattle.fd_language.specs.Family.{has}
 use Rattle.fd_language.specs.Variables.{variables_of, variables_of_all}
-use Rattle.fd_language.specs.Writing.{Quoted, term_text, starts_with_symbol}
+use Rattle.fd_language.specs.TermTexts.{Quoted, term_text, starts_with_symbol}
 use Rattle.fd_language.specs.Tokens.{Stop, Token, front_at, ended, after_token}
 use Rattle.fd_language.specs.Terminals.{Terminal, stop}
-use Rattle.fd_language.specs.Grammar.{Reads, an_integer, a_negative, a_variable, an_atom, empty_list, empty_curly, named_call, operator_call, in_parens, operator_in_parens, a_list, a_list_tail, in_curly, a_prefix, an_infix, none, next}
+use Rattle.fd_language.specs.Grammar.{Reads, an_integer, a_negative, a_variable, an_atom, empty_list, empty_curly, named_call, operator_call, in_parens}
+use Rattle.fd_language.specs.Grammar.{operator_in_parens, a_list, a_list_tail, in_curly, a_prefix, an_infix, none, next}
 use Rattle.fd_language.specs.Reading.{terminals}
 use Rattle.fd_language.proofs.Lemmas.{within_infix, has_either, front_empty}
 use Rattle.term_writer.specs.SpelledTerms.{placed, all_placed, tokens_of, HasArguments, AllHaveArguments, Within}
 use Rattle.term_writer.specs.TextReadings.{IsReadable, AllReadable, number_among, Derives, IsSentenceOf, WrittenIsRead}
 use Rattle.term_writer.proofs.Derivations.{spelled_is_read}
-use Rattle.term_writer.proofs.OtherPlaces.{IsNumbered, and, no_token, like_stop, Stands, same_var, same_int, same_atom, same_comp, AllStand, same_none, same_part, Moved, moved, move}
+use Rattle.term_writer.proofs.OtherPlaces.{IsNumbered, and, no_token, like_stop, Stands, same_var, same_int, same_atom, same_comp, AllStand, same_none}
+use Rattle.term_writer.proofs.OtherPlaces.{same_part, Moved, moved, move}
 use Rattle.term_writer.proofs.TextTokens.{at_end, at_stop, Lexes, LexesAt, ascii_front, space, Follows, before_space}
-use Rattle.term_writer.proofs.Bare.{found_in}
+use Rattle.term_writer.proofs.BareWords.{found_in}
 use Rattle.term_writer.proofs.TermTokens.{no_symbol, apart_from}
 use Rattle.term_writer.proofs.Joins.{symbol_space}
 use Rattle.std.proofs.lemmas.Str.{chars-nil}

@@ -1,5 +1,6 @@
 -- What each form of a term is written as, and the pieces that are left.
-use Rattle.std.proofs.Common.{◌≡◌, ◌∙◌, ℕ, ◌+◌, ◌<◌, List, [], ◌∷◌, ◌++◌, length, Bool, true, false, cond, Option, Some, None, refl, sym, ap, subst, arith, append_assoc}
+use Rattle.std.proofs.Common.{◌≡◌, ◌∙◌, ℕ, ◌+◌, ◌<◌, List, [], ◌∷◌, ◌++◌, length, Bool, true, false, cond, Option, Some, None, refl, sym, ap, subst, arith}
+use Rattle.std.proofs.Common.{append_assoc}
 use Rattle.std.specs.Prelude.{All, codes, find, not, nat_le}
 use Rattle.std.specs.Str.{bytes_eq}
 use Rattle.std.specs.List.{list_all}
@@ -9,7 +10,8 @@ use Rattle.std.proofs.lemmas.Bool.{and_parts, not-true}
 use Rattle.fd_language.specs.Characters.{is_symbol}
 use Rattle.fd_language.specs.Term.{Name, Term, Var, Int, Atom, Comp}
 use Rattle.fd_language.specs.Operators.{Operator, infix_operators, infix_of, left_limit, right_limit}
-use Rattle.fd_language.specs.Writing.{Mode, TermText, spelled, spelled_each, spelled_alone, spelled_compound, spelled_two, spelled_infix, spelled_atom, infix_text, call_text, functor_text, arguments_text, starts_with_symbol, is_empty_name, between}
+use Rattle.fd_language.specs.TermTexts.{Mode, TermText, spelled, spelled_each, spelled_alone, spelled_compound, spelled_two, spelled_infix, spelled_atom}
+use Rattle.fd_language.specs.TermTexts.{infix_text, call_text, functor_text, arguments_text, starts_with_symbol, is_empty_name, between}
 use Rattle.term_pool.specs.declared.TermId.{TermId}
 use Rattle.term_pool.specs.Contents.{Contents}
 use Rattle.term_pool.specs.Terms.{terms_by, term_of}
@@ -94,7 +96,10 @@ compound_rest mode f (x ∷ y ∷ []) = go (bytes_eq f (codes "."))
     other None = plain_bar
     other (Some o) = plain_bar
 
-    go : (b : Bool) → starts_with_symbol (cond b (record { at = λ limit. codes "[" ++ (x.at 999 ++ (y.rest ++ codes "]")); rest = codes "," ++ (x.at 999 ++ y.rest) }) (spelled_infix mode f (infix_of f) x y)).rest ≡ false
+    go : (b : Bool) → starts_with_symbol (cond b (record {
+      at = λ limit. codes "[" ++ (x.at 999 ++ (y.rest ++ codes "]"));
+      rest = codes "," ++ (x.at 999 ++ y.rest);
+    }) (spelled_infix mode f (infix_of f) x y)).rest ≡ false
     go true = plain_comma
     go false = other (infix_of f)
 compound_rest mode f (x ∷ y ∷ z ∷ xs) = plain_bar
@@ -145,7 +150,8 @@ module _ (c : Contents) (mode : Mode) (vars : ℕ → List ℕ) where
   curly f ts t limit text old new closing opening pushed k o all e is =
       let a : List ℕ = (spelled mode vars (term_of c t)).at 1200 in
       let one = subst (All (λ t. t.number < length c.entries)) e all in
-      subst (λ (us : List TermId). Replaces c mode vars ((spelled_compound mode f (spelled_each mode vars (terms_by (term_of c) us))).at limit) (8 + weights (terms_by (term_of c) us)) text old text new) (sym e)
+      subst (λ (us : List TermId). Replaces c mode vars ((spelled_compound mode f (spelled_each mode vars (terms_by (term_of c) us))).at limit)
+      (8 + weights (terms_by (term_of c) us)) text old text new) (sym e)
       (record {
         more = closing ∷ piece.Term t 1200 ∷ opening ∷ [];
         pushed = pushed;
@@ -168,7 +174,8 @@ module _ (c : Contents) (mode : Mode) (vars : ℕ → List ℕ) where
       let y : TermText = spelled mode vars (term_of c u) in
       let both = subst (All (λ t. t.number < length c.entries)) e all in
       let front : joined (x.at 999) y.rest ≡ x.at 999 ++ y.rest = join_right (x.at 999) y.rest (rest_plain mode vars (term_of c u)) in
-      subst (λ (us : List TermId). Replaces c mode vars ((spelled_compound mode f (spelled_each mode vars (terms_by (term_of c) us))).at limit) (8 + weights (terms_by (term_of c) us)) text old text new) (sym e)
+      subst (λ (us : List TermId). Replaces c mode vars ((spelled_compound mode f (spelled_each mode vars (terms_by (term_of c) us))).at limit)
+      (8 + weights (terms_by (term_of c) us)) text old text new) (sym e)
       (record {
         more = closing ∷ piece.Rest u ∷ piece.Term t 999 ∷ opening ∷ [];
         pushed = pushed;
@@ -178,7 +185,10 @@ module _ (c : Contents) (mode : Mode) (vars : ℕ → List ℕ) where
             ∙ ap (λ (w : List ℕ). joined (joined (joined text (codes "[")) w) (codes "]")) front
             ∙ bracketed text (x.at 999 ++ y.rest) 91 93 plain_open_list plain_close_list
             ∙ ap (λ (w : List ℕ). joined text (codes "[" ++ w)) (append_assoc (x.at 999) y.rest (codes "]"))
-            ∙ ap (λ (b : Bool). joined text ((cond b (record { at = λ limit. codes "[" ++ (x.at 999 ++ (y.rest ++ codes "]")); rest = codes "," ++ (x.at 999 ++ y.rest) }) (spelled_infix mode f (infix_of f) x y)).at limit)) (sym is);
+            ∙ ap (λ (b : Bool). joined text ((cond b (record {
+              at = λ limit. codes "[" ++ (x.at 999 ++ (y.rest ++ codes "]"));
+              rest = codes "," ++ (x.at 999 ++ y.rest);
+            }) (spelled_infix mode f (infix_of f) x y)).at limit)) (sym is);
         lighter = omega (arith, k.light, o.light);
         within = within_four c closing (piece.Rest u) (piece.Term t 999) opening k.within (second_within (length c.entries) t u [] both) (first_within (length c.entries) t (u ∷ []) both) o.within;
       })
@@ -205,10 +215,13 @@ module _ (c : Contents) (mode : Mode) (vars : ℕ → List ℕ) where
       ap (λ (n : ℕ). joined (x.at n) (joined w b)) low_is ∙ ap (λ (n : ℕ). joined (x.at (left_limit q)) (joined w (y.at n))) high_is
       ∙ sym (between_joined (x.at (left_limit q)) q.name (y.at (right_limit q)) (infix_name f q found)) in
       let inner : (s : List ℕ) → joined (joined (joined s a) w) b ≡ joined s middle = λ s. joined-assoc (joined s a) w b ∙ joined-assoc s a (joined w b) ∙ ap (joined s) same in
-      let closed : (n : Bool) → joined (joined (joined text (cond n [] (codes "("))) middle) (cond n [] (codes ")")) ≡ joined text (cond n middle (codes "(" ++ (middle ++ codes ")"))) = bracketed_if text middle in
+      let closed : (n : Bool) → joined (joined (joined text (cond n [] (codes "("))) middle) (cond n [] (codes ")")) ≡ joined text
+      (cond n middle (codes "(" ++ (middle ++ codes ")"))) = bracketed_if text middle in
       let form : (infix_text q x y limit) ≡ (spelled_two mode f x y).at limit =
-      sym (ap (λ (b : Bool). (cond b (record { at = λ limit. codes "[" ++ (x.at 999 ++ (y.rest ++ codes "]")); rest = codes "," ++ (x.at 999 ++ y.rest) }) (spelled_infix mode f (infix_of f) x y)).at limit) is ∙ ap (λ (o : Option Operator). (spelled_infix mode f o x y).at limit) found) in
-      subst (λ (us : List TermId). Replaces c mode vars ((spelled_compound mode f (spelled_each mode vars (terms_by (term_of c) us))).at limit) (8 + weights (terms_by (term_of c) us)) text old text new) (sym e)
+      sym (ap (λ (b : Bool). (cond b (record { at = λ limit. codes "[" ++ (x.at 999 ++ (y.rest ++ codes "]")); rest = codes "," ++ (x.at 999 ++ y.rest) })
+      (spelled_infix mode f (infix_of f) x y)).at limit) is ∙ ap (λ (o : Option Operator). (spelled_infix mode f o x y).at limit) found) in
+      subst (λ (us : List TermId). Replaces c mode vars ((spelled_compound mode f (spelled_each mode vars (terms_by (term_of c) us))).at limit)
+      (8 + weights (terms_by (term_of c) us)) text old text new) (sym e)
       (record {
         more = closing ∷ piece.Term u high ∷ op ∷ piece.Term t low ∷ opening ∷ [];
         pushed = pushed;
@@ -219,7 +232,8 @@ module _ (c : Contents) (mode : Mode) (vars : ℕ → List ℕ) where
             ∙ closed (nat_le r.priority limit)
             ∙ ap (joined text) form;
         lighter = omega (arith, k.light, p.light, o.light);
-        within = within_five c closing (piece.Term u high) op (piece.Term t low) opening k.within (second_within (length c.entries) t u [] both) p.within (first_within (length c.entries) t (u ∷ []) both) o.within;
+        within = within_five c closing (piece.Term u high) op (piece.Term t low) opening k.within (second_within (length c.entries) t u [] both) p.within
+            (first_within (length c.entries) t (u ∷ []) both) o.within;
       })
 
   -- a name with arguments
@@ -260,7 +274,8 @@ module _ (c : Contents) (mode : Mode) (vars : ℕ → List ℕ) where
   }
 
   -- a list ends
-  pub rest_ends : (t : TermId) (text : List ℕ) (old : List Piece) → (spelled mode vars (term_of c t)).rest ≡ [] → Replaces c mode vars (spelled mode vars (term_of c t)).rest (weight (term_of c t) + 2) text old text old
+  pub rest_ends : (t : TermId) (text : List ℕ) (old : List Piece) → (spelled mode vars (term_of c t)).rest ≡ []
+      → Replaces c mode vars (spelled mode vars (term_of c t)).rest (weight (term_of c t) + 2) text old text old
   rest_ends t text old e = done (spelled mode vars (term_of c t)).rest (weight (term_of c t) + 2) text text old (omega arith) (sym (ap (joined text) e ∙ joined-nil text))
 
   -- a further element

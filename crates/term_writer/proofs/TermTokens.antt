@@ -12,12 +12,14 @@ use Rattle.fd_language.specs.Characters.{is_symbol}
 use Rattle.fd_language.specs.Operators.{Operator, infix_of, prefix_of, is_operator, left_limit, right_limit}
 use Rattle.fd_language.specs.Tokens.{Word}
 use Rattle.fd_language.specs.Terminals.{Terminal, operator_word, close_list, comma}
-use Rattle.fd_language.specs.Writing.{is_letter_word, is_symbol_word, is_empty_name, starts_with_symbol, ends_with_symbol, gap_between, between, TermText, spelled_by}
+use Rattle.fd_language.specs.TermTexts.{is_letter_word, is_symbol_word, is_empty_name, starts_with_symbol, ends_with_symbol, gap_between, between, TermText}
+use Rattle.fd_language.specs.TermTexts.{spelled_by}
 use Rattle.term_writer.specs.SpelledTerms.{InTokens, after_bar, operands, operator_terminal}
 use Rattle.term_writer.proofs.Derivations.{infix_stands, text_is}
 use Rattle.term_writer.proofs.Joins.{symbol_space}
-use Rattle.term_writer.proofs.TextTokens.{Lexes, other_first, space, list_closes, comma_first, bar_first, word_token, word_other, Follows, before_space, before_list_end, before_comma, before_bar}
-use Rattle.term_writer.proofs.Bare.{IsWord, letters, symbols, exclamation, semicolon, sign_read, sign_follows, infix_kind}
+use Rattle.term_writer.proofs.TextTokens.{Lexes, other_first, space, list_closes, comma_first, bar_first, word_token, word_other, Follows, before_space}
+use Rattle.term_writer.proofs.TextTokens.{before_list_end, before_comma, before_bar}
+use Rattle.term_writer.proofs.BareWords.{IsWord, letters, symbols, exclamation, semicolon, sign_read, sign_follows, infix_kind}
 use Rattle.term_writer.proofs.Leaves.{word_lexes, operator_token}
 use Rattle.term_writer.proofs.Beginnings.{Begins, starts_before, some_behind, ends_behind, begins_before, some_name}
 
@@ -51,24 +53,30 @@ module _ (vars : ℕ → List ℕ) (stopped : Bool) where
   -- a term's text has its tokens, alone and as what follows an element of a list
   pub record Lexed (sp : TermText) (tk : InTokens) : Type 0 where
     pub begins : (limit : ℕ) → Begins (sp.at limit)
-    pub at : (tight flag : Bool) (limit : ℕ) (r : List ℕ) (ts : List Terminal) → Agrees (sp.at limit) tight flag → Follows r → Apart (sp.at limit) r → Lexes vars stopped true r ts → Lexes vars stopped tight (sp.at limit ++ r) (tk.at flag limit ts)
+    pub at : (tight flag : Bool) (limit : ℕ) (r : List ℕ) (ts : List Terminal) → Agrees (sp.at limit) tight flag → Follows r → Apart (sp.at limit) r
+        → Lexes vars stopped true r ts → Lexes vars stopped tight (sp.at limit ++ r) (tk.at flag limit ts)
     pub rest : (r : List ℕ) (ts : List Terminal) → Lexes vars stopped true r ts → Lexes vars stopped true (sp.rest ++ 93 ∷ r) (tk.rest ts)
     pub behind : (r : List ℕ) → Behind (sp.rest ++ 93 ∷ r)
 
   abbrev pub LexedAt : (ℕ → List ℕ) → (Bool → ℕ → List Terminal → List Terminal) → Type 0
-  LexedAt text tokens = (tight flag : Bool) (limit : ℕ) (r : List ℕ) (ts : List Terminal) → Agrees (text limit) tight flag → Follows r → Apart (text limit) r → Lexes vars stopped true r ts → Lexes vars stopped tight (text limit ++ r) (tokens flag limit ts)
+  LexedAt text tokens = (tight flag : Bool) (limit : ℕ) (r : List ℕ) (ts : List Terminal) → Agrees (text limit) tight flag → Follows r → Apart (text limit) r
+      → Lexes vars stopped true r ts → Lexes vars stopped tight (text limit ++ r) (tokens flag limit ts)
 
   -- as the tail of a list
-  pub barred : (text : ℕ → List ℕ) (tokens : Bool → ℕ → List Terminal → List Terminal) → ((limit : ℕ) → Begins (text limit)) → LexedAt text tokens → Lexed (spelled_by text) (record { at = tokens; rest = after_bar tokens })
+  pub barred : (text : ℕ → List ℕ) (tokens : Bool → ℕ → List Terminal → List Terminal) → ((limit : ℕ) → Begins (text limit)) → LexedAt text tokens
+      → Lexed (spelled_by text) (record { at = tokens; rest = after_bar tokens })
   barred text tokens b h = record {
     begins = b;
     at = h;
-    rest = λ r ts l. bar_first vars stopped true (text 999 ++ 93 ∷ r) (tokens true 999 (close_list ∷ ts)) (h true true 999 (93 ∷ r) (close_list ∷ ts) (inl refl) (before_list_end r) (no_symbol 93 plain_close_list (text 999) r) (list_closes vars stopped true r ts l));
+    rest = λ r ts l. bar_first vars stopped true (text 999 ++ 93 ∷ r) (tokens true 999 (close_list ∷ ts))
+        (h true true 999 (93 ∷ r) (close_list ∷ ts) (inl refl) (before_list_end r) (no_symbol 93 plain_close_list (text 999) r)
+        (list_closes vars stopped true r ts l));
     behind = λ r. record { follows = before_bar (text 999 ++ 93 ∷ r); apart = plain_bar };
   }
 
   -- the same tokens in other words
-  pub relabel : (sp : TermText) (tk us : InTokens) → ((tight : Bool) (limit : ℕ) (ts : List Terminal) → tk.at tight limit ts ≡ us.at tight limit ts) → ((ts : List Terminal) → tk.rest ts ≡ us.rest ts) → Lexed sp tk → Lexed sp us
+  pub relabel : (sp : TermText) (tk us : InTokens) → ((tight : Bool) (limit : ℕ) (ts : List Terminal) → tk.at tight limit ts ≡ us.at tight limit ts)
+      → ((ts : List Terminal) → tk.rest ts ≡ us.rest ts) → Lexed sp tk → Lexed sp us
   relabel sp tk us e k l = record {
     begins = l.begins;
     at = λ tight flag limit r ts a f t h. subst (Lexes vars stopped tight (sp.at limit ++ r)) (e flag limit ts) (l.at tight flag limit r ts a f t h);
@@ -81,7 +89,8 @@ module _ (vars : ℕ → List ℕ) (stopped : Bool) where
   record Sign (o : Name) (y : Terminal) : Type 0 where
     some : is_empty_name o ≡ false
     follows : (r : List ℕ) → Follows (o ++ r)
-    lexes : (tight : Bool) (r : List ℕ) (ts : List Terminal) → starts_with_symbol (chars r) ≡ starts_with_symbol r → Apart o r → Lexes vars stopped true r ts → Lexes vars stopped tight (o ++ r) (y ∷ ts)
+    lexes : (tight : Bool) (r : List ℕ) (ts : List Terminal) → starts_with_symbol (chars r) ≡ starts_with_symbol r → Apart o r → Lexes vars stopped true r ts
+        → Lexes vars stopped tight (o ++ r) (y ∷ ts)
 
   comma_sign : Sign (44 ∷ []) (comma 0)
   comma_sign = record { some = refl; follows = λ r. before_comma r; lexes = λ tight r ts e t h. comma_first vars stopped tight r ts h }
@@ -135,15 +144,20 @@ module _ (vars : ℕ → List ℕ) (stopped : Bool) where
         → Lexes vars stopped tight (left ++ (gap_between left o.name ++ (o.name ++ (gap_between o.name right ++ (right ++ r))))) (ta.at flag (left_limit o) (y ∷ tb.at true (right_limit o) ts))
     before_sign y s tight flag r ts a f t h = go (ends_with_symbol left && starts_with_symbol o.name) refl
       where
-        go : (g : Bool) → (ends_with_symbol left && starts_with_symbol o.name) ≡ g → Lexes vars stopped tight (left ++ (cond g (codes " ") [] ++ (o.name ++ (others r)))) (ta.at flag (left_limit o) (y ∷ tb.at true (right_limit o) ts))
+        go : (g : Bool) → (ends_with_symbol left && starts_with_symbol o.name) ≡ g
+            → Lexes vars stopped tight (left ++ (cond g (codes " ") [] ++ (o.name ++ (others r))))
+            (ta.at flag (left_limit o) (y ∷ tb.at true (right_limit o) ts))
         go true e =
-            la.at tight flag (left_limit o) (32 ∷ (o.name ++ (others r))) (y ∷ tb.at true (right_limit o) ts) a (before_space (o.name ++ (others r))) (no_symbol 32 symbol_space left (o.name ++ (others r)))
+            la.at tight flag (left_limit o) (32 ∷ (o.name ++ (others r))) (y ∷ tb.at true (right_limit o) ts) a (before_space (o.name ++ (others r)))
+            (no_symbol 32 symbol_space left (o.name ++ (others r)))
             (space vars stopped true (o.name ++ (others r)) (y ∷ tb.at true (right_limit o) ts) (behind_sign y s false r ts f t h))
         go false e =
-            la.at tight flag (left_limit o) (o.name ++ (others r)) (y ∷ tb.at true (right_limit o) ts) a (s.follows (others r)) (ap (λ (x : Bool). ends_with_symbol left && x) (starts_before o.name (others r) s.some) ∙ e)
+            la.at tight flag (left_limit o) (o.name ++ (others r)) (y ∷ tb.at true (right_limit o) ts) a (s.follows (others r))
+            (ap (λ (x : Bool). ends_with_symbol left && x) (starts_before o.name (others r) s.some) ∙ e)
             (behind_sign y s true r ts f t h)
 
-    sign_text : (r : List ℕ) → (left ++ (gap_between left o.name ++ (o.name ++ (gap_between o.name right ++ right)))) ++ r ≡ left ++ (gap_between left o.name ++ (o.name ++ (gap_between o.name right ++ (right ++ r))))
+    sign_text : (r : List ℕ) → (left ++ (gap_between left o.name ++ (o.name ++ (gap_between o.name right ++ right)))) ++ r ≡ left
+        ++ (gap_between left o.name ++ (o.name ++ (gap_between o.name right ++ (right ++ r))))
     sign_text r =
         append_assoc left (gap_between left o.name ++ (o.name ++ (gap_between o.name right ++ right))) r
         ∙ ap (λ (w : List ℕ). left ++ w) (append_assoc (gap_between left o.name) (o.name ++ (gap_between o.name right ++ right)) r)
@@ -154,7 +168,8 @@ module _ (vars : ℕ → List ℕ) (stopped : Bool) where
     round_word : IsWord o.name → (tight flag : Bool) (r : List ℕ) (ts : List Terminal) → Agrees left tight flag → Follows r → Apart right r → Lexes vars stopped true r ts
         → Lexes vars stopped tight (left ++ (32 ∷ (o.name ++ (32 ∷ (right ++ r))))) (ta.at flag (left_limit o) (word_token o.name ∷ tb.at false (right_limit o) ts))
     round_word w tight flag r ts a f t h =
-        let behind : Lexes vars stopped true (32 ∷ (right ++ r)) (tb.at false (right_limit o) ts) = space vars stopped true (right ++ r) (tb.at false (right_limit o) ts) (lb.at false false (right_limit o) r ts (inl refl) f t h) in
+        let behind : Lexes vars stopped true (32 ∷ (right ++ r)) (tb.at false (right_limit o) ts) = space vars stopped true (right ++ r)
+        (tb.at false (right_limit o) ts) (lb.at false false (right_limit o) r ts (inl refl) f t h) in
         let word = word_lexes vars stopped false o.name (32 ∷ (right ++ r)) (tb.at false (right_limit o) ts) w (before_space (right ++ r)) (no_symbol 32 symbol_space o.name (right ++ r)) behind in
         la.at tight flag (left_limit o) (32 ∷ (o.name ++ (32 ∷ (right ++ r)))) (word_token o.name ∷ tb.at false (right_limit o) ts) a (before_space (o.name ++ (32 ∷ (right ++ r))))
         (no_symbol 32 symbol_space left (o.name ++ (32 ∷ (right ++ r)))) (space vars stopped true (o.name ++ (32 ∷ (right ++ r))) (word_token o.name ∷ tb.at false (right_limit o) ts) word)
@@ -169,7 +184,8 @@ module _ (vars : ℕ → List ℕ) (stopped : Bool) where
     joint_ends : ends_with_symbol joint ≡ ends_with_symbol right
     joint_ends = go (is_letter_word o.name)
       where
-        go : (b : Bool) → ends_with_symbol (cond b (left ++ (32 ∷ (o.name ++ (32 ∷ right)))) (left ++ (gap_between left o.name ++ (o.name ++ (gap_between o.name right ++ right))))) ≡ ends_with_symbol right
+        go : (b : Bool) → ends_with_symbol (cond b (left ++ (32 ∷ (o.name ++ (32 ∷ right))))
+            (left ++ (gap_between left o.name ++ (o.name ++ (gap_between o.name right ++ right))))) ≡ ends_with_symbol right
         go true = ends_behind left (32 ∷ (o.name ++ (32 ∷ right))) refl ∙ ends_behind (32 ∷ o.name) (32 ∷ right) refl ∙ ends_behind (32 ∷ []) right right_some
         go false =
             let one = some_behind (gap_between o.name right) right right_some in
@@ -189,7 +205,8 @@ module _ (vars : ℕ → List ℕ) (stopped : Bool) where
     pub joint_starts : starts_with_symbol joint ≡ starts_with_symbol left
     joint_starts = go (is_letter_word o.name)
       where
-        go : (b : Bool) → starts_with_symbol (cond b (left ++ (32 ∷ (o.name ++ (32 ∷ right)))) (left ++ (gap_between left o.name ++ (o.name ++ (gap_between o.name right ++ right))))) ≡ starts_with_symbol left
+        go : (b : Bool) → starts_with_symbol (cond b (left ++ (32 ∷ (o.name ++ (32 ∷ right))))
+            (left ++ (gap_between left o.name ++ (o.name ++ (gap_between o.name right ++ right))))) ≡ starts_with_symbol left
         go true = starts_before left (32 ∷ (o.name ++ (32 ∷ right))) (la.begins (left_limit o)).some
         go false = starts_before left (gap_between left o.name ++ (o.name ++ (gap_between o.name right ++ right))) (la.begins (left_limit o)).some
 
@@ -217,7 +234,8 @@ module _ (vars : ℕ → List ℕ) (stopped : Bool) where
 
       comma_is : bytes_eq f (codes ",") ≡ true → Sign o.name (operator_terminal f)
       unfolding operator_terminal
-      comma_is k = subst (λ (x : Name). Sign x (operator_terminal f)) (sym (is_named ∙ text_is f (codes ",") k)) (subst (Sign (44 ∷ [])) (sym (ap (λ (b : Bool). cond b (comma 0) (operator_word 0 f)) k)) comma_sign)
+      comma_is k = subst (λ (x : Name). Sign x (operator_terminal f)) (sym (is_named ∙ text_is f (codes ",") k))
+          (subst (Sign (44 ∷ [])) (sym (ap (λ (b : Bool). cond b (comma 0) (operator_word 0 f)) k)) comma_sign)
 
       sign_is : is_letter_word o.name ≡ false → Sign o.name (operator_terminal f)
       sign_is n = elim (cases_Bool (bytes_eq f (codes ","))) [
@@ -228,7 +246,8 @@ module _ (vars : ℕ → List ℕ) (stopped : Bool) where
       letter_no_comma : is_letter_word o.name ≡ true → bytes_eq f (codes ",") ≡ false
       letter_no_comma n = false_from_ne_true (bytes_eq f (codes ",")) (λ k. true≢false (sym n ∙ ap is_letter_word (is_named ∙ text_is f (codes ",") k) ∙ comma_no_letter))
 
-      pub joint_lexes : (tight flag : Bool) (r : List ℕ) (ts : List Terminal) → Agrees joint tight flag → Follows r → Apart joint r → Lexes vars stopped true r ts → Lexes vars stopped tight (joint ++ r) (operands f o ta tb flag ts)
+      pub joint_lexes : (tight flag : Bool) (r : List ℕ) (ts : List Terminal) → Agrees joint tight flag → Follows r → Apart joint r
+          → Lexes vars stopped true r ts → Lexes vars stopped tight (joint ++ r) (operands f o ta tb flag ts)
       joint_lexes tight flag r ts a f2 t h = go (is_letter_word o.name) refl
         where
           apart : Apart right r

@@ -12,13 +12,16 @@ use Rattle.unicode_ident.proofs.IdentLemmas.{is_xid_start-ascii, is_xid_continue
 use Rattle.fd_language.specs.Term.{Name}
 use Rattle.fd_language.specs.Characters.{is_symbol, is_punct, begins_variable}
 use Rattle.fd_language.specs.Operators.{is_operator}
-use Rattle.fd_language.specs.Tokens.{Kind, Word, Quoted, Variable, Integer, Punct, Stop, Lexeme, Gap, Token, has_fraction, front_of, front_by, front_at, HasTokens, after_gap, after_token, unquoted}
-use Rattle.fd_language.specs.Terminals.{Terminal, name, operator_word, variable, integer, opens, closes, open_list, close_list, open_curly, close_curly, comma, bar, stop}
+use Rattle.fd_language.specs.Tokens.{Kind, Word, Quoted, Variable, Integer, Punct, Stop, Lexeme, Gap, Token, has_fraction, front_of, front_by, front_at}
+use Rattle.fd_language.specs.Tokens.{HasTokens, after_gap, after_token, unquoted}
+use Rattle.fd_language.specs.Terminals.{Terminal, name, operator_word, variable, integer, opens, closes, open_list, close_list, open_curly, close_curly, comma}
+use Rattle.fd_language.specs.Terminals.{bar, stop}
 use Rattle.fd_language.specs.Reading.{terminal_of, names_behind, ended_by, is_anonymous}
-use Rattle.fd_language.specs.Writing.{starts_with_symbol}
+use Rattle.fd_language.specs.TermTexts.{starts_with_symbol}
 use Rattle.term_writer.proofs.QuotedNames.{sizes}
 use Rattle.term_writer.proofs.Fronts as fronts
-use Rattle.term_writer.proofs.OtherPlaces.{Alike, like_name, like_word, like_integer, like_open, like_close, like_open_list, like_close_list, like_open_curly, like_close_curly, like_comma, like_bar}
+use Rattle.term_writer.proofs.OtherPlaces.{Alike, like_name, like_word, like_integer, like_open, like_close, like_open_list, like_close_list, like_open_curly}
+use Rattle.term_writer.proofs.OtherPlaces.{like_close_curly, like_comma, like_bar}
 use Rattle.fd_language.proofs.Lemmas.{size}
 
 -- a token that is no variable and no stop is y to the grammar, up to its place
@@ -31,7 +34,8 @@ pub record Other (l : Lexeme) (y : Terminal) : Type 0 where
 pub data Spelt (vars : ℕ → List ℕ) : Bool → List Lexeme → List Terminal → Type 0 where
   at_end : Spelt vars false [] []
   at_stop : {l : Lexeme} → l.kind ≡ Stop → Spelt vars true (l ∷ []) (stop ∷ [])
-  at_variable : {stopped : Bool} {l : Lexeme} {ls : List Lexeme} {ts : List Terminal} (x : ℕ) → l.kind ≡ Variable → l.text ≡ vars x → is_anonymous (vars x) ≡ false → Spelt vars stopped ls ts → Spelt vars stopped (l ∷ ls) (variable 0 x ∷ ts)
+  at_variable : {stopped : Bool} {l : Lexeme} {ls : List Lexeme} {ts : List Terminal} (x : ℕ) → l.kind ≡ Variable → l.text ≡ vars x
+      → is_anonymous (vars x) ≡ false → Spelt vars stopped ls ts → Spelt vars stopped (l ∷ ls) (variable 0 x ∷ ts)
   at_other : {stopped : Bool} {l : Lexeme} {y : Terminal} {ls : List Lexeme} {ts : List Terminal} → Other l y → Spelt vars stopped ls ts → Spelt vars stopped (l ∷ ls) (y ∷ ts)
 
 pub record LexesAt (vars : ℕ → List ℕ) (stopped : Bool) (at : ℕ) (tight : Bool) (bytes : List ℕ) (ts : List Terminal) : Type 0 where
@@ -48,13 +52,15 @@ pub record Lexes (vars : ℕ → List ℕ) (stopped : Bool) (tight : Bool) (byte
 abbrev lexeme : Kind → List ℕ → ℕ → Bool → Lexeme
 lexeme k w at tight = record { kind = k; text = w; place = at; tight = tight }
 
-first_token : (at : ℕ) (tight : Bool) (k : Kind) (w r : List ℕ) (ls : List Lexeme) → front_of (w ++ r) ≡ Token k (length w) → HasTokens (at + length w) true r ls → HasTokens at tight (w ++ r) (lexeme k w at tight ∷ ls)
+first_token : (at : ℕ) (tight : Bool) (k : Kind) (w r : List ℕ) (ls : List Lexeme) → front_of (w ++ r) ≡ Token k (length w)
+    → HasTokens (at + length w) true r ls → HasTokens at tight (w ++ r) (lexeme k w at tight ∷ ls)
 first_token at tight k w r ls e h =
     let rest : HasTokens (at + length w) true (drop (length w) (w ++ r)) ls = subst (λ (l : List ℕ). HasTokens (at + length w) true l ls) (sym (drop_at w r (length w) refl)) h in
     subst (λ (l : List ℕ). HasTokens at tight (w ++ r) (lexeme k l at tight ∷ ls)) (take_at w r (length w) refl) (after_token k (length w) e rest)
 
 module _ (vars : ℕ → List ℕ) (stopped : Bool) where
-  pub other_first : (tight : Bool) (k : Kind) (w r : List ℕ) (y : Terminal) (ts : List Terminal) → front_of (w ++ r) ≡ Token k (length w) → ((p : ℕ) → Other (lexeme k w p tight) y) → Lexes vars stopped true r ts → Lexes vars stopped tight (w ++ r) (y ∷ ts)
+  pub other_first : (tight : Bool) (k : Kind) (w r : List ℕ) (y : Terminal) (ts : List Terminal) → front_of (w ++ r) ≡ Token k (length w)
+      → ((p : ℕ) → Other (lexeme k w p tight) y) → Lexes vars stopped true r ts → Lexes vars stopped tight (w ++ r) (y ∷ ts)
   other_first tight k w r y ts e o h = record {
     by = λ at. (let l = h.by (at + length w) in record {
       lexemes = lexeme k w at tight ∷ l.lexemes;
@@ -63,7 +69,8 @@ module _ (vars : ℕ → List ℕ) (stopped : Bool) where
     });
   }
 
-  pub variable_first : (tight : Bool) (r : List ℕ) (x : ℕ) (ts : List Terminal) → front_of (vars x ++ r) ≡ Token Variable (length (vars x)) → is_anonymous (vars x) ≡ false → Lexes vars stopped true r ts → Lexes vars stopped tight (vars x ++ r) (variable 0 x ∷ ts)
+  pub variable_first : (tight : Bool) (r : List ℕ) (x : ℕ) (ts : List Terminal) → front_of (vars x ++ r) ≡ Token Variable (length (vars x))
+      → is_anonymous (vars x) ≡ false → Lexes vars stopped true r ts → Lexes vars stopped tight (vars x ++ r) (variable 0 x ∷ ts)
   variable_first tight r x ts e a h = record {
     by = λ at. (let l = h.by (at + length (vars x)) in record {
       lexemes = lexeme Variable (vars x) at tight ∷ l.lexemes;
@@ -158,25 +165,32 @@ module _ (vars : ℕ → List ℕ) (stopped : Bool) (tight : Bool) (r : List ℕ
   space h = gap_at vars stopped tight (32 ∷ r) r 1 ts (space_front r) refl h
 
   pub open_bracket : Lexes vars stopped true r ts → Lexes vars stopped tight (40 ∷ r) (opens 0 tight ∷ ts)
-  open_bracket h = other_first vars stopped tight Punct (40 ∷ []) r (opens 0 tight) ts (mark_front 40 r (omega arith) at_open) (λ p. record { fits = λ v a n. like_open; keeps = λ n. refl; still = λ n l. refl }) h
+  open_bracket h = other_first vars stopped tight Punct (40 ∷ []) r (opens 0 tight) ts (mark_front 40 r (omega arith) at_open)
+      (λ p. record { fits = λ v a n. like_open; keeps = λ n. refl; still = λ n l. refl }) h
 
   pub close_bracket : Lexes vars stopped true r ts → Lexes vars stopped tight (41 ∷ r) (closes ∷ ts)
-  close_bracket h = other_first vars stopped tight Punct (41 ∷ []) r closes ts (mark_front 41 r (omega arith) at_close) (λ p. record { fits = λ v a n. like_close; keeps = λ n. refl; still = λ n l. refl }) h
+  close_bracket h = other_first vars stopped tight Punct (41 ∷ []) r closes ts (mark_front 41 r (omega arith) at_close)
+      (λ p. record { fits = λ v a n. like_close; keeps = λ n. refl; still = λ n l. refl }) h
 
   pub list_opens : Lexes vars stopped true r ts → Lexes vars stopped tight (91 ∷ r) (open_list 0 ∷ ts)
-  list_opens h = other_first vars stopped tight Punct (91 ∷ []) r (open_list 0) ts (mark_front 91 r (omega arith) at_list_open) (λ p. record { fits = λ v a n. like_open_list; keeps = λ n. refl; still = λ n l. refl }) h
+  list_opens h = other_first vars stopped tight Punct (91 ∷ []) r (open_list 0) ts (mark_front 91 r (omega arith) at_list_open)
+      (λ p. record { fits = λ v a n. like_open_list; keeps = λ n. refl; still = λ n l. refl }) h
 
   pub list_closes : Lexes vars stopped true r ts → Lexes vars stopped tight (93 ∷ r) (close_list ∷ ts)
-  list_closes h = other_first vars stopped tight Punct (93 ∷ []) r close_list ts (mark_front 93 r (omega arith) at_list_close) (λ p. record { fits = λ v a n. like_close_list; keeps = λ n. refl; still = λ n l. refl }) h
+  list_closes h = other_first vars stopped tight Punct (93 ∷ []) r close_list ts (mark_front 93 r (omega arith) at_list_close)
+      (λ p. record { fits = λ v a n. like_close_list; keeps = λ n. refl; still = λ n l. refl }) h
 
   pub curly_opens : Lexes vars stopped true r ts → Lexes vars stopped tight (123 ∷ r) (open_curly 0 ∷ ts)
-  curly_opens h = other_first vars stopped tight Punct (123 ∷ []) r (open_curly 0) ts (mark_front 123 r (omega arith) at_curly_open) (λ p. record { fits = λ v a n. like_open_curly; keeps = λ n. refl; still = λ n l. refl }) h
+  curly_opens h = other_first vars stopped tight Punct (123 ∷ []) r (open_curly 0) ts (mark_front 123 r (omega arith) at_curly_open)
+      (λ p. record { fits = λ v a n. like_open_curly; keeps = λ n. refl; still = λ n l. refl }) h
 
   pub curly_closes : Lexes vars stopped true r ts → Lexes vars stopped tight (125 ∷ r) (close_curly ∷ ts)
-  curly_closes h = other_first vars stopped tight Punct (125 ∷ []) r close_curly ts (mark_front 125 r (omega arith) at_curly_close) (λ p. record { fits = λ v a n. like_close_curly; keeps = λ n. refl; still = λ n l. refl }) h
+  curly_closes h = other_first vars stopped tight Punct (125 ∷ []) r close_curly ts (mark_front 125 r (omega arith) at_curly_close)
+      (λ p. record { fits = λ v a n. like_close_curly; keeps = λ n. refl; still = λ n l. refl }) h
 
   pub comma_first : Lexes vars stopped true r ts → Lexes vars stopped tight (44 ∷ r) (comma 0 ∷ ts)
-  comma_first h = other_first vars stopped tight Punct (44 ∷ []) r (comma 0) ts (mark_front 44 r (omega arith) at_comma) (λ p. record { fits = λ v a n. like_comma; keeps = λ n. refl; still = λ n l. refl }) h
+  comma_first h = other_first vars stopped tight Punct (44 ∷ []) r (comma 0) ts (mark_front 44 r (omega arith) at_comma)
+      (λ p. record { fits = λ v a n. like_comma; keeps = λ n. refl; still = λ n l. refl }) h
 
   pub bar_first : Lexes vars stopped true r ts → Lexes vars stopped tight (124 ∷ r) (bar ∷ ts)
   bar_first h = other_first vars stopped tight Punct (124 ∷ []) r bar ts (mark_front 124 r (omega arith) at_bar) (λ p. record { fits = λ v a n. like_bar; keeps = λ n. refl; still = λ n l. refl }) h

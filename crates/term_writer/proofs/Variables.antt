@@ -6,8 +6,12 @@ use Rattle.std.specs.List.{list_all}
 use Rattle.std.specs.Str.{chars}
 use Rattle.std.proofs.lemmas.Str.{encodes-chars, len_utf8_bounds}
 use Rattle.unicode_ident.specs.Ident.{is_xid_start, is_xid_continue}
-use Rattle.fd_language.specs.Characters.{is_layout, is_symbol, is_solo, is_punct, begins_variable, not_newline, is_digit_of, starts_with, tail, run_size, past_run, digits_value}
-use Rattle.fd_language.specs.Tokens.{BadCharacter, StringOut, FloatOut, IntegerTooWide, Front, Gap, Token, Offends, Word, Variable, Integer, Punct, Stop, greatest_integer, number_front, has_base, base_at, has_fraction, based_front, decimal_front, integer_front, comment_front, Inside, Between, AfterQuote, AfterBackslash, AfterDigits, Past, Broken, inside, quoted_end, quoted_front, ends_stop, front_of, front_by, front_at}
+use Rattle.fd_language.specs.Characters.{is_layout, is_symbol, is_solo, is_punct, begins_variable, not_newline, is_digit_of, starts_with, tail, run_size}
+use Rattle.fd_language.specs.Characters.{past_run, digits_value}
+use Rattle.fd_language.specs.Tokens.{BadCharacter, StringOut, FloatOut, IntegerTooWide, Front, Gap, Token, Offends, Word, Variable, Integer, Punct, Stop}
+use Rattle.fd_language.specs.Tokens.{greatest_integer, number_front, has_base, base_at, has_fraction, based_front, decimal_front, integer_front, comment_front}
+use Rattle.fd_language.specs.Tokens.{Inside, Between, AfterQuote, AfterBackslash, AfterDigits, Past, Broken, inside, quoted_end, quoted_front, ends_stop}
+use Rattle.fd_language.specs.Tokens.{front_of, front_by, front_at}
 use Rattle.term_writer.specs.TextReadings.{IsVariable}
 use Rattle.term_writer.proofs.QuotedNames.{sizes}
 use Rattle.fd_language.proofs.Lemmas.{size}
@@ -83,7 +87,8 @@ picked v n g h number others x y false false false false k = absurd (y k)
 variable_front : (c n : ℕ) (cs : List ℕ) → front_at c cs ≡ Token Variable n → (begins_variable c ≡ true) × (len_utf8 c + run_size is_xid_continue cs ≡ n)
 variable_front c n cs =
     picked (len_utf8 c + run_size is_xid_continue cs) n (len_utf8 c) (len_utf8 c + run_size not_newline cs) (integer_front c cs) _ (integer_no c n cs)
-    (others_no c n cs (is_xid_start c) (c == 47 && starts_with 42 cs) (c == 46 && ends_stop cs) (is_symbol c) (is_solo c) (is_punct c) (c == 39) (c == 34)) (is_layout c) (c == 37) (is_digit_of 10 c) (begins_variable c)
+    (others_no c n cs (is_xid_start c) (c == 47 && starts_with 42 cs) (c == 46 && ends_stop cs) (is_symbol c) (is_solo c) (is_punct c) (c == 39) (c == 34))
+    (is_layout c) (c == 37) (is_digit_of 10 c) (begins_variable c)
 
 whole_run : (p : ℕ → Bool) (cs : List ℕ) → run_size p cs ≡ size cs → list_all p cs ≡ true
 whole_run p [] e = refl

@@ -8,7 +8,7 @@ use Rattle.std.proofs.lemmas.List.{at_drop_more}
 use Rattle.unicode_ident.specs.Ident.{is_xid_start}
 use Rattle.unicode_ident.proofs.IdentLemmas.{is_xid_start-ascii}
 use Rattle.fd_language.specs.Characters.{is_symbol, begins_variable}
-use Rattle.fd_language.specs.Writing.{ends_with_symbol}
+use Rattle.fd_language.specs.TermTexts.{ends_with_symbol}
 
 ends_at : (xs : List ℕ) (n y : ℕ) → length xs ≡ suc n → slice_get xs n ≡ Some y → is_symbol y ≡ ends_with_symbol xs
 ends_at [] n y e h = absurd cc

@@ -1,5 +1,5 @@
 pub mod Views
 pub mod Pieces
 pub mod SpelledTerms
-pub mod ReadBack
+pub mod QuoteRoundTrip
 pub mod TextReadings

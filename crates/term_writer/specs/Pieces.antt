@@ -3,14 +3,14 @@ use Rattle.std.specs.Prelude.{◌≡◌, ℕ, true, false, ◌+◌, ◌<◌, Lis
 use Rattle.std.specs.Str.{bytes_eq}
 use Rattle.fd_language.specs.Term.{Name, Term, Terms, Var, Int, Atom, Comp, no_terms, term}
 use Rattle.fd_language.specs.Operators.{infix_of}
-use Rattle.fd_language.specs.Writing.{Mode, is_letter_word, gap_between, spelled, spelled_each, spelled_alone, spelled_compound, call_text, arguments_text}
+use Rattle.fd_language.specs.TermTexts.{Mode, is_letter_word, gap_between, spelled, spelled_each, spelled_alone, spelled_compound, call_text, arguments_text}
 use Rattle.term_pool.specs.declared.TermId.{TermId}
 use Rattle.term_pool.specs.Contents.{Contents}
 use Rattle.term_pool.specs.Terms.{terms_by, term_of}
 use Rattle.term_writer.specs.declared.pieces.Piece.{Piece}
 use Rattle.term_writer.specs.declared.pieces.Piece.TheVariants as piece
-use Rattle.term_writer.specs.declared.pieces.Form.{Form}
-use Rattle.term_writer.specs.declared.pieces.Form.TheVariants as form
+use Rattle.term_writer.specs.declared.pieces.CompoundForm.{CompoundForm}
+use Rattle.term_writer.specs.declared.pieces.CompoundForm.TheVariants as form
 use Rattle.term_writer.specs.declared.pieces.Rest.{Rest}
 use Rattle.term_writer.specs.declared.pieces.Rest.TheVariants as rest
 use Rattle.name_syntax.specs.Operators.{operator_of}
@@ -75,7 +75,7 @@ pub record Replaces (c : Contents) (mode : Mode) (vars : ℕ → List ℕ) (want
   pub within : All (IsOf c) more
 
 -- the form in which a compound is written
-abbrev pub IsForm : Name → List TermId → Form → Type 0
+abbrev pub IsForm : Name → List TermId → CompoundForm → Type 0
 IsForm f ts (form.Curly t) = (ts ≡ t ∷ []) × (bytes_eq f (codes "{}") ≡ true)
 IsForm f ts (form.Cell t u) = (ts ≡ t ∷ u ∷ []) × (bytes_eq f (codes ".") ≡ true)
 IsForm f ts (form.Infix o t u) = (ts ≡ t ∷ u ∷ []) × (bytes_eq f (codes ".") ≡ false) × (infix_of f ≡ Some (operator_of f o))

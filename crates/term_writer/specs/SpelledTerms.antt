@@ -4,9 +4,10 @@ use Rattle.std.specs.Str.{bytes_eq}
 use Rattle.fd_language.specs.Term.{Name, Term, Terms, Var, Int, Atom, Comp, no_terms, term}
 use Rattle.fd_language.specs.PlacedTerm.{PlacedTerm, PlacedTerms, var, int, atom, comp, no_parts, part}
 use Rattle.fd_language.specs.Operators.{Operator, infix_of, is_operator, left_limit, right_limit}
-use Rattle.fd_language.specs.Terminals.{Terminal, name, operator_word, variable, integer, opens, closes, open_list, close_list, open_curly, close_curly, comma, bar}
+use Rattle.fd_language.specs.Terminals.{Terminal, name, operator_word, variable, integer, opens, closes, open_list, close_list, open_curly, close_curly, comma}
+use Rattle.fd_language.specs.Terminals.{bar}
 use Rattle.fd_language.specs.Grammar.{Reads}
-use Rattle.fd_language.specs.Writing.{is_letter_word}
+use Rattle.fd_language.specs.TermTexts.{is_letter_word}
 
 abbrev mutual
   pub placed : Term → PlacedTerm
@@ -27,7 +28,8 @@ operator_terminal f = if bytes_eq f (codes ",") then comma 0 else operator_word 
 unfoldable pub call_terminal : Name → Terminal
 call_terminal f = if is_operator f && not (bytes_eq f (codes ",")) then operator_word 0 f else name 0 f
 
--- A term's tokens before what follows them, at a limit, where the flag is that of a first token which shows whether it is tight; and the same term's behind an element of a list, with the list's end.
+-- A term's tokens before what follows them, at a limit, where the flag is that of a first token which shows whether it is tight; and the same term's behind an
+-- element of a list, with the list's end.
 pub record InTokens : Type 0 where
   pub at : Bool → ℕ → List Terminal → List Terminal
   pub rest : List Terminal → List Terminal

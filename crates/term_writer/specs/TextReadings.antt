@@ -5,7 +5,7 @@ use Rattle.std.specs.Str.{bytes_eq}
 use Rattle.fd_language.specs.Term.{Name, Term, Terms, Var, Int, Atom, Comp, no_terms, term, apply}
 use Rattle.fd_language.specs.Family.{has}
 use Rattle.fd_language.specs.Variables.{variables_of}
-use Rattle.fd_language.specs.Writing.{Quoted, term_text}
+use Rattle.fd_language.specs.TermTexts.{Quoted, term_text}
 use Rattle.fd_language.specs.PlacedTerm.{plain}
 use Rattle.fd_language.specs.Tokens.{greatest_integer, Variable, Token, front_of, Lexeme, TokensOf}
 use Rattle.fd_language.specs.Terminals.{Terminal, stop}
@@ -46,7 +46,8 @@ abbrev mutual
 abbrev pub number_among : (ℕ → List ℕ) → List Name → ℕ → ℕ
 number_among vars names x = position_or_len (bytes_eq (vars x)) names
 
--- The tokens of the text derive the term t within the limit, and leave what is behind it, up to places and to the names of variables: each variable has the number at which its text stands among the names.
+-- The tokens of the text derive the term t within the limit, and leave what is behind it, up to places and to the names of variables: each variable has the
+-- number at which its text stands among the names.
 pub record Derives (vars : ℕ → List ℕ) (limit : ℕ) (t : Term) (text : List ℕ) (behind : List Terminal) : Type 0 where
   pub lexemes : List Lexeme
   pub tokens : TokensOf text lexemes

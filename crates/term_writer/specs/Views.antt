@@ -2,7 +2,7 @@
 use Rattle.std.specs.Prelude.{ℕ, Bool, true, false, List, [], ◌∷◌, Option, Some, None, slice_get, if◌then◌else◌, ◌==◌, nat_eq}
 use Rattle.indexmap.specs.IndexMap.{get}
 use Rattle.fd_language.specs.Term.{Name}
-use Rattle.fd_language.specs.Writing as model
+use Rattle.fd_language.specs.TermTexts as model
 use Rattle.term_writer.specs.declared.Mode.{Mode}
 use Rattle.term_writer.specs.declared.Mode.TheVariants.{Quoted, Plain}
 use Rattle.term_writer.specs.declared.VarText.{VarText}

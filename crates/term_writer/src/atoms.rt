@@ -6,7 +6,7 @@ ghost use Rattle.std.specs.List.{list_all};
 ghost use Rattle.std.specs.Str.{bytes_eq, chars};
 ghost use Rattle.fd_language.specs.Characters as Characters;
 ghost use Rattle.fd_language.specs.Operators as Operators;
-ghost use Rattle.fd_language.specs.Writing as Writing;
+ghost use Rattle.fd_language.specs.TermTexts as Writing;
 ghost use Rattle.unicode_ident.specs.Ident as Ident;
 ghost use Rattle.term_writer.specs.Pieces.{joined};
 ghost use Rattle.term_writer.specs.Views.{mode_of, name_text};

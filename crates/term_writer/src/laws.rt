@@ -1,6 +1,6 @@
 //! Laws of what is written.
 
-ghost use Rattle.term_writer.specs.ReadBack.{QuotedIsRead};
+ghost use Rattle.term_writer.specs.QuoteRoundTrip.{QuotedIsRead};
 ghost use Rattle.term_writer.specs.SpelledTerms.{SpelledIsRead};
 ghost use Rattle.term_writer.specs.TextReadings.{WrittenIsRead};
 

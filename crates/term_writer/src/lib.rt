@@ -2,7 +2,7 @@
 #![tactic(auto)]
 
 ghost use Rattle.std.specs.Prelude.{◌≡◌, ◌<◌, ◌++◌, length, OnOk, OnErr};
-ghost use Rattle.fd_language.specs.Writing as Writing;
+ghost use Rattle.fd_language.specs.TermTexts as Writing;
 ghost use Rattle.term_pool.specs.Terms.{term_of};
 ghost use Rattle.term_writer.specs.Views.{mode_of, name_text, text_of};
 

@@ -21,7 +21,7 @@ pub(crate) enum Piece<'p> {
 
 /// How a compound is written.
 #[derive(Clone, Copy)]
-pub(crate) enum Form {
+pub(crate) enum CompoundForm {
     /// In braces.
     Curly(TermId),
     /// As a list of the element and what follows it.
@@ -43,30 +43,30 @@ pub(crate) enum Rest {
     Tail,
 }
 
-fn pair_form(name: &str, first: TermId, second: TermId) -> Form
+fn pair_form(name: &str, first: TermId, second: TermId) -> CompoundForm
     ensures { IsForm name.now (first ∷ second ∷ []) result }
 {
     if name == "." {
-        return Form::Cell(first, second);
+        return CompoundForm::Cell(first, second);
     }
     match roles_of(name).infix {
-        Some(operator) => Form::Infix(operator, first, second),
-        None => Form::Call,
+        Some(operator) => CompoundForm::Infix(operator, first, second),
+        None => CompoundForm::Call,
     }
 }
 
 /// How the compound of this name and these parts is written.
-pub(crate) fn form_of(name: &str, parts: &[TermId]) -> Form
+pub(crate) fn form_of(name: &str, parts: &[TermId]) -> CompoundForm
     ensures { IsForm name.now parts.now result }
 {
     match parts {
-        [] => Form::Call,
+        [] => CompoundForm::Call,
         [only] => if name == "{}" {
-            Form::Curly(*only)
+            CompoundForm::Curly(*only)
         } else {
-            Form::Call
+            CompoundForm::Call
         },
         [first, second] => pair_form(name, *first, *second),
-        [_, _, _, ..] => Form::Call,
+        [_, _, _, ..] => CompoundForm::Call,
     }
 }

@@ -2,7 +2,7 @@
 
 ghost use Rattle.std.specs.Prelude.{◌≡◌, ℕ, ◌+◌, ◌<◌, List, [], ◌∷◌, Some, length, All, OnOk, codes, nat_le, if◌then◌else◌};
 ghost use Rattle.std.specs.Fmt.{signed_decimal};
-ghost use Rattle.fd_language.specs.Writing as Writing;
+ghost use Rattle.fd_language.specs.TermTexts as Writing;
 ghost use Rattle.term_pool.specs.Contents.{Contents, atom_name};
 ghost use Rattle.term_pool.specs.Terms.{term_of, terms_by};
 ghost use Rattle.term_writer.specs.Pieces.{IsOf, IsRest, Replaces, finished, piece_text, piece_weight, operator_text, joined, weight, weights};
@@ -10,7 +10,7 @@ ghost use Rattle.term_writer.specs.Views.{mode_of, text_in, text_of};
 
 use crate::atoms::{append, append_name, is_letter_word};
 use crate::names::Names;
-use crate::pieces::{Form, Piece, Rest, form_of};
+use crate::pieces::{CompoundForm, Piece, Rest, form_of};
 use crate::{Mode, VarText};
 use fd_language::NoMemory;
 use itoa::Buffer;
@@ -70,14 +70,14 @@ fn open_compound<'p>(
 {
     let name = pool.name_of(atom);
     match form_of(name, parts) {
-        Form::Curly(only) => {
+        CompoundForm::Curly(only) => {
             ahead.extend_from_slice(&[
                 Piece::Text("}"),
                 Piece::Term(only, 1200),
                 Piece::Text("{"),
             ])?;
         }
-        Form::Cell(first, rest) => {
+        CompoundForm::Cell(first, rest) => {
             ahead.extend_from_slice(&[
                 Piece::Text("]"),
                 Piece::Rest(rest),
@@ -85,7 +85,7 @@ fn open_compound<'p>(
                 Piece::Text("["),
             ])?;
         }
-        Form::Infix(operator, left, right) => {
+        CompoundForm::Infix(operator, left, right) => {
             let (before, behind) = parentheses(operator, limit);
             ahead.extend_from_slice(&[
                 Piece::Text(behind),
@@ -95,7 +95,7 @@ fn open_compound<'p>(
                 Piece::Text(before),
             ])?;
         }
-        Form::Call => {
+        CompoundForm::Call => {
             append_name(text, mode, name, true)?;
             ahead.extend_from_slice(&[
                 Piece::Text(")"),
@@ -145,10 +145,10 @@ fn rest_of(pool: &Pool, t: TermId) -> Rest
             Rest::Tail
         },
         Node::Comp(atom, parts) => match form_of(pool.name_of(atom), parts) {
-            Form::Cell(first, rest) => Rest::Cell(first, rest),
-            Form::Curly(_) => Rest::Tail,
-            Form::Infix(_, _, _) => Rest::Tail,
-            Form::Call => Rest::Tail,
+            CompoundForm::Cell(first, rest) => Rest::Cell(first, rest),
+            CompoundForm::Curly(_) => Rest::Tail,
+            CompoundForm::Infix(_, _, _) => Rest::Tail,
+            CompoundForm::Call => Rest::Tail,
         },
     }
 }

@@ -3,7 +3,8 @@ use Rattle.std.proofs.lemmas.List.{length-map, get_or-map}
 use Rattle.std.proofs.lemmas.Option.{slice_get_within, get_or_from_slice_get}
 use Rattle.std.proofs.Math.Seq.{drop-cons}
 use Rattle.std.proofs.Math.ListN.{drop_of_length-le}
-use Rattle.std.proofs.Common.{◌≡◌, ℕ, suc, ◌+◌, ◌<◌, Bool, true, false, List, [], ◌∷◌, ◌++◌, length, drop, slice_get, Option, Some, None, Result, Err, refl, ap, sym, ◌∙◌, subst, arith, append_assoc, append-nil, codes, decimal}
+use Rattle.std.proofs.Common.{◌≡◌, ℕ, suc, ◌+◌, ◌<◌, Bool, true, false, List, [], ◌∷◌, ◌++◌, length, drop, slice_get, Option, Some, None, Result, Err, refl, ap}
+use Rattle.std.proofs.Common.{sym, ◌∙◌, subst, arith, append_assoc, append-nil, codes, decimal}
 use Rattle.fd_language.specs.declared.TheConstants.{INFINITY}
 use Rattle.fd_language.specs.Term.{Name}
 use Rattle.fd_model.specs.Goal.{Event, Program, Query, start_of}
@@ -11,11 +12,11 @@ use Rattle.fd_model.specs.Goal as model
 use Rattle.fd_model.specs.Lines.{event_bytes, events_bytes, line}
 use Rattle.fd_model.specs.Output.{Queries, is_stop, or_stop}
 use Rattle.fd_model.specs.Run.{Run}
-use Rattle.machine_relation.specs.Next.{is_final, IsNext}
+use Rattle.branch_meaning.specs.NextEvent.{is_final, IsNext}
 use Rattle.machine_events.specs.declared.MachineEvent.{MachineEvent}
 use Rattle.machine_events.specs.declared.MachineEvent.TheVariants as events
 use Rattle.machine_events.specs.Events.{event_of}
-use Rattle.machine_relation.proofs.Lemmas.{behind_other}
+use Rattle.branch_meaning.proofs.Lemmas.{behind_other}
 use Rattle.clause_check.specs.Programs.{FlatProgram, no_query, query_at, query_in, program_in}
 use Rattle.wam_code.specs.Area.{Area}
 use Rattle.code_machine.specs.States.{State, StandsFor, names_in, names_of}
@@ -40,7 +41,8 @@ pub remain_all : (m : State) (s : SinkState) (es : List Event) (r : ℕ) → Sta
 remain_all m s es r h = record { done = []; later = es; is = refl; wrote = wrote_nothing s; stands = h; stops = refl }
 
 -- what is still to be written begins with the line of the next event
-pub next_line : (m n : State) (old now : SinkState) (es : List Event) (r : ℕ) (e : Event) (k : Remain m old now es r) → IsNext State StandsFor m e n → (rest : List ℕ) × (events_bytes es ≡ k.done ++ (event_bytes e ++ rest))
+pub next_line : (m n : State) (old now : SinkState) (es : List Event) (r : ℕ) (e : Event) (k : Remain m old now es r) → IsNext State StandsFor m e n
+    → (rest : List ℕ) × (events_bytes es ≡ k.done ++ (event_bytes e ++ rest))
 next_line m n old now es r e k h =
     let first = h k.later r k.stands in
     (events_bytes first.0, k.is ∙ ap (λ (l : List Event). k.done ++ events_bytes l) first.1)
@@ -73,7 +75,8 @@ goes_on model.Limit later h = refl
 goes_on (model.Fault f) later h = absurd (cc)
 
 -- an event is written, and others follow
-pub event_written : (m n : State) (old now new : SinkState) (es : List Event) (r : ℕ) (e : Event) → is_final e ≡ false → Remain m old now es r → IsNext State StandsFor m e n → WroteAll now new (event_bytes e) → Remain n old new es r
+pub event_written : (m n : State) (old now new : SinkState) (es : List Event) (r : ℕ) (e : Event) → is_final e ≡ false → Remain m old now es r
+    → IsNext State StandsFor m e n → WroteAll now new (event_bytes e) → Remain n old new es r
 event_written m n old now new es r e more k h w =
     let first = h k.later r k.stands in
     let bytes = event_bytes e in
@@ -87,7 +90,8 @@ event_written m n old now new es r e more k h w =
     }
 
 -- the last event is written, and all is written
-pub last_written : (m : State) (old now new : SinkState) (es : List Event) (r : ℕ) (e : Event) → Remain m old now es r → ((fs : List Event) (total : ℕ) → StandsFor m fs total → fs ≡ e ∷ []) → WroteAll now new (event_bytes e)
+pub last_written : (m : State) (old now new : SinkState) (es : List Event) (r : ℕ) (e : Event) → Remain m old now es r
+    → ((fs : List Event) (total : ℕ) → StandsFor m fs total → fs ≡ e ∷ []) → WroteAll now new (event_bytes e)
     → WroteAll old new (events_bytes es) × (is_stop es ≡ is_stop (e ∷ []))
 last_written m old now new es r e k h w =
     let one = h k.later r k.stands in
@@ -107,7 +111,8 @@ pub record Behind (N steps : ℕ) (answers : Option ℕ) (prog : Program) (n : �
   pub stops : stop ≡ or_stop stopped later
 
 -- at the end
-pub behind_all : (N steps : ℕ) (answers : Option ℕ) (prog : Program) (n : ℕ) (old now : SinkState) (stopped : Bool) (out : List ℕ) (stop : Bool) → Behind N steps answers prog n [] old now stopped out stop → WroteAll old now out × (stopped ≡ stop)
+pub behind_all : (N steps : ℕ) (answers : Option ℕ) (prog : Program) (n : ℕ) (old now : SinkState) (stopped : Bool) (out : List ℕ) (stop : Bool)
+    → Behind N steps answers prog n [] old now stopped out stop → WroteAll old now out × (stopped ≡ stop)
 behind_all N steps answers prog n old now stopped out stop k =
     (subst (WroteAll old now) (sym (k.is ∙ ap (λ (b : List ℕ). k.done ++ b) k.queries.0 ∙ append-nil k.done)) k.wrote, sym (k.stops ∙ ap (or_stop stopped) k.queries.1 ∙ no_more stopped))
   where
@@ -128,7 +133,8 @@ pub record Next (N steps : ℕ) (answers : Option ℕ) (prog : Program) (n : ℕ
   pub queries : Queries INFINITY N prog steps answers (n + 1) qs rest later
   pub stops : stop ≡ or_stop stopped (or_stop (is_stop events) later)
 
-pub next_query : (N steps : ℕ) (answers : Option ℕ) (prog : Program) (n : ℕ) (q : Query) (qs : List Query) (old now : SinkState) (stopped : Bool) (out : List ℕ) (stop : Bool) → Behind N steps answers prog n (q ∷ qs) old now stopped out stop → Next N steps answers prog n q qs old now stopped out stop
+pub next_query : (N steps : ℕ) (answers : Option ℕ) (prog : Program) (n : ℕ) (q : Query) (qs : List Query) (old now : SinkState) (stopped : Bool) (out : List ℕ)
+    (stop : Bool) → Behind N steps answers prog n (q ∷ qs) old now stopped out stop → Next N steps answers prog n q qs old now stopped out stop
 next_query N steps answers prog n q qs old now stopped out stop k =
     let h = k.queries in record {
       done = k.done;
@@ -144,8 +150,10 @@ next_query N steps answers prog n q qs old now stopped out stop k =
     }
 
 -- its lines are written
-pub query_written : (N steps : ℕ) (answers : Option ℕ) (prog : Program) (n : ℕ) (q : Query) (qs : List Query) (old now mid new : SinkState) (stopped here then : Bool) (out : List ℕ) (stop : Bool) (k : Next N steps answers prog n q qs old now stopped out stop)
-    → WroteAll now mid (line (codes "query " ++ decimal n)) → WroteAll mid new (events_bytes k.events) → here ≡ is_stop k.events → then ≡ or_stop stopped here → Behind N steps answers prog (n + 1) qs old new then out stop
+pub query_written : (N steps : ℕ) (answers : Option ℕ) (prog : Program) (n : ℕ) (q : Query) (qs : List Query) (old now mid new : SinkState)
+    (stopped here then : Bool) (out : List ℕ) (stop : Bool) (k : Next N steps answers prog n q qs old now stopped out stop)
+    → WroteAll now mid (line (codes "query " ++ decimal n)) → WroteAll mid new (events_bytes k.events) → here ≡ is_stop k.events → then ≡ or_stop stopped here
+    → Behind N steps answers prog (n + 1) qs old new then out stop
 query_written N steps answers prog n q qs old now mid new stopped here then out stop k w v s t =
     let first = line (codes "query " ++ decimal n) in
     let events = events_bytes k.events in record {
@@ -168,11 +176,13 @@ pub same_names : (m n : State) → m.area ≡ n.area → m.query ≡ n.query →
 same_names m n e f = ap (λ (a : Area). names_in a m.query) e ∙ ap (λ (q : ℕ). names_in n.area q) f
 
 -- memory was wanting
-pub remain_short : {A : Type 0} (m : State) (old now : SinkState) (es : List Event) (r : ℕ) (result : Result A Fault) → Remain m old now es r → result ≡ Err fault.NoMemory → Wrote old now result (events_bytes es)
+pub remain_short : {A : Type 0} (m : State) (old now : SinkState) (es : List Event) (r : ℕ) (result : Result A Fault) → Remain m old now es r
+    → result ≡ Err fault.NoMemory → Wrote old now result (events_bytes es)
 remain_short {A} m old now es r result k e = subst (Wrote old now result) (sym k.is) (wrote_short old now result k.done (events_bytes k.later) e k.wrote)
 
 -- the line of the next event was cut short
-pub remain_cut : {A : Type 0} (m n : State) (old now new : SinkState) (es : List Event) (r : ℕ) (e : Event) (bytes : List ℕ) (f : Fault) (result : Result A Fault) → Remain m old now es r → IsNext State StandsFor m e n → bytes ≡ event_bytes e
+pub remain_cut : {A : Type 0} (m n : State) (old now new : SinkState) (es : List Event) (r : ℕ) (e : Event) (bytes : List ℕ) (f : Fault)
+    (result : Result A Fault) → Remain m old now es r → IsNext State StandsFor m e n → bytes ≡ event_bytes e
     → CutBy now new f bytes → result ≡ Err f → Wrote old new result (events_bytes es)
 remain_cut {A} m n old now new es r e bytes f result k h b c is =
     let next = next_line m n old now es r e k h in
@@ -180,7 +190,8 @@ remain_cut {A} m n old now new es r e bytes f result k h b c is =
     (subst (CutBy old new f) (sym next.1) (cut_then old now new k.done (event_bytes e ++ next.0) f k.wrote (cut_longer now new (event_bytes e) next.0 f (subst (CutBy now new f) b c))))
 
 -- an event that others follow
-pub remain_more : (m n : State) (old now new : SinkState) (es : List Event) (r : ℕ) (names : List Name) (ev : MachineEvent) (bytes : List ℕ) → is_final (event_of [] ev) ≡ false → Remain m old now es r → IsNext State StandsFor m (event_of names ev) n
+pub remain_more : (m n : State) (old now new : SinkState) (es : List Event) (r : ℕ) (names : List Name) (ev : MachineEvent) (bytes : List ℕ)
+    → is_final (event_of [] ev) ≡ false → Remain m old now es r → IsNext State StandsFor m (event_of names ev) n
     → bytes ≡ event_bytes (event_of names ev) → WroteAll now new bytes → Remain n old new es r
 remain_more m n old now new es r names ev bytes more k h b w = event_written m n old now new es r (event_of names ev) (final_names names ev ∙ more) k h (subst (WroteAll now new) b w)
 
@@ -223,13 +234,15 @@ drop_all : (n : ℕ) (qs : List Query) → n ≡ length qs → drop n qs ≡ []
 drop_all n qs e = drop_of_length-le qs (omega (arith, e))
 
 -- all queries are written
-pub program_written : (N steps : ℕ) (answers : Option ℕ) (prog : Program) (i : ℕ) (old now : SinkState) (stopped : Bool) (out : List ℕ) (stop : Bool) → i ≡ length prog.queries → Behind N steps answers prog (i + 1) (drop i prog.queries) old now stopped out stop
+pub program_written : (N steps : ℕ) (answers : Option ℕ) (prog : Program) (i : ℕ) (old now : SinkState) (stopped : Bool) (out : List ℕ) (stop : Bool)
+    → i ≡ length prog.queries → Behind N steps answers prog (i + 1) (drop i prog.queries) old now stopped out stop
     → WroteAll old now out × (stopped ≡ stop)
 program_written N steps answers prog i old now stopped out stop e k =
     behind_all N steps answers prog (i + 1) old now stopped out stop (subst (λ (qs : List Query). Behind N steps answers prog (i + 1) qs old now stopped out stop) (drop_all i prog.queries e) k)
 
 -- the first line of a query was cut short
-pub line_cut : {A : Type 0} (N steps : ℕ) (answers : Option ℕ) (prog : Program) (n : ℕ) (q : Query) (qs : List Query) (old now new : SinkState) (stopped : Bool) (out : List ℕ) (stop : Bool) (bytes : List ℕ) (f : Fault) (result : Result A Fault) → Next N steps answers prog n q qs old now stopped out stop
+pub line_cut : {A : Type 0} (N steps : ℕ) (answers : Option ℕ) (prog : Program) (n : ℕ) (q : Query) (qs : List Query) (old now new : SinkState) (stopped : Bool)
+    (out : List ℕ) (stop : Bool) (bytes : List ℕ) (f : Fault) (result : Result A Fault) → Next N steps answers prog n q qs old now stopped out stop
     → bytes ≡ line (codes "query " ++ decimal n) → CutBy now new f bytes → result ≡ Err f → Wrote old new result out
 line_cut {A} N steps answers prog n q qs old now new stopped out stop bytes f result k b c is =
     let first = line (codes "query " ++ decimal n) in
@@ -238,14 +251,17 @@ line_cut {A} N steps answers prog n q qs old now new stopped out stop bytes f re
     (subst (CutBy old new f) (sym k.is) (cut_then old now new k.done (first ++ later) f k.wrote (cut_longer now new first later f (subst (CutBy now new f) b c))))
 
 -- its events were cut short
-pub events_cut : {A : Type 0} (N steps : ℕ) (answers : Option ℕ) (prog : Program) (n : ℕ) (q : Query) (qs : List Query) (old now mid new : SinkState) (stopped : Bool) (out : List ℕ) (stop : Bool) (bytes : List ℕ) (f : Fault) (result : Result A Fault) (k : Next N steps answers prog n q qs old now stopped out stop)
+pub events_cut : {A : Type 0} (N steps : ℕ) (answers : Option ℕ) (prog : Program) (n : ℕ) (q : Query) (qs : List Query) (old now mid new : SinkState)
+    (stopped : Bool) (out : List ℕ) (stop : Bool) (bytes : List ℕ) (f : Fault) (result : Result A Fault)
+    (k : Next N steps answers prog n q qs old now stopped out stop)
     → bytes ≡ line (codes "query " ++ decimal n) → WroteAll now mid bytes → CutBy mid new f (events_bytes k.events) → result ≡ Err f → Wrote old new result out
 events_cut {A} N steps answers prog n q qs old now mid new stopped out stop bytes f result k b w c is =
     let first = line (codes "query " ++ decimal n) in
     let events = events_bytes k.events in
     let before = all_then old now mid k.done first k.wrote (subst (WroteAll now mid) b w) in
     wrote_cut old new result f out is
-    (subst (CutBy old new f) (sym (k.is ∙ sym (append_assoc k.done first (events ++ k.rest)))) (cut_then old mid new (k.done ++ first) (events ++ k.rest) f before (cut_longer mid new events k.rest f c)))
+    (subst (CutBy old new f) (sym (k.is ∙ sym (append_assoc k.done first (events ++ k.rest))))
+    (cut_then old mid new (k.done ++ first) (events ++ k.rest) f before (cut_longer mid new events k.rest f c)))
 
 pub or_true : (b : Bool) → or_stop b true ≡ true
 or_true true = refl

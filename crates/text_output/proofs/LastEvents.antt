@@ -1,5 +1,6 @@
 -- The last events of queries, one after another.
-use Rattle.std.proofs.Common.{◌≡◌, ◌⊎◌, ℕ, ◌+◌, Bool, true, false, List, [], ◌∷◌, ◌++◌, length, slice_get, Some, refl, ap, sym, ◌∙◌, subst, inl, inr, length-append}
+use Rattle.std.proofs.Common.{◌≡◌, ◌⊎◌, ℕ, ◌+◌, Bool, true, false, List, [], ◌∷◌, ◌++◌, length, slice_get, Some, refl, ap, sym, ◌∙◌, subst, inl, inr}
+use Rattle.std.proofs.Common.{length-append}
 use Rattle.std.specs.Prelude.{◌||◌, Result, IfOk}
 use Rattle.std.specs.List.{list_any}
 use Rattle.std.proofs.lemmas.List.Folds.{list_any-append}
@@ -25,7 +26,8 @@ or_none true = refl
 or_none false = refl
 
 -- the next query has ended
-one_more : (area : Area) (limits : Limits) (count : ℕ) (before here now : Bool) (e : MachineEvent) → AreSome area limits count before → EndsBy area count limits e → here ≡ stops e → now ≡ (before || here) → AreSome area limits (count + 1) now
+one_more : (area : Area) (limits : Limits) (count : ℕ) (before here now : Bool) (e : MachineEvent) → AreSome area limits count before
+    → EndsBy area count limits e → here ≡ stops e → now ≡ (before || here) → AreSome area limits (count + 1) now
 one_more area limits count before here now e some ends is joined = record {
   events = some.events ++ e ∷ [];
   all = length-append some.events (e ∷ []) ∙ ap (λ (n : ℕ). n + 1) some.all;
@@ -44,7 +46,8 @@ or_same true b = refl
 or_same false b = refl
 
 -- the next query has ended, which runs over the same code
-pub next_last : (area shared : Area) → shared ≡ area → (limits : Limits) (count : ℕ) (before here now : Bool) → AreSome area limits count before → LastBy shared count limits here → now ≡ or_stop before here → AreSome area limits (count + 1) now
+pub next_last : (area shared : Area) → shared ≡ area → (limits : Limits) (count : ℕ) (before here now : Bool) → AreSome area limits count before
+    → LastBy shared count limits here → now ≡ or_stop before here → AreSome area limits (count + 1) now
 next_last area shared same limits count before here now some last joined =
     one_more area limits count before here now last.0 some (subst (λ (a : Area). EndsBy a count limits last.0) same last.1) last.2 (joined ∙ or_same before here)
 

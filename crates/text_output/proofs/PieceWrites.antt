@@ -36,7 +36,8 @@ line_more old now new text front left line later is next h g =
     (is ∙ ap (λ (l : List ℕ). front ++ l) next ∙ sym (append_assoc front line later), all_then old now new front line h g)
 
 -- or was cut short
-pub line_short : {A : Type 0} (old now new : SinkState) (r : Result A Fault) (e : Fault) (text front left line later : List ℕ) → r ≡ Err e → text ≡ front ++ left → left ≡ line ++ later → WroteAll old now front → CutBy now new e line
+pub line_short : {A : Type 0} (old now new : SinkState) (r : Result A Fault) (e : Fault) (text front left line later : List ℕ) → r ≡ Err e
+    → text ≡ front ++ left → left ≡ line ++ later → WroteAll old now front → CutBy now new e line
     → Wrote old new r text
 line_short {A} old now new r e text front left line later err is next h g =
     let part : text ≡ front ++ (line ++ later) = is ∙ ap (λ (l : List ℕ). front ++ l) next in
@@ -48,7 +49,8 @@ line_last {A} old now new r text front left is h g = subst (Wrote old new r) (sy
 
 -- ---- what was written, whatever it is
 
-pub some_cut : {A : Type 0} (old now new : SinkState) (r : Result A Fault) (e : Fault) (piece : List ℕ) → r ≡ Err e → (done : List ℕ) × WroteAll old now done → CutBy now new e piece → (out : List ℕ) × Wrote old new r out
+pub some_cut : {A : Type 0} (old now new : SinkState) (r : Result A Fault) (e : Fault) (piece : List ℕ) → r ≡ Err e → (done : List ℕ) × WroteAll old now done
+    → CutBy now new e piece → (out : List ℕ) × Wrote old new r out
 some_cut {A} old now new r e piece is some c = (some.0 ++ piece, wrote_cut old new r e (some.0 ++ piece) is (cut_then old now new some.0 piece e some.1 c))
 
 pub some_short : {A : Type 0} (old now : SinkState) (r : Result A Fault) → r ≡ Err fault.NoMemory → (done : List ℕ) × WroteAll old now done → (out : List ℕ) × Wrote old now r out

@@ -1,10 +1,11 @@
 -- The code of a text's program may run its queries.
-use Rattle.std.proofs.Common.{◌≡◌, ℕ, zero, suc, ◌<◌, List, [], ◌∷◌, All, map, length, slice_get, slice_index_or, Some, option_map, refl, ap, sym, ◌∙◌, subst, arith}
+use Rattle.std.proofs.Common.{◌≡◌, ℕ, zero, suc, ◌<◌, List, [], ◌∷◌, All, map, length, slice_get, slice_index_or, Some, option_map, refl, ap, sym, ◌∙◌, subst}
+use Rattle.std.proofs.Common.{arith}
 use Rattle.std.proofs.lemmas.List.{length-map, get_or-map}
 use Rattle.std.proofs.lemmas.Option.{slice_get-map, slice_get-get_or}
 use Rattle.fd_language.specs.declared.TheConstants.{INFINITY}
 use Rattle.fd_model.specs.Goal.{Program, Query}
-use Rattle.fd_model.specs.Sound.{EachBelow, NumbersBelow, AreRunnable, QueriesScoped, QueriesRunnable}
+use Rattle.fd_model.specs.RunnablePrograms.{EachBelow, NumbersBelow, AreRunnable, QueriesScoped, QueriesRunnable}
 use Rattle.term_pool.specs.declared.AtomId.{AtomId}
 use Rattle.term_pool.specs.Contents.{atom_name}
 use Rattle.clause_check.specs.Programs.{FlatProgram, IsProgram, no_query, query_at, query_in, program_in}
@@ -17,7 +18,8 @@ use Rattle.code_machine.specs.States.{MayRun, no_span, names_in}
 use Rattle.text_output.specs.Endings.{RunsProgram}
 
 -- the query with a number, and its code
-query_at_code : (area : Area) (qs : List Query) (cs : List Span) → AreQueries area qs cs → (i : ℕ) → i < length cs → (q : Query) × (c : Span) × (slice_get qs i ≡ Some q) × (slice_get cs i ≡ Some c) × IsQueryCode area q c
+query_at_code : (area : Area) (qs : List Query) (cs : List Span) → AreQueries area qs cs → (i : ℕ) → i < length cs
+    → (q : Query) × (c : Span) × (slice_get qs i ≡ Some q) × (slice_get cs i ≡ Some c) × IsQueryCode area q c
 query_at_code area qs [] h i l = absurd (omega (arith, l))
 query_at_code area [] (c ∷ cs) h i l = absurd h
 query_at_code area (q ∷ qs) (c ∷ cs) h zero l = (q, c, refl, refl, h.0)
@@ -80,7 +82,8 @@ has_query area p stands i l =
 pub may_run : (area : Area) (p : FlatProgram) → IsProgram p → StandsForProgram area (program_in p) → (i : ℕ) → i < length p.queries → MayRun area i (program_in p) (query_in p (query_at p i))
 may_run area p known stands i l =
     let m = may_run_query area (program_in p) (runs_program area p known stands) i (has_query area p stands i l) in
-    let there : slice_get (program_in p).queries i ≡ Some (query_in p (query_at p i)) = slice_get-map (query_in p) p.queries i ∙ ap (option_map (query_in p)) (slice_get-get_or p.queries i no_query l) in
+    let there : slice_get (program_in p).queries i ≡ Some (query_in p (query_at p i)) = slice_get-map (query_in p) p.queries i
+    ∙ ap (option_map (query_in p)) (slice_get-get_or p.queries i no_query l) in
     let same : m.0 ≡ query_in p (query_at p i) = (let e : Some m.0 ≡ Some (query_in p (query_at p i)) = sym m.1 ∙ there in cc (e)) in
     subst (MayRun area i (program_in p)) same m.2
 
@@ -88,7 +91,8 @@ names_own : (a : Area) → IsVerified a → (i : ℕ) → i < length a.queries �
 names_own a v i l = v.1.query_names i no_span l
 
 -- The names of a query stand in the parts of its code, and are atoms of its pool.
-pub names_kept : (parts : CodeParts) (area : Area) → area_of parts ≡ area → IsVerified area → (i : ℕ) → i < length area.queries → (q : QueryEntry) → q ≡ slice_index_or parts.queries.items i q → (ns : List AtomId) → ns ≡ q.names.items
+pub names_kept : (parts : CodeParts) (area : Area) → area_of parts ≡ area → IsVerified area → (i : ℕ) → i < length area.queries → (q : QueryEntry)
+    → q ≡ slice_index_or parts.queries.items i q → (ns : List AtomId) → ns ≡ q.names.items
     → All (λ a. a.number < length parts.pool.names) ns × (map (atom_name parts.pool) ns ≡ names_in area i)
 names_kept parts area e v i l q is ns named =
     let own : Area = area_of parts in

@@ -5,12 +5,12 @@ use Rattle.fd_language.specs.declared.TheConstants.{INFINITY}
 use Rattle.fd_model.specs.Goal.{Program, Query, Event, start_of}
 use Rattle.fd_model.specs.Output.{is_stop}
 use Rattle.fd_model.specs.Run.{Run}
-use Rattle.fd_model.specs.Sound.{IsScoped, IsRunnableProgram}
+use Rattle.fd_model.specs.RunnablePrograms.{IsScoped, IsRunnableProgram}
 use Rattle.machine_events.specs.declared.Limits.{Limits}
 use Rattle.machine_events.specs.declared.MachineEvent.{MachineEvent}
 use Rattle.machine_events.specs.declared.MachineEvent.TheVariants as event
 use Rattle.machine_events.specs.Events.{event_of}
-use Rattle.machine_relation.specs.Next.{is_final}
+use Rattle.branch_meaning.specs.NextEvent.{is_final}
 use Rattle.clause_check.specs.Programs.{FlatProgram, program_in, query_at, query_in}
 use Rattle.wam_code.specs.Area.{Area}
 use Rattle.wam_code.specs.Tries.{StandsForProgram}

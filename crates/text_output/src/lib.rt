@@ -2,7 +2,7 @@
 #![tactic(auto)]
 
 mod fault;
-mod writing;
+mod output_lines;
 
 pub use crate::fault::Fault;
-pub use crate::writing::{answer, answer_code, ending, put_last};
+pub use crate::output_lines::{answer, answer_code, ending, put_last};

@@ -4,9 +4,9 @@
 #![tactic(auto)]
 
 #[cfg(test)]
-mod pools;
+mod assertions;
 #[cfg(test)]
-mod same;
+mod pools;
 #[cfg(test)]
 mod sentences;
 #[cfg(test)]

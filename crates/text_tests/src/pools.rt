@@ -1,9 +1,9 @@
 //! Atoms and terms of a pool by their numbers.
 
 ghost use Rattle.std.specs.Prelude.{◌≡◌, ◌<◌, ◌≤◌, length, IfOk};
-ghost use Rattle.term_pool.specs.Valid.{IsWithin, shape_of};
+ghost use Rattle.term_pool.specs.PoolInvariant.{IsWithin, shape_of};
 
-use crate::same::same;
+use crate::assertions::same;
 use std::process::Abort;
 use std::test::Fail;
 use term_pool::{AtomId, CONS, NIL, Node, Pool, SPAN, TermId};

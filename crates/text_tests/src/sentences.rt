@@ -3,7 +3,7 @@
 ghost use Rattle.std.specs.Prelude.{◌<◌, length, All, OnOk};
 ghost use Rattle.term_reader.specs.Sentences.{AreOwn};
 
-use crate::same::{columns, same};
+use crate::assertions::{columns, same};
 use char_tokens::TokenFault;
 use std::alloc::{AllocError, Global};
 use std::process::Abort;

@@ -2,7 +2,7 @@
 
 ghost use Rattle.term_reader.specs.Sentences.{AreOwn};
 
-use crate::same::{columns, same};
+use crate::assertions::{columns, same};
 use std::alloc::Global;
 use std::process::Abort;
 use std::test::Fail;

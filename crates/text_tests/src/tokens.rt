@@ -1,6 +1,6 @@
 //! Texts with their tokens or their fault, as the format states them.
 
-use crate::same::{columns, same};
+use crate::assertions::{columns, same};
 use char_tokens::{Kind, Scanner, Token, TokenFault, tokens, unquote};
 use std::alloc::{AllocError, Global};
 use std::process::Abort;

@@ -1,3 +1,3 @@
 mod OneVerdict
-mod Judging
+mod Verdicts
 pub mod Lemmas

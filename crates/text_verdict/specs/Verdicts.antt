@@ -5,8 +5,8 @@ use Rattle.fd_model.specs.Verdict as model
 use Rattle.fd_model.specs.Verdict.{IsVerdict}
 use Rattle.answer_text.specs.Reasons.{reason_text, IsReasonIn}
 use Rattle.clause_check.specs.Programs.{program_in}
-use Rattle.text_verdict.specs.declared.judge.Verdict.{Verdict}
-use Rattle.text_verdict.specs.declared.judge.Verdict.TheVariants.{Accepted, Refused}
+use Rattle.text_verdict.specs.declared.judgement.Verdict.{Verdict}
+use Rattle.text_verdict.specs.declared.judgement.Verdict.TheVariants.{Accepted, Refused}
 
 -- the definition's verdict
 abbrev pub verdict_of : Verdict → model.Verdict

@@ -1,6 +1,6 @@
 //! What a text is: a program, or refused at a place for a reason.
 #![tactic(auto)]
 
-mod judge;
+mod judgement;
 
-pub use crate::judge::{Verdict, judge_text, refused};
+pub use crate::judgement::{Verdict, judge_text, refused};

@@ -1,5 +1,6 @@
 -- Functors by the numbers of their names, and their places in a list.
-use Rattle.std.proofs.Common.{◌≡◌, ◌≢◌, ℕ, suc, ◌+◌, ◌<◌, ◌⊎◌, inl, inr, Bool, true, false, cond, List, [], ◌∷◌, ◌++◌, Some, None, length, refl, sym, ap, ap₂, ◌∙◌, arith, true≢false}
+use Rattle.std.proofs.Common.{◌≡◌, ◌≢◌, ℕ, suc, ◌+◌, ◌<◌, ◌⊎◌, inl, inr, Bool, true, false, cond, List, [], ◌∷◌, ◌++◌, Some, None, length, refl, sym, ap, ap₂}
+use Rattle.std.proofs.Common.{◌∙◌, arith, true≢false}
 use Rattle.std.specs.Prelude.{◌==◌, ◌&&◌, ◌||◌, not, nat_lt, position}
 use Rattle.std.specs.List.{list_any, position_or_len, AllByRecursion}
 use Rattle.std.specs.Str.{bytes_eq}
@@ -12,7 +13,7 @@ use Rattle.fd_model.specs.Refusals as refusals
 use Rattle.fd_model.specs.Refusals.{same_functor}
 use Rattle.term_pool.specs.declared.AtomId.{AtomId}
 use Rattle.term_pool.specs.Contents.{Contents, atom_name}
-use Rattle.term_pool.specs.Valid.{IsPool}
+use Rattle.term_pool.specs.PoolInvariant.{IsPool}
 use Rattle.term_pool.proofs.Lemmas.{same_text}
 use Rattle.term_reader.proofs.Lemmas.{same_id}
 use Rattle.indexmap.specs.IndexSet.{insert_key}
@@ -93,7 +94,8 @@ module _ {X : Type 0} where
   pub position_same : (p q : X → Bool) (xs : List X) → AllByRecursion (λ x. p x ≡ q x) xs → position p xs ≡ position q xs
   position_same p q xs all = ap (λ (n : ℕ). cond (nat_lt n (length xs)) (Some n) None) (prefix_same p q xs all)
 
-  below_by : (p : X → Bool) (x : X) (xs : List X) (b : Bool) → p x ≡ b → (b || list_any p xs) ≡ true → (list_any p xs ≡ true → position_or_len p xs < length xs) → position_or_len p (x ∷ xs) < suc (length xs)
+  below_by : (p : X → Bool) (x : X) (xs : List X) (b : Bool) → p x ≡ b → (b || list_any p xs) ≡ true → (list_any p xs ≡ true → position_or_len p xs < length xs)
+      → position_or_len p (x ∷ xs) < suc (length xs)
   below_by p x xs true h k next = rw h (omega arith)
   below_by p x xs false h k next = let later = next k in rw h (omega arith)
 

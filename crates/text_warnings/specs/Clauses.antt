@@ -5,13 +5,14 @@ use Rattle.fd_language.specs.Term.{Name}
 use Rattle.fd_language.specs.PlacedTerm.{PlacedTerm, comp, no_parts, part, place}
 use Rattle.fd_language.specs.Reading.{Sentence}
 use Rattle.fd_model.specs.Forms.{joining_names, is_named}
-use Rattle.fd_model.specs.Refusals.{Functor, same_functor, functor_of, Form, query, clause, directive, fact, form_of}
+use Rattle.fd_model.specs.Refusals.{Functor, same_functor, functor_of, SentenceKind, query, clause, directive, fact, form_of}
 
 -- the goals that ask for a best leaf: the first of their two arguments is a goal
 abbrev pub cost_names : List Name
 cost_names = codes "fd_minimize" ∷ codes "fd_maximize" ∷ []
 
--- the goals of a body in the order of the text; those of which `,`, `;`, `->` and `\+` are made, and that of a goal that asks for a best leaf, stand in its place
+-- the goals of a body in the order of the text; those of which `,`, `;`, `->` and `\+` are made, and that of a goal that asks for a best leaf, stand in its
+-- place
 abbrev pub goals_in : PlacedTerm → List PlacedTerm
 goals_in (comp f p (part a no_parts)) =
     if is_named (joining_names 1) f then goals_in a else comp f p (part a no_parts) ∷ []
@@ -36,7 +37,7 @@ abbrev pub clause_headed : Option Functor → ℕ → List Functor → List User
 clause_headed None p calls = []
 clause_headed (Some f) p calls = record { functor = f; place = p; calls = calls } ∷ []
 
-abbrev pub clauses_by : Form → List UserClause
+abbrev pub clauses_by : SentenceKind → List UserClause
 clauses_by (query b) = []
 clauses_by (clause h b) = clause_headed (functor_of h) (place h) (calls_of b)
 clauses_by directive = []
@@ -46,7 +47,7 @@ clauses_by (fact h) = clause_headed (functor_of h) (place h) []
 abbrev pub clauses_in : List Sentence → List UserClause
 clauses_in ss = flat_map (λ s. clauses_by (form_of s.term)) ss
 
-abbrev pub query_calls_by : Form → List Functor
+abbrev pub query_calls_by : SentenceKind → List Functor
 query_calls_by (query b) = calls_of b
 query_calls_by _ = []
 

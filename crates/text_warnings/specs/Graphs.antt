@@ -1,5 +1,6 @@
 -- What is kept of predicates by their numbers, and what is reached among numbers.
-use Rattle.std.specs.Prelude.{◌≡◌, ◌↔◌, ℕ, ◌<◌, ◌==◌, Bool, true, false, not, nat_eq, List, [], ◌++◌, length, map, filter, All, Option, None, Some, position, slice_index_or, if◌then◌else◌}
+use Rattle.std.specs.Prelude.{◌≡◌, ◌↔◌, ℕ, ◌<◌, ◌==◌, Bool, true, false, not, nat_eq, List, [], ◌++◌, length, map, filter, All, Option, None, Some, position}
+use Rattle.std.specs.Prelude.{slice_index_or, if◌then◌else◌}
 use Rattle.std.specs.List.{filter_map, flat_map, list_any}
 use Rattle.std.proofs.Common.{Vec, Global}
 use Rattle.fd_model.specs.Refusals as refusals
@@ -9,7 +10,7 @@ use Rattle.term_reader.specs.declared.reader.Sentences.{Sentences}
 use Rattle.term_reader.specs.Sentences.{sentences_of}
 use Rattle.text_warnings.specs.Clauses.{query_calls}
 use Rattle.text_warnings.specs.Terms.{functor_in, same_numbers}
-use Rattle.text_warnings.specs.Seen.{key_of, body_calls}
+use Rattle.text_warnings.specs.WarningViews.{key_of, body_calls}
 use Rattle.text_warnings.specs.declared.Concern.TheVariants.{Apart, Unreached}
 use Rattle.text_warnings.specs.declared.Warning.{Warning}
 use Rattle.text_warnings.specs.declared.terms.Functor.{Functor}

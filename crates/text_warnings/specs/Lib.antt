@@ -2,6 +2,6 @@ pub mod Runs
 pub mod Clauses
 pub mod Warnings
 pub mod Terms
-pub mod Marks
-pub mod Seen
+pub mod OccurrenceCounts
+pub mod WarningViews
 pub mod Graphs

@@ -32,7 +32,7 @@ abbrev pub IsFunctor : Contents → Option refusals.Functor → Option Functor �
 IsFunctor c o None = o ≡ None
 IsFunctor c o (Some f) = (f.name.number < length c.names) × (o ≡ Some (functor_in c f))
 
-abbrev pub form_in : Contents → SentenceForm → refusals.Form
+abbrev pub form_in : Contents → SentenceForm → refusals.SentenceKind
 form_in c (Query b) = refusals.query (placed_of c b)
 form_in c (Clause h b) = refusals.clause (placed_of c h) (placed_of c b)
 form_in c Directive = refusals.directive

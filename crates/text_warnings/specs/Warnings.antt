@@ -6,7 +6,7 @@ use Rattle.fd_language.specs.Term.{Name}
 use Rattle.fd_language.specs.PlacedTerm.{PlacedTerm, PlacedTerms, var, int, atom, comp, no_parts, part}
 use Rattle.fd_language.specs.Reading.{Sentence}
 use Rattle.fd_model.specs.Queries.{is_shown}
-use Rattle.fd_model.specs.Refusals.{Functor, same_functor, Form, query, form_of}
+use Rattle.fd_model.specs.Refusals.{Functor, same_functor, SentenceKind, query, form_of}
 use Rattle.text_warnings.specs.Runs.{firsts_behind, resumed_behind}
 use Rattle.text_warnings.specs.Clauses.{UserClause, clauses_in, is_among, IsReached}
 
@@ -52,7 +52,7 @@ singles_from n [] t = []
 singles_from n (name ∷ names) t = single_at name (places_of n t) ++ singles_from (suc n) names t
 
 -- a query shows its variables, so one that occurs once in it is no mistake
-abbrev pub singles_by : Form → List Name → PlacedTerm → List Warning
+abbrev pub singles_by : SentenceKind → List Name → PlacedTerm → List Warning
 singles_by (query b) names t = []
 singles_by _ names t = singles_from 0 names t
 

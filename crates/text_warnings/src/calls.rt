@@ -7,7 +7,7 @@ ghost use Rattle.fd_model.specs.Refusals.{functor_of as functor_of_term};
 ghost use Rattle.term_pool.specs.PlacedTerms.{placed_of};
 ghost use Rattle.text_warnings.specs.Clauses.{calls_of};
 ghost use Rattle.text_warnings.specs.Graphs.{items_of, numbers_in, AddsEdges, AreEdges, AreEmpty, AreNames};
-ghost use Rattle.text_warnings.specs.Seen.{IsOwn};
+ghost use Rattle.text_warnings.specs.WarningViews.{IsOwn};
 
 use crate::clauses::Clause;
 use crate::terms::{Body, Functor, body_form, functor_of};

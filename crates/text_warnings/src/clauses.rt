@@ -7,7 +7,7 @@ ghost use Rattle.fd_model.specs.Refusals.{form_of, functor_of as functor_of_term
 ghost use Rattle.term_pool.specs.PlacedTerms.{placed_of};
 ghost use Rattle.term_reader.specs.Sentences.{sentences_of, AreOwn};
 ghost use Rattle.text_warnings.specs.Clauses.{calls_of, clause_headed as made_of, clauses_by, clauses_in, query_calls, query_calls_by};
-ghost use Rattle.text_warnings.specs.Seen.{body_calls, clause_in, clauses_kept, IsBodyWithin, IsOwn, IsOwnIf};
+ghost use Rattle.text_warnings.specs.WarningViews.{body_calls, clause_in, clauses_kept, IsBodyWithin, IsOwn, IsOwnIf};
 
 use crate::terms::{Functor, SentenceForm, functor_of, sentence_form};
 use fd_language::NoMemory;

@@ -6,9 +6,9 @@ mod calls;
 mod clauses;
 mod predicates;
 mod reach;
-mod singles;
+mod singleton_variables;
 mod terms;
-mod unreached;
+mod unreached_predicates;
 mod warnings;
 
 pub use crate::terms::Functor;

@@ -4,7 +4,7 @@ ghost use Rattle.std.specs.Prelude.{◌≡◌, ◌<◌, length};
 ghost use Rattle.fd_model.specs.Forms.{joining_names, is_named};
 ghost use Rattle.fd_model.specs.Refusals.{functor_of as functor_of_term};
 ghost use Rattle.term_pool.specs.Terms.{term_of, shape_term};
-ghost use Rattle.term_pool.specs.Valid.{shape_of, IsPool, IsWithin};
+ghost use Rattle.term_pool.specs.PoolInvariant.{shape_of, IsPool, IsWithin};
 ghost use Rattle.term_pool.specs.PlacedTerms.{placed_of};
 ghost use Rattle.text_warnings.specs.Clauses.{cost_names};
 ghost use Rattle.text_warnings.specs.Terms.{one_part_form, two_parts_form, IsBody, IsFunctor, IsSeen, IsSentenceForm};

@@ -2,12 +2,12 @@
 
 ghost use Rattle.std.specs.Prelude.{map, All, IfOk, OnOk};
 ghost use Rattle.term_reader.specs.Sentences.{sentences_of, AreOwn};
-ghost use Rattle.text_warnings.specs.Seen.{warning_in, AddsAll, IsWarningWithin};
+ghost use Rattle.text_warnings.specs.WarningViews.{warning_in, AddsAll, IsWarningWithin};
 ghost use Rattle.text_warnings.specs.Warnings.{AreWarnings};
 
 use crate::Warning;
-use crate::singles::put_singles;
-use crate::unreached::put_predicates;
+use crate::singleton_variables::put_singles;
+use crate::unreached_predicates::put_predicates;
 use fd_language::NoMemory;
 use std::alloc::Global;
 use term_reader::Sentences;

@@ -1,5 +1,6 @@
 -- How a run ends, from what its last call says.
-use Rattle.std.proofs.Common.{◌≡◌, ℕ, ◌+◌, ◌<◌, ◌≤◌, ◌⊎◌, inl, inr, List, [], ◌++◌, length, Option, Some, None, IsSome, refl, ap, sym, subst, ◌∙◌, arith, codes, Bool, true, false, true≢false, length-append, append-nil}
+use Rattle.std.proofs.Common.{◌≡◌, ℕ, ◌+◌, ◌<◌, ◌≤◌, ◌⊎◌, inl, inr, List, [], ◌++◌, length, Option, Some, None, IsSome, refl, ap, sym, subst, ◌∙◌, arith, codes}
+use Rattle.std.proofs.Common.{Bool, true, false, true≢false, length-append, append-nil}
 use Rattle.std.specs.Prelude.{Result, Ok, Err, IfOk, is_none}
 use Rattle.fd_language.specs.declared.NoMemory.{NoMemory as OutOfMemory}
 use Rattle.fd_language.specs.declared.TheConstants.{INFINITY}
@@ -15,8 +16,8 @@ use Rattle.byte_ports.specs.Ports.{Put, Took, IsAtEnd, ReadJust, ReadWithin, Ros
 use Rattle.byte_ports.proofs.Lemmas.{put_none}
 use Rattle.term_pool.specs.Contents.{Contents}
 use Rattle.answer_text.specs.declared.reason.Reason.TheVariants.{TooLarge}
-use Rattle.text_verdict.specs.declared.judge.Verdict.{Verdict}
-use Rattle.text_verdict.specs.declared.judge.Verdict.TheVariants as verdict
+use Rattle.text_verdict.specs.declared.judgement.Verdict.{Verdict}
+use Rattle.text_verdict.specs.declared.judgement.Verdict.TheVariants as verdict
 use Rattle.top_level.specs.Headline.{Headline, IsDecided, IsText, reads_source}
 use Rattle.text_output.specs.Endings.{Ending}
 use Rattle.text_output.proofs.Lemmas.{no_memory}
@@ -26,13 +27,15 @@ use Rattle.top_level.proofs.OneOutput.{one_output, verdict_output, large_output}
 
 -- ---- verdicts
 
-pub verdict_outputs : (words : List (List ℕ)) (o : command.Options) (text : List ℕ) (v : Result Verdict OutOfMemory) (out : List ℕ) (st : Status) → options_of words ≡ Some (asked o) → o.generate ≡ None
+pub verdict_outputs : (words : List (List ℕ)) (o : command.Options) (text : List ℕ) (v : Result Verdict OutOfMemory) (out : List ℕ) (st : Status)
+    → options_of words ≡ Some (asked o) → o.generate ≡ None
     → IfOk v (IsVerdictOn o.infinity text) → Output INFINITY (options_of words) text out st → IfOk v (λ v. VerdictOutput INFINITY o.infinity (verdict_of v) o.steps o.answers out st)
 verdict_outputs words o text (Ok v) out st e read h p =
     verdict_output INFINITY (asked o) text (verdict_of v) out st read h.verdict (subst (λ (a : Option Options). Output INFINITY a text out st) e p)
 verdict_outputs words o text (Err f) out st e read h p = tt
 
-pub large_verdicts : (N : ℕ) (text : List ℕ) (v : Result Verdict OutOfMemory) → max_text < length text → IfOk v (λ v. (pool : Contents) × (v ≡ verdict.Refused max_text TooLarge pool)) → IfOk v (IsVerdictOn N text)
+pub large_verdicts : (N : ℕ) (text : List ℕ) (v : Result Verdict OutOfMemory) → max_text < length text
+    → IfOk v (λ v. (pool : Contents) × (v ≡ verdict.Refused max_text TooLarge pool)) → IfOk v (IsVerdictOn N text)
 large_verdicts N text (Ok v) l h = subst (IsVerdictOn N text) (sym h.1) (record { names = tt; verdict = large_verdict INFINITY N text l })
 large_verdicts N text (Err e) l h = tt
 
@@ -112,8 +115,10 @@ rose_not : (a b : ℕ) → b ≡ a → a < b → ⊥
 rose_not a b e l = omega arith
 
 -- the last call wrote the output of a text of the run
-module _ (words : List (List ℕ)) (old new : Ends) (result : Status) (text : List ℕ) (out : List ℕ) (st : Status) (output : Output INFINITY (options_of words) text out st) (is : IsText (options_of words) old.left new.left text)
-    (kept : new.source_faults ≡ old.source_faults) (rest : (front : List ℕ) × Took old.left new.left front) (whole_read : reads_source (options_of words) ≡ true → (result ≡ Done) ⊎ (result ≡ Stopped) → (st ≡ Done) ⊎ (st ≡ Stopped) → IsAtEnd new.left)
+module _ (words : List (List ℕ)) (old new : Ends) (result : Status) (text : List ℕ) (out : List ℕ) (st : Status)
+    (output : Output INFINITY (options_of words) text out st) (is : IsText (options_of words) old.left new.left text)
+    (kept : new.source_faults ≡ old.source_faults) (rest : (front : List ℕ) × Took old.left new.left front) (whole_read : reads_source (options_of words) ≡ true
+    → (result ≡ Done) ⊎ (result ≡ Stopped) → (st ≡ Done) ⊎ (st ≡ Stopped) → IsAtEnd new.left)
     (same : reads_source (options_of words) ≡ false → (new.left ≡ old.left) × (new.source_faults ≡ old.source_faults)) where
   abbrev source_stays : old.source_faults < new.source_faults → ⊥
   source_stays l = rose_not old.source_faults new.source_faults kept l
@@ -175,16 +180,19 @@ module _ (words : List (List ℕ)) (old new : Ends) (result : Status) (text : Li
 module _ (words : List (List ℕ)) (old new : Ends) (result : Status) (none : reads_source (options_of words) ≡ false) (same : new.left ≡ old.left) (count : new.source_faults ≡ old.source_faults) where
   unread : (out : List ℕ) (st : Status) → Output INFINITY (options_of words) [] out st → Ending (sink_of old) (sink_of new) result st out → Headline words old new result
   unread out st output h =
-      ended words old new result [] out st output (λ r. not_both (options_of words) r none) count (subst (λ (l : Option (List ℕ)). (front : List ℕ) × Took old.left l front) (sym same) (none_took old.left))
+      ended words old new result [] out st output (λ r. not_both (options_of words) r none) count
+      (subst (λ (l : Option (List ℕ)). (front : List ℕ) × Took old.left l front) (sym same) (none_took old.left))
       (λ r. not_both (options_of words) r none) (λ n. (same, count)) h
 
 -- refused words
-pub with_refused : (words : List (List ℕ)) (old new : Ends) (result : Status) → options_of words ≡ None → new.left ≡ old.left → new.source_faults ≡ old.source_faults → Ending (sink_of old) (sink_of new) result Usage usage → Headline words old new result
+pub with_refused : (words : List (List ℕ)) (old new : Ends) (result : Status) → options_of words ≡ None → new.left ≡ old.left
+    → new.source_faults ≡ old.source_faults → Ending (sink_of old) (sink_of new) result Usage usage → Headline words old new result
 with_refused words old new result none same count h =
     unread words old new result (refused_words (options_of words) none) same count usage Usage (subst (λ (a : Option Options). Output INFINITY a [] usage Usage) (sym none) (refl, refl)) h
 
 -- the summary of a generated text was written
-pub with_summary : (words : List (List ℕ)) (o : Options) (n : ℕ) (old new : Ends) (result : Status) → options_of words ≡ Some o → o.generate ≡ Some n → new.left ≡ old.left → new.source_faults ≡ old.source_faults
+pub with_summary : (words : List (List ℕ)) (o : Options) (n : ℕ) (old new : Ends) (result : Status) → options_of words ≡ Some o → o.generate ≡ Some n
+    → new.left ≡ old.left → new.source_faults ≡ old.source_faults
     → ((out : List ℕ) (st : Status) → IsSummary INFINITY n o out st → Ending (sink_of old) (sink_of new) result st out) → Headline words old new result
 with_summary words o n old new result some size same count h =
     let one = one_output INFINITY words [] in
@@ -193,7 +201,8 @@ with_summary words o n old new result some size same count h =
     unread words old new result (size_words (options_of words) o n some size) same count one.0 one.1 one.2 (h one.0 one.1 is)
 
 -- the text was read, and its output written
-pub with_read : (words : List (List ℕ)) (o : Options) (old new : Ends) (result : Status) (text : List ℕ) → options_of words ≡ Some o → o.generate ≡ None → Took old.left new.left text → IsAtEnd new.left → new.source_faults ≡ old.source_faults
+pub with_read : (words : List (List ℕ)) (o : Options) (old new : Ends) (result : Status) (text : List ℕ) → options_of words ≡ Some o → o.generate ≡ None
+    → Took old.left new.left text → IsAtEnd new.left → new.source_faults ≡ old.source_faults
     → ((out : List ℕ) (st : Status) → Output INFINITY (options_of words) text out st → Ending (sink_of old) (sink_of new) result st out) → Headline words old new result
 with_read words o old new result text some read took end count h =
     let one = one_output INFINITY words text in
@@ -201,18 +210,23 @@ with_read words o old new result text some read took end count h =
     (not_both (options_of words) (source_words (options_of words) o some read)) (h one.0 one.1 one.2)
 
 -- the text was too large
-pub with_large : (words : List (List ℕ)) (o : Options) (old new : Ends) (result : Status) → options_of words ≡ Some o → o.generate ≡ None → ReadJust old.left new.left (max_text + 1) → new.source_faults ≡ old.source_faults
-    → ((text : List ℕ) → max_text < length text → (out : List ℕ) (st : Status) → Output INFINITY (options_of words) text out st → Ending (sink_of old) (sink_of new) result st out) → Headline words old new result
+pub with_large : (words : List (List ℕ)) (o : Options) (old new : Ends) (result : Status) → options_of words ≡ Some o → o.generate ≡ None
+    → ReadJust old.left new.left (max_text + 1) → new.source_faults ≡ old.source_faults
+    → ((text : List ℕ) → max_text < length text → (out : List ℕ) (st : Status) → Output INFINITY (options_of words) text out st
+    → Ending (sink_of old) (sink_of new) result st out) → Headline words old new result
 with_large words o old new result some read just count h =
     let text = front_text old.left new.left (max_text + 1) just in
     let long : max_text < length text.0 = (let l = text.2 in omega (arith, l)) in
     let output = subst (λ (a : Option Options). Output INFINITY a text.0 (refusal max_text (codes "too large")) Refused) (sym some) (large_output INFINITY o text.0 read long) in
     ended words old new result text.0 (refusal max_text (codes "too large")) Refused output (λ r s. text.1 s) count (just_front old.left new.left (max_text + 1) just)
-    (λ r c d. absurd (elim d [ inl e ↦ (let f : Refused ≡ Done = e in cc) | inr e ↦ (let f : Refused ≡ Stopped = e in cc) ])) (not_both (options_of words) (source_words (options_of words) o some read))
+    (λ r c d. absurd (elim d [ inl e ↦ (let f : Refused ≡ Done = e in cc) | inr e ↦ (let f : Refused ≡ Stopped = e in cc) ]))
+    (not_both (options_of words) (source_words (options_of words) o some read))
     (h text.0 long (refusal max_text (codes "too large")) Refused output)
 
 -- reading failed
-pub with_fault : (words : List (List ℕ)) (o : Options) (old new : Ends) → options_of words ≡ Some o → o.generate ≡ None → sink_of new ≡ sink_of old → ReadWithin old.left new.left max_text → Rose old.source_faults new.source_faults → old.source_faults ≤ new.source_faults → Headline words old new ReadFault
+pub with_fault : (words : List (List ℕ)) (o : Options) (old new : Ends) → options_of words ≡ Some o → o.generate ≡ None → sink_of new ≡ sink_of old
+    → ReadWithin old.left new.left max_text → Rose old.source_faults new.source_faults → old.source_faults ≤ new.source_faults
+    → Headline words old new ReadFault
 with_fault words o old new some source same read rose later =
     let put : Put old.written new.written [] = subst (λ (s : SinkState). Put old.written s.written []) (sym same) (put_none old.written) in
     let faults : new.sink_faults ≡ old.sink_faults = ap (λ (s : SinkState). s.faults) same in
@@ -247,7 +261,8 @@ short_of_memory words old new same front count untouched =
     (subst (λ (s : SinkState). Ending (sink_of old) s NoMemory one.1 one.0) (sym same) (no_memory (sink_of old) one.1 one.0))
 
 -- memory was wanting while reading
-pub with_memory : (words : List (List ℕ)) (o : Options) (old new : Ends) → options_of words ≡ Some o → o.generate ≡ None → sink_of new ≡ sink_of old → ReadWithin old.left new.left max_text → new.source_faults ≡ old.source_faults → Headline words old new NoMemory
+pub with_memory : (words : List (List ℕ)) (o : Options) (old new : Ends) → options_of words ≡ Some o → o.generate ≡ None → sink_of new ≡ sink_of old
+    → ReadWithin old.left new.left max_text → new.source_faults ≡ old.source_faults → Headline words old new NoMemory
 with_memory words o old new some source same read count =
     short_of_memory words old new same (within_front old.left new.left max_text read) count (not_both (options_of words) (source_words (options_of words) o some source))
 

@@ -1,3 +1,3 @@
-mod Accepting
+mod AcceptedWords
 mod OneOutput
 mod Endings

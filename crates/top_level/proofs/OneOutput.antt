@@ -1,5 +1,6 @@
 -- There is exactly one output for words and a text.
-use Rattle.std.proofs.Common.{◌≡◌, ℕ, ◌+◌, ◌<◌, ◌≤◌, Bool, List, [], ◌∷◌, ◌++◌, length, map, false, Option, Some, None, refl, ap, sym, ◌∙◌, subst, inl, inr, ◌⊎◌, codes, decimal}
+use Rattle.std.proofs.Common.{◌≡◌, ℕ, ◌+◌, ◌<◌, ◌≤◌, Bool, List, [], ◌∷◌, ◌++◌, length, map, false, Option, Some, None, refl, ap, sym, ◌∙◌, subst, inl, inr}
+use Rattle.std.proofs.Common.{◌⊎◌, codes, decimal}
 use Rattle.std.specs.Str.{IsUtf8, is_utf8}
 use Rattle.std.specs.Str.Lossy.{utf8_valid_len}
 use Rattle.std.proofs.lemmas.Bool.{cases_Bool, cases_lt, true≢false}
@@ -12,20 +13,21 @@ use Rattle.fd_model.specs.Queries.{program_of}
 use Rattle.fd_model.specs.Verdict.{Verdict, accepted, refused, max_text, cause_name, sentences_verdict, reading_verdict, IsVerdict}
 use Rattle.std.specs.Prelude.{IfSome}
 use Rattle.command_words.specs.Words.{options_of}
-use Rattle.top_level.proofs.Accepting.{IsAccepted, IsSize, accepted_words}
+use Rattle.top_level.proofs.AcceptedWords.{IsAccepted, IsSize, accepted_words}
 use Rattle.run_summary.proofs.Lemmas.{queens_program, same_program}
 use Rattle.fd_model.specs.Generator.{queens_text, summary}
 use Rattle.fd_model.specs.Output.{Options, Output, Queries, TextOutput, VerdictOutput, IsSummary, refusal, usage, is_stop, or_stop, stop_status}
 use Rattle.fd_model.specs.Lines.{line, events_bytes}
 use Rattle.fd_model.specs.Goal.{Program, Query, Event, start_of}
 use Rattle.fd_model.specs.Run.{IsLimit, Run}
-use Rattle.fd_model.specs.Sound.{QueriesRunnable, IsRunnableProgram}
+use Rattle.fd_model.specs.RunnablePrograms.{QueriesRunnable, IsRunnableProgram}
 use Rattle.fd_model.proofs.Lemmas.{queries_once, run_once, one_run, accepted_runnable}
 use Rattle.term_reader.proofs.Lemmas.{each_is_read}
 use Rattle.text_verdict.proofs.Lemmas.{large_verdict, bytes_verdict, read_verdict, one_verdict}
 use Rattle.top_level.specs.OneOutput.{OneOutput}
 
-verdict_output_once : (M : ℕ) (o : Options) (v : Verdict) (out other : List ℕ) (st s : Status) → VerdictOutput M o.infinity v o.steps o.answers out st → VerdictOutput M o.infinity v o.steps o.answers other s → (other ≡ out) × (s ≡ st)
+verdict_output_once : (M : ℕ) (o : Options) (v : Verdict) (out other : List ℕ) (st s : Status) → VerdictOutput M o.infinity v o.steps o.answers out st
+    → VerdictOutput M o.infinity v o.steps o.answers other s → (other ≡ out) × (s ≡ st)
 verdict_output_once M o (refused place reason) out other st s a b = (b.0 ∙ sym a.0, b.1 ∙ sym a.1)
 verdict_output_once M o (accepted prog) out other st s a b =
     let one = queries_once M o.infinity prog o.steps o.answers 1 prog.queries out other a.0 b.0 a.1 b.1 in
@@ -36,14 +38,19 @@ pub text_output : (M : ℕ) (o : Options) (text out : List ℕ) (st : Status) �
 text_output M o text out st read h = subst (λ (size : Option ℕ). TextOutput M o size text out st) read h
 
 -- the output of a text is that of its verdict
-pub verdict_output : (M : ℕ) (o : Options) (text : List ℕ) (v : Verdict) (out : List ℕ) (st : Status) → o.generate ≡ None → IsVerdict M o.infinity text v → Output M (Some o) text out st → VerdictOutput M o.infinity v o.steps o.answers out st
+pub verdict_output : (M : ℕ) (o : Options) (text : List ℕ) (v : Verdict) (out : List ℕ) (st : Status) → o.generate ≡ None → IsVerdict M o.infinity text v
+    → Output M (Some o) text out st → VerdictOutput M o.infinity v o.steps o.answers out st
 verdict_output M o text v out st read i h =
     let t = text_output M o text out st read h in
     subst (λ (w : Verdict). VerdictOutput M o.infinity w o.steps o.answers out st) (one_verdict M o.infinity text t.0 v t.1 i) t.2
 
 pub large_output : (M : ℕ) (o : Options) (text : List ℕ) → o.generate ≡ None → max_text < length text → Output M (Some o) text (refusal max_text (codes "too large")) Refused
 large_output M o text read h =
-    subst (λ (size : Option ℕ). TextOutput M o size text (refusal max_text (codes "too large")) Refused) (sym read) (refused max_text (codes "too large"), large_verdict M o.infinity text h, (refl, refl))
+    subst (λ (size : Option ℕ). TextOutput M o size text (refusal max_text (codes "too large")) Refused) (sym read) (
+      refused max_text (codes "too large"),
+      large_verdict M o.infinity text h,
+      (refl, refl),
+    )
 
 -- ---- generated texts
 
@@ -67,7 +74,8 @@ summary_once M n o out other st s a b =
     )
 
 -- the program of an accepted text can run
-runnable_by : (M N : ℕ) (ss : List Sentence) (f : Option Refusal) (prog : Program) → first_refusal M N (map (λ s. s.term) ss) (map (λ s. s.term) ss) ≡ f → accepted prog ≡ sentences_verdict N ss f → IsRunnableProgram M prog
+runnable_by : (M N : ℕ) (ss : List Sentence) (f : Option Refusal) (prog : Program) → first_refusal M N (map (λ s. s.term) ss) (map (λ s. s.term) ss) ≡ f
+    → accepted prog ≡ sentences_verdict N ss f → IsRunnableProgram M prog
 runnable_by M N ss None prog e v = subst (IsRunnableProgram M) (sym (same_program prog (program_of N ss) v)) (accepted_runnable M N (map (λ s. s.term) ss) ss e)
 runnable_by M N ss (Some r) prog e v = absurd (cc (v))
 
@@ -120,20 +128,23 @@ abbrev HasOutput : ℕ → Options → Verdict → Type 0
 HasOutput M o v = (out : List ℕ) × (st : Status) × VerdictOutput M o.infinity v o.steps o.answers out st
 
 -- queries that can run have an output
-queries_have : (M : ℕ) (o : Options) (prog : Program) (n : ℕ) (qs : List Query) → IsLimit o.answers → IsRunnableProgram M prog → QueriesRunnable M qs → (out : List ℕ) × (stop : Bool) × Queries M o.infinity prog o.steps o.answers n qs out stop
+queries_have : (M : ℕ) (o : Options) (prog : Program) (n : ℕ) (qs : List Query) → IsLimit o.answers → IsRunnableProgram M prog → QueriesRunnable M qs
+    → (out : List ℕ) × (stop : Bool) × Queries M o.infinity prog o.steps o.answers n qs out stop
 queries_have M o prog n [] l r g = ([], false, (refl, refl))
 queries_have M o prog n (q ∷ qs) l r g =
     let here = one_run M o.infinity prog q o.steps o.answers r g.0 l in
     let later = queries_have M o prog (n + 1) qs l r g.1 in
     (line (codes "query " ++ decimal n) ++ (events_bytes here.0 ++ later.0), or_stop (is_stop here.0) later.1, (here.0, here.1, later.0, later.1, here.2, later.2, refl, refl))
 
-accepted_has : (M : ℕ) (o : Options) (ss : List Sentence) → IsLimit o.answers → first_refusal M o.infinity (map (λ s. s.term) ss) (map (λ s. s.term) ss) ≡ None → HasOutput M o (accepted (program_of o.infinity ss))
+accepted_has : (M : ℕ) (o : Options) (ss : List Sentence) → IsLimit o.answers → first_refusal M o.infinity (map (λ s. s.term) ss) (map (λ s. s.term) ss) ≡ None
+    → HasOutput M o (accepted (program_of o.infinity ss))
 accepted_has M o ss l e =
     let runs = accepted_runnable M o.infinity (map (λ s. s.term) ss) ss e in
     let have = queries_have M o (program_of o.infinity ss) 1 (program_of o.infinity ss).queries l runs runs.queries in
     (have.0, stop_status have.1, (have.1, have.2, refl))
 
-by_refusal : (M : ℕ) (o : Options) (ss : List Sentence) → IsLimit o.answers → (f : Option Refusal) → first_refusal M o.infinity (map (λ s. s.term) ss) (map (λ s. s.term) ss) ≡ f → HasOutput M o (sentences_verdict o.infinity ss f)
+by_refusal : (M : ℕ) (o : Options) (ss : List Sentence) → IsLimit o.answers → (f : Option Refusal)
+    → first_refusal M o.infinity (map (λ s. s.term) ss) (map (λ s. s.term) ss) ≡ f → HasOutput M o (sentences_verdict o.infinity ss f)
 by_refusal M o ss l None e = accepted_has M o ss l e
 by_refusal M o ss l (Some r) e = (refusal r.place r.reason, Refused, (refl, refl))
 

@@ -1,8 +1,8 @@
-mod Touching
-mod Reducing
-mod Efforts
-mod Occurring
-mod Stepping
-mod Whole
-mod AtOnce
+mod Touches
+mod PairReduction
+mod TerminationMeasure
+mod OccursCheck
+mod PairSteps
+mod Unifications
+mod ImmediateUnifications
 pub mod Lemmas

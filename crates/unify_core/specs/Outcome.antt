@@ -8,12 +8,12 @@ use Rattle.unify_core.specs.declared.Pair.{Pair}
 use Rattle.unify_core.specs.declared.Touch.{Touch}
 use Rattle.unify_core.specs.declared.Unified.{Unified}
 use Rattle.unify_core.specs.declared.Unified.TheVariants.{No, Yes}
-use Rattle.unify_core.specs.Reduces.{Reduces, equations, IsOwn, HasAtoms, IsSameSize}
+use Rattle.unify_core.specs.PairReduction.{Reduces, equations, IsOwn, HasAtoms, IsSameSize}
 use Rattle.unify_core.specs.Touches.{IsRefuted, IsSymbolic}
 use Rattle.unify_core.specs.declared.Touch.TheVariants.{Value, Same}
 use Rattle.heap_cells.specs.declared.Cell.TheVariants as cell
 use Rattle.fd_language.specs.Term.{Name, Terms, Comp}
-use Rattle.unify_core.specs.Effort.{effort}
+use Rattle.unify_core.specs.TerminationMeasure.{effort}
 
 abbrev pub IfTrue : {E : Type 0} → Result Bool E → Type 0 → Type 0
 IfTrue (Ok true) p = p

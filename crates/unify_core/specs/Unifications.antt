@@ -9,7 +9,7 @@ use Rattle.heap_cells.specs.Terms.{Naming, IsOneToOne, term_of}
 use Rattle.heap_cells.specs.Atoms.{IsAtomBelow, HasAtomsBelow}
 use Rattle.unify_core.specs.declared.Touch.{Touch}
 use Rattle.unify_core.specs.Touches.{AreTouched, IsRefuted}
-use Rattle.unify_core.specs.Reduces.{IsSameSize}
+use Rattle.unify_core.specs.PairReduction.{IsSameSize}
 
 -- the equation of two cells' terms
 abbrev pub cells_equal : Naming → Cells → Cell → Cell → List Equation

@@ -6,10 +6,10 @@ ghost use Rattle.heap_cells.specs.declared.Cell.TheVariants as cell;
 ghost use Rattle.heap_cells.specs.Cells.{free, linked, slot_at, IsOf};
 ghost use Rattle.heap_cells.specs.SeenCells.{IsRoot};
 ghost use Rattle.heap_cells.specs.Terms.{IsAbsent};
-ghost use Rattle.heap_cells.specs.Valid.{IsHeap};
-ghost use Rattle.unify_core.specs.Reduces.{IsOwn, IsSameSize};
+ghost use Rattle.heap_cells.specs.HeapInvariant.{IsHeap};
+ghost use Rattle.unify_core.specs.PairReduction.{IsOwn, IsSameSize};
 ghost use Rattle.unify_core.specs.Outcome.{IfTrue, IfFalse, IfYes, IfNo, IsDone, IsHopeless, IsBinding, IsInfinite, IsSymbolicCell, TellsOccurs, TellsTouch, paired};
-ghost use Rattle.unify_core.specs.Occurs.{OccursAmong, LeavesAhead, IsOther, ComesToOther, ShowsOther, IsAbsentAmong};
+ghost use Rattle.unify_core.specs.OccursCheck.{OccursAmong, LeavesAhead, IsOther, ComesToOther, ShowsOther, IsAbsentAmong};
 ghost use Rattle.unify_core.specs.Unifications.{AreUnified, CannotUnify, KeepsAtoms, IsEqualled};
 
 use fd_language::NoMemory;
@@ -54,7 +54,7 @@ impl Model for Ahead {
 
     ghost Value = { List ℕ };
 
-    ghost use Rattle.unify_core.specs.Occurs.{with_last};
+    ghost use Rattle.unify_core.specs.OccursCheck.{with_last};
 
     ghost view = { λ a. with_last a.others.items a.last };
 }

@@ -1,5 +1,6 @@
 -- The code of a small program is verified, and stands for the program: p(p). p(1). ?- p(X).
-use Rattle.std.proofs.Common.{◌≡◌, ◌≢◌, ℕ, zero, suc, ◌<◌, Bool, true, false, ◌==◌, ◌&&◌, ◌||◌, IsTrue, pos, List, [], ◌∷◌, if◌then◌else◌, Option, Some, None, length, slice_get, All, refl, ap, sym, ◌∙◌, subst, inl, inr, arith}
+use Rattle.std.proofs.Common.{◌≡◌, ◌≢◌, ℕ, zero, suc, ◌<◌, Bool, true, false, ◌==◌, ◌&&◌, ◌||◌, IsTrue, pos, List, [], ◌∷◌, if◌then◌else◌, Option, Some, None}
+use Rattle.std.proofs.Common.{length, slice_get, All, refl, ap, sym, ◌∙◌, subst, inl, inr, arith}
 use Rattle.std.proofs.lemmas.Bool.{true≢false}
 use Rattle.std.proofs.lemmas.Bool.Decides.{nat_tests}
 use Rattle.fd_language.specs.Family.{has}
@@ -11,16 +12,18 @@ use Rattle.std.proofs.lemmas.Slice.Eq.{bytes_eq-Decides}
 use Rattle.term_pool.specs.declared.AtomId.{AtomId}
 use Rattle.term_pool.specs.Contents.{Contents, atom_name}
 use Rattle.wam_code.specs.declared.instruction.Register.TheVariants.{X, Y}
-use Rattle.wam_code.specs.declared.instruction.Code.TheVariants.{GetConstant, GetInteger, PutVariable, Allocate, Call, Execute, Proceed, AnswerNow, TryMeElse, RetryMeElse, TrustMe}
+use Rattle.wam_code.specs.declared.instruction.Code.TheVariants.{GetConstant, GetInteger, PutVariable, Allocate, Call, Execute, Proceed, AnswerNow, TryMeElse}
+use Rattle.wam_code.specs.declared.instruction.Code.TheVariants.{RetryMeElse, TrustMe}
 use Rattle.wam_code.specs.declared.parts.Entry.{Entry}
 use Rattle.wam_code.specs.Area.{Slot, Unset, Cell, State, Span, Area, Holds, HasState, HasEntry, HasQuery}
 use Rattle.wam_code.specs.Effect.{slot_at, is_cell}
-use Rattle.wam_code.specs.VerifiedCode.{named, goes_on, Names, Falls, Covers, Leads, BeginsWith, IsQuery, is_other, is_before, is_behind, NamesOther, HoldsOne, AreChoices, IsAtom, IsThere, IsVerifiedBy, IsVerified}
-use Rattle.machine_relation.specs.Heap.{Below}
+use Rattle.wam_code.specs.VerifiedCode.{named, goes_on, Names, Falls, Covers, Leads, BeginsWith, IsQuery, is_other, is_before, is_behind, NamesOther, HoldsOne}
+use Rattle.wam_code.specs.VerifiedCode.{AreChoices, IsAtom, IsThere, IsVerifiedBy, IsVerified}
+use Rattle.branch_meaning.specs.Heap.{Below}
 use Rattle.wam_code.specs.Places.{Places, put_at, write, learn, no_registers, no_slots, IsWhole, IsSettled, Hold, made}
-use Rattle.wam_code.specs.Means.{Caller, Means}
+use Rattle.wam_code.specs.CodeMeaning.{Caller, Means}
 use Rattle.wam_code.specs.Tries.{Shape, IsBefore, IsClause, Tries, IsPredicate, StandsForProgram}
-use Rattle.wam_code.proofs.Keeping.{covers_self}
+use Rattle.wam_code.proofs.Effect.{covers_self}
 use Rattle.wam_code.proofs.Steps.{from_rule}
 
 abbrev at_state : List ℕ → Option (List Slot) → State
@@ -94,8 +97,28 @@ module _ (c : Contents) (p : AtomId) (own : p.number < length c.names) where
   falls_only : (at to : ℕ) → Falls a at to → (to ≡ suc at) × ((at < 9) × (at ≢ 2) × (at ≢ 5))
   falls_only at to h = (
     h.3,
-    all_at (λ k i. IsTrue (goes_on i) → (k < 9) × (k ≢ 2) × (k ≢ 5)) a.code
-        ((λ g. (omega arith, omega arith, omega arith)), ((λ g. (omega arith, omega arith, omega arith)), (no_bool, ((λ g. (omega arith, omega arith, omega arith)), ((λ g. (omega arith, omega arith, omega arith)), (no_bool, ((λ g. (omega arith, omega arith, omega arith)), ((λ g. (omega arith, omega arith, omega arith)), ((λ g. (omega arith, omega arith, omega arith)), (no_bool, tt))))))))))
+    all_at (λ k i. IsTrue (goes_on i) → (k < 9) × (k ≢ 2) × (k ≢ 5)) a.code (
+      (λ g. (omega arith, omega arith, omega arith)),
+      (
+        (λ g. (omega arith, omega arith, omega arith)),
+        (
+          no_bool,
+          (
+            (λ g. (omega arith, omega arith, omega arith)),
+            (
+              (λ g. (omega arith, omega arith, omega arith)),
+              (
+                no_bool,
+                (
+                  (λ g. (omega arith, omega arith, omega arith)),
+                  ((λ g. (omega arith, omega arith, omega arith)), ((λ g. (omega arith, omega arith, omega arith)), (no_bool, tt))),
+                ),
+              ),
+            ),
+          ),
+        ),
+      ),
+    )
         at h.0 h.1 h.2,
   )
 
@@ -145,7 +168,16 @@ module _ (c : Contents) (p : AtomId) (own : p.number < length c.names) where
 
   leads_all : AllAt (λ k i. (s : State) → HasState its_states k s → Leads a its_states k i s) a.code
   leads_all = (
-    on_one (Leads a its_states 0 (TryMeElse 3)) (at_state (1 ∷ []) None) (at_state (1 ∷ []) None, refl, (λ to h. subst (λ n. (t : State) × HasState its_states n t × Covers (at_state (1 ∷ []) None) t) (sym (one_named 3 to h)) (at_state (1 ∷ []) None, refl, covers_self _)), λ g. (at_state (1 ∷ []) None, refl, covers_self _)),
+    on_one (Leads a its_states 0 (TryMeElse 3)) (at_state (1 ∷ []) None) (
+      at_state (1 ∷ []) None,
+      refl,
+      (λ to h. subst (λ n. (t : State) × HasState its_states n t × Covers (at_state (1 ∷ []) None) t) (sym (one_named 3 to h)) (
+        at_state (1 ∷ []) None,
+        refl,
+        covers_self _,
+      )),
+      λ g. (at_state (1 ∷ []) None, refl, covers_self _),
+    ),
     (
       on_one (Leads a its_states 1 (GetConstant p 1)) (at_state (1 ∷ []) None) (at_state (1 ∷ []) None, refl, (λ to h. none_named to h), λ g. (at_state (1 ∷ []) None, refl, covers_self _)),
       (
@@ -157,11 +189,26 @@ module _ (c : Contents) (p : AtomId) (own : p.number < length c.names) where
             (
               on_one (Leads a its_states 5 Proceed) (at_state (1 ∷ []) None) (at_state (1 ∷ []) None, refl, (λ to h. none_named to h), λ g. no_bool g),
               (
-                on_one (Leads a its_states 6 (Allocate 1)) (at_state [] None) (at_state [] (Some (Unset ∷ [])), refl, (λ to h. none_named to h), λ g. (at_state [] (Some (Unset ∷ [])), refl, covers_self _)),
+                on_one (Leads a its_states 6 (Allocate 1)) (at_state [] None) (
+                  at_state [] (Some (Unset ∷ [])),
+                  refl,
+                  (λ to h. none_named to h),
+                  λ g. (at_state [] (Some (Unset ∷ [])), refl, covers_self _),
+                ),
                 (
-                  on_one (Leads a its_states 7 (PutVariable (Y 1) 1)) (at_state [] (Some (Unset ∷ []))) (at_state (1 ∷ []) (Some (Cell ∷ [])), refl, (λ to h. none_named to h), λ g. (at_state (1 ∷ []) (Some (Cell ∷ [])), refl, covers_self _)),
+                  on_one (Leads a its_states 7 (PutVariable (Y 1) 1)) (at_state [] (Some (Unset ∷ []))) (
+                    at_state (1 ∷ []) (Some (Cell ∷ [])),
+                    refl,
+                    (λ to h. none_named to h),
+                    λ g. (at_state (1 ∷ []) (Some (Cell ∷ [])), refl, covers_self _),
+                  ),
                   (
-                    on_one (Leads a its_states 8 (Call 0)) (at_state (1 ∷ []) (Some (Cell ∷ []))) (at_state [] (Some (Cell ∷ [])), refl, (λ to h. none_named to h), λ g. (at_state [] (Some (Cell ∷ [])), refl, covers_self _)),
+                    on_one (Leads a its_states 8 (Call 0)) (at_state (1 ∷ []) (Some (Cell ∷ []))) (
+                      at_state [] (Some (Cell ∷ [])),
+                      refl,
+                      (λ to h. none_named to h),
+                      λ g. (at_state [] (Some (Cell ∷ [])), refl, covers_self _),
+                    ),
                     (
                       on_one (Leads a its_states 9 AnswerNow) (at_state [] (Some (Cell ∷ []))) (at_state [] (Some (Cell ∷ [])), refl, (λ to h. none_named to h), λ g. no_bool g),
                       tt,
@@ -178,8 +225,25 @@ module _ (c : Contents) (p : AtomId) (own : p.number < length c.names) where
 
   proceeds_early : (at : ℕ) → Holds a at Proceed → at < 6
   proceeds_early at h =
-      all_at (λ k i. i ≡ Proceed → k < 6) a.code
-      ((λ g. omega arith), ((λ g. omega arith), ((λ g. omega arith), ((λ g. omega arith), ((λ g. omega arith), ((λ g. omega arith), ((λ g. absurd (cc)), ((λ g. absurd (cc)), ((λ g. absurd (cc)), ((λ g. absurd (cc)), tt))))))))))
+      all_at (λ k i. i ≡ Proceed → k < 6) a.code (
+        (λ g. omega arith),
+        (
+          (λ g. omega arith),
+          (
+            (λ g. omega arith),
+            (
+              (λ g. omega arith),
+              (
+                (λ g. omega arith),
+                (
+                  (λ g. omega arith),
+                  ((λ g. absurd (cc)), ((λ g. absurd (cc)), ((λ g. absurd (cc)), ((λ g. absurd (cc)), tt)))),
+                ),
+              ),
+            ),
+          ),
+        ),
+      )
       at Proceed h refl
 
   executes_never : (at e : ℕ) → Holds a at (Execute e) → ⊥
@@ -190,8 +254,25 @@ module _ (c : Contents) (p : AtomId) (own : p.number < length c.names) where
 
   answers_last : (at : ℕ) → Holds a at AnswerNow → at ≡ 9
   answers_last at h =
-      all_at (λ k i. i ≡ AnswerNow → k ≡ 9) a.code
-      ((λ g. absurd (cc)), ((λ g. absurd (cc)), ((λ g. absurd (cc)), ((λ g. absurd (cc)), ((λ g. absurd (cc)), ((λ g. absurd (cc)), ((λ g. absurd (cc)), ((λ g. absurd (cc)), ((λ g. absurd (cc)), ((λ g. refl), tt))))))))))
+      all_at (λ k i. i ≡ AnswerNow → k ≡ 9) a.code (
+        (λ g. absurd (cc)),
+        (
+          (λ g. absurd (cc)),
+          (
+            (λ g. absurd (cc)),
+            (
+              (λ g. absurd (cc)),
+              (
+                (λ g. absurd (cc)),
+                (
+                  (λ g. absurd (cc)),
+                  ((λ g. absurd (cc)), ((λ g. absurd (cc)), ((λ g. absurd (cc)), ((λ g. refl), tt)))),
+                ),
+              ),
+            ),
+          ),
+        ),
+      )
       at AnswerNow h refl
 
   abbrev its_span : Span
@@ -225,8 +306,24 @@ module _ (c : Contents) (p : AtomId) (own : p.number < length c.names) where
     leads = λ at i s f g. all_at (λ k i. (s : State) → HasState its_states k s → Leads a its_states k i s) a.code leads_all at i f s g;
     ahead = λ at to h. let w = names_only at to h in (omega (arith, w.0, w.1), omega (arith, w.1));
     next = λ at to h. let w = falls_only at to h in omega (arith, w.0, w.1.0);
-    entries = λ n e h. subst (λ x. BeginsWith its_states x.at x.arity) (sym (one_entry n e h).1) (at_state (1 ∷ []) None, refl, record { regs = λ m. ((λ g. let w = one_named 1 m g in (omega (arith, w), omega (arith, w))), λ g. let w : m ≡ 1 = omega (arith, g.0, g.1) in subst (λ k. IsTrue (has (1 ∷ []) k)) (sym w) refl); frame = refl; owed = refl });
-    firsts = λ n q h. subst (λ x. BeginsWith its_states x.at 0) (sym (one_query n q h).1) (at_state [] None, refl, record { regs = λ m. ((λ g. none_named m g), λ g. absurd (omega (arith, g.0, g.1))); frame = refl; owed = refl });
+    entries = λ n e h. subst (λ x. BeginsWith its_states x.at x.arity) (sym (one_entry n e h).1) (
+      at_state (1 ∷ []) None,
+      refl,
+      record {
+        regs = λ m. (
+          (λ g. let w = one_named 1 m g in (omega (arith, w), omega (arith, w))),
+          λ g. let w : m ≡ 1 = omega (arith, g.0, g.1) in
+              subst (λ k. IsTrue (has (1 ∷ []) k)) (sym w) refl,
+        );
+        frame = refl;
+        owed = refl;
+      },
+    );
+    firsts = λ n q h. subst (λ x. BeginsWith its_states x.at 0) (sym (one_query n q h).1) (
+      at_state [] None,
+      refl,
+      record { regs = λ m. ((λ g. none_named m g), λ g. absurd (omega (arith, g.0, g.1))); frame = refl; owed = refl },
+    );
     queries = λ n q h. subst (IsQuery a its_states) (sym (one_query n q h).1) its_query;
     apart = λ n m at q r h g b d. (one_query n q h).0 ∙ sym (one_query m r g).0;
     answers = λ at h. (0, its_span, refl, (let n = answers_last at h in let e : suc at ≡ 10 = omega (arith, n) in e));
@@ -260,7 +357,8 @@ module _ (c : Contents) (p : AtomId) (own : p.number < length c.names) where
   first_clause : IsClause a 1 (fact (Atom name))
   first_clause = λ n as' d after shown q size below hold noted before. by n as' after shown q size hold before
     where
-      by : (n : ℕ) (as' : Terms) (after : List Goal) (shown : List ℕ) (q : Places) → term_count as' ≡ 1 → Hold q 1 as' → IsBefore q n 0 → Means a (record { goals = after; shown = shown }) 1 q (paired as' (term (Atom name) no_terms)) after
+      by : (n : ℕ) (as' : Terms) (after : List Goal) (shown : List ℕ) (q : Places) → term_count as' ≡ 1 → Hold q 1 as' → IsBefore q n 0
+          → Means a (record { goals = after; shown = shown }) 1 q (paired as' (term (Atom name) no_terms)) after
       by n no_terms after shown q size hold before = absurd (omega (arith, size))
       by n (term s no_terms) after shown q size hold before =
           from_rule a (record { goals = after; shown = shown }) 1 q _ after (GetConstant p 1) refl
@@ -270,7 +368,8 @@ module _ (c : Contents) (p : AtomId) (own : p.number < length c.names) where
   second_clause : IsClause a 4 (fact (Int (pos 1)))
   second_clause = λ n as' d after shown q size below hold noted before. by n as' after shown q size hold before
     where
-      by : (n : ℕ) (as' : Terms) (after : List Goal) (shown : List ℕ) (q : Places) → term_count as' ≡ 1 → Hold q 1 as' → IsBefore q n 0 → Means a (record { goals = after; shown = shown }) 4 q (paired as' (term (Int (pos 1)) no_terms)) after
+      by : (n : ℕ) (as' : Terms) (after : List Goal) (shown : List ℕ) (q : Places) → term_count as' ≡ 1 → Hold q 1 as' → IsBefore q n 0
+          → Means a (record { goals = after; shown = shown }) 4 q (paired as' (term (Int (pos 1)) no_terms)) after
       by n no_terms after shown q size hold before = absurd (omega (arith, size))
       by n (term s no_terms) after shown q size hold before =
           from_rule a (record { goals = after; shown = shown }) 4 q _ after (GetInteger (pos 1) 1) refl

@@ -1,10 +1,10 @@
 mod Steps
 mod Places
-mod Trying
-mod Unifying
-mod Restating
-mod Keeping
-mod Ending
-mod Reaching
+mod Tries
+mod StructureArguments
+mod RestatedEquations
+mod Effect
+mod WorkMeasure
+mod CodeRegions
 mod Examples
 pub mod Lemmas

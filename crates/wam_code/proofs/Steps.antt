@@ -4,13 +4,17 @@ use Rattle.fd_language.specs.Term.{Term, Var}
 use Rattle.fd_language.specs.Unifier.{Equation}
 use Rattle.fd_model.specs.Goal.{Goal, listed}
 use Rattle.wam_code.specs.declared.instruction.Code.{Code}
-use Rattle.wam_code.specs.declared.instruction.Code.TheVariants.{GetVariable, GetValue, GetConstant, GetInteger, GetStructure, PutVariable, PutValue, PutConstant, PutInteger, PutStructure, Allocate, Deallocate, Call, Execute, Proceed, Jump, AnswerNow, Either, Builtin, Constrain, Label, Best, PostRange, Level, TestOnly, EnterTest, CutTo}
+use Rattle.wam_code.specs.declared.instruction.Code.TheVariants.{GetVariable, GetValue, GetConstant, GetInteger, GetStructure, PutVariable, PutValue}
+use Rattle.wam_code.specs.declared.instruction.Code.TheVariants.{PutConstant, PutInteger, PutStructure, Allocate, Deallocate, Call, Execute, Proceed, Jump}
+use Rattle.wam_code.specs.declared.instruction.Code.TheVariants.{AnswerNow, Either, Builtin, Constrain, Label, Best, PostRange, Level, TestOnly, EnterTest}
+use Rattle.wam_code.specs.declared.instruction.Code.TheVariants.{CutTo}
 use Rattle.wam_code.specs.Area.{Area, Holds}
-use Rattle.machine_relation.specs.Heap.{EquationsOf}
-use Rattle.machine_relation.specs.Says.{SaysSame}
+use Rattle.branch_meaning.specs.Heap.{EquationsOf}
+use Rattle.branch_meaning.specs.EquivalentEquations.{SaysSame}
 use Rattle.wam_code.specs.declared.instruction.Register.TheVariants.{X}
 use Rattle.wam_code.specs.Places.{Depth, Places, write, learn, IsFresh, Has}
-use Rattle.wam_code.specs.Means.{Rest, Rests, Later, Caller, Takes, Equates, RuleWith, Rule, Learns, Restates, Quietly, Steps, no_steps, more_steps, Within, Means}
+use Rattle.wam_code.specs.CodeMeaning.{Rest, Rests, Later, Caller, Takes, Equates, RuleWith, Rule, Learns, Restates, Quietly, Steps, no_steps, more_steps}
+use Rattle.wam_code.specs.CodeMeaning.{Within, Means}
 
 equates_grow : (p : Places) (a : ℕ) (s : Term) (es : List Equation) (F G : List Equation → Type 0) → ((ds : List Equation) → F ds → G ds) → Equates p a s es F → Equates p a s es G
 equates_grow p a s es F G k h = (h.0, h.1, h.2, h.3, k _ h.4)
@@ -93,7 +97,8 @@ second_of area w (more_steps n f) (more_steps m g) at p es gs (inl h) =
 second_of area w (more_steps n f) (more_steps m g) at p es gs (inr (inl h)) = inr (inl (learns_grow _ _ (λ q ds. second_of area w n m at q ds gs) p es h))
 second_of area w (more_steps n f) (more_steps m g) at p es gs (inr (inr h)) = inr (inr (restates_grow _ _ (λ q ds. second_of area w n m at q ds gs) p es h))
 
-quietly_within : (area : Area) (w : Caller) (at : ℕ) (i : Code) → Holds area at i → (gs : List Goal) → (n : Steps) (p : Places) (es : List Equation) → Within area w n at p es gs → (m : ℕ) × Quietly m (λ q ds. Rule area w (Means area w) i at q ds gs) p es
+quietly_within : (area : Area) (w : Caller) (at : ℕ) (i : Code) → Holds area at i → (gs : List Goal) → (n : Steps) (p : Places) (es : List Equation)
+    → Within area w n at p es gs → (m : ℕ) × Quietly m (λ q ds. Rule area w (Means area w) i at q ds gs) p es
 quietly_within area w at i f gs no_steps p es h = absurd h
 quietly_within area w at i f gs (more_steps n g) p es (inl h) =
     let same : h.0 ≡ i = let e : Some h.0 ≡ Some i = sym h.1 ∙ f in cc in (
@@ -109,13 +114,16 @@ quietly_within area w at i f gs (more_steps n g) p es (inr (inr h)) =
     (suc r.0, inr (h.0, h.1, h.2, h.3, h.4, h.5, r.1))
 
 -- For a machine: what a place stands for is the rule of the instruction that stands there, up to steps that no instruction takes.
-pub at_place : (area : Area) (w : Caller) (at : ℕ) (p : Places) (es : List Equation) (gs : List Goal) (i : Code) → Holds area at i → Means area w at p es gs → (m : ℕ) × Quietly m (λ q ds. Rule area w (Means area w) i at q ds gs) p es
+pub at_place : (area : Area) (w : Caller) (at : ℕ) (p : Places) (es : List Equation) (gs : List Goal) (i : Code) → Holds area at i → Means area w at p es gs
+    → (m : ℕ) × Quietly m (λ q ds. Rule area w (Means area w) i at q ds gs) p es
 at_place area w at p es gs i f h = quietly_within area w at i f gs h.0 p es h.1
 
 -- What those steps keep holds where the instruction is taken.
 pub quietly_keeps : (I G : Later)
-    → ((p : Places) (es : List Equation) (a v : ℕ) (t : Term) (later : List Equation) → I p es → IsFresh p v → p.x a ≡ Some t → es ≡ record { left = t; right = Var v } ∷ later → I (write (learn p v) (X a) (Var v)) later)
-    → ((p : Places) (es : List Equation) (top : ℕ) (ds : List Equation) → I p es → p.top ≤ top → ((v : ℕ) → p.top ≤ v → v < top → p.known v ≡ false) → EquationsOf (Has (record p { top = top })) ds → SaysSame (Has p) ds es → I (record p { top = top }) ds)
+    → ((p : Places) (es : List Equation) (a v : ℕ) (t : Term) (later : List Equation) → I p es → IsFresh p v → p.x a ≡ Some t
+    → es ≡ record { left = t; right = Var v } ∷ later → I (write (learn p v) (X a) (Var v)) later)
+    → ((p : Places) (es : List Equation) (top : ℕ) (ds : List Equation) → I p es → p.top ≤ top → ((v : ℕ) → p.top ≤ v → v < top → p.known v ≡ false)
+    → EquationsOf (Has (record p { top = top })) ds → SaysSame (Has p) ds es → I (record p { top = top }) ds)
     → (m : ℕ) (p : Places) (es : List Equation) → I p es → Quietly m G p es → (q : Places) × (ds : List Equation) × I q ds × G q ds
 quietly_keeps I G k l zero p es i g = (p, es, i, g)
 quietly_keeps I G k l (suc m) p es i (inl h) = quietly_keeps I G k l m _ _ (k p es h.0 h.1 h.3.0 h.3.1 i h.2 h.3.2 h.3.3) h.3.4
@@ -134,7 +142,8 @@ no_tests d = no_steps
 equates_bounded : (p : Places) (a : ℕ) (s : Term) (es : List Equation) (F : Steps → List Equation → Type 0) → Equates p a s es (λ ds. (n : Steps) × F n ds) → (n : Steps) × Equates p a s es (F n)
 equates_bounded p a s es F h = (h.4.0, (h.0, h.1, h.2, h.3, h.4.1))
 
-takes_bounded : (area : Area) (w : Caller) (taken : Goal → Type 0) (at : ℕ) (p : Places) (es : List Equation) (gs : List Goal) → Takes taken (Means area w) at p es gs → (n : Steps) × Takes taken (Within area w n) at p es gs
+takes_bounded : (area : Area) (w : Caller) (taken : Goal → Type 0) (at : ℕ) (p : Places) (es : List Equation) (gs : List Goal)
+    → Takes taken (Means area w) at p es gs → (n : Steps) × Takes taken (Within area w n) at p es gs
 takes_bounded area w taken at p es gs h = (h.7.0, (h.0, h.1, h.2, h.3, h.4, h.5, h.6, h.7.1))
 
 rule_bounded : (area : Area) (w : Caller) (i : Code) (at : ℕ) (p : Places) (es : List Equation) (gs : List Goal) → Rule area w (Means area w) i at p es gs → Bounded area w i at p es gs

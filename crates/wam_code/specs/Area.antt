@@ -17,7 +17,8 @@ pub data Slot : Type 0 where
   Cell : Slot
   Level : Slot
 
--- What is known wherever a place is reached: the argument registers that hold a cell, the frame's slots where there is one, and how many arguments of a structure are still owed. No code keeps it.
+-- What is known wherever a place is reached: the argument registers that hold a cell, the frame's slots where there is one, and how many arguments of a
+-- structure are still owed. No code keeps it.
 pub record State : Type 0 where
   pub regs : List ℕ
   pub frame : Option (List Slot)
@@ -75,4 +76,11 @@ abbrev pub span_of : QueryEntry → Span
 span_of q = record { at = q.at; end = q.end; names = q.names.items }
 
 abbrev pub area_of : CodeParts → Area
-area_of p = record { pool = p.pool; code = p.code.items; tables = map (λ t. t.items) p.tables.items; ranges = map (λ r. r.value) p.ranges.items; entries = p.entries.items; queries = map span_of p.queries.items }
+area_of p = record {
+  pool = p.pool;
+  code = p.code.items;
+  tables = map (λ t. t.items) p.tables.items;
+  ranges = map (λ r. r.value) p.ranges.items;
+  entries = p.entries.items;
+  queries = map span_of p.queries.items;
+}

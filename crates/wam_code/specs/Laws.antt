@@ -8,15 +8,16 @@ use Rattle.wam_code.specs.declared.parts.Entry.{Entry}
 use Rattle.wam_code.specs.Area.{State, Span, Area, Holds, HasState, HasEntry, HasQuery}
 use Rattle.wam_code.specs.Effect.{are_set, slot_at, is_cell}
 use Rattle.wam_code.specs.VerifiedCode.{Names, Falls, Covers, HandedTo, Leads, IsIn, IsVerifiedBy}
-use Rattle.wam_code.specs.Reaching.{IsOutside, distance, begun}
+use Rattle.wam_code.specs.CodeRegions.{IsOutside, distance, begun}
 use Rattle.wam_code.specs.Places.{Places}
-use Rattle.wam_code.specs.Means.{Caller, Rule, Learns, Restates, Quietly, Means}
+use Rattle.wam_code.specs.CodeMeaning.{Caller, Rule, Learns, Restates, Quietly, Means}
 use Rattle.wam_code.specs.Tries.{Shape, TryRule, Tries}
-use Rattle.wam_code.specs.Ending.{Thread, work}
+use Rattle.wam_code.specs.WorkMeasure.{Thread, work}
 
 -- Up to steps that no instruction takes, a place stands for exactly what the rule of its instruction says.
 pub record PlacesFollowRules : Type 0 where
-  pub there : (area : Area) (w : Caller) (at : ℕ) (p : Places) (es : List Equation) (gs : List Goal) (i : Code) → Holds area at i → Means area w at p es gs → (m : ℕ) × Quietly m (λ q ds. Rule area w (Means area w) i at q ds gs) p es
+  pub there : (area : Area) (w : Caller) (at : ℕ) (p : Places) (es : List Equation) (gs : List Goal) (i : Code) → Holds area at i → Means area w at p es gs
+      → (m : ℕ) × Quietly m (λ q ds. Rule area w (Means area w) i at q ds gs) p es
   pub back : (area : Area) (w : Caller) (at : ℕ) (p : Places) (es : List Equation) (gs : List Goal) (i : Code) → Holds area at i → Rule area w (Means area w) i at p es gs → Means area w at p es gs
   pub learning : (area : Area) (w : Caller) (at : ℕ) (p : Places) (es : List Equation) (gs : List Goal) → Learns (λ q ds. Means area w at q ds gs) p es → Means area w at p es gs
   pub restating : (area : Area) (w : Caller) (at : ℕ) (p : Places) (es : List Equation) (gs : List Goal) → Restates (λ q ds. Means area w at q ds gs) p es → Means area w at p es gs
@@ -35,7 +36,8 @@ pub record StepsAreSafe : Type 0 where
 
 -- A number falls with each instruction that goes on, that returns and that fails, and a cut makes it no greater.
 pub record WorkFalls : Type 0 where
-  pub fork : (d e f : ℕ) (ds : List ℕ) (ts : List Thread) → e < d → f < d → work (record { distance = e; returns = ds } ∷ record { distance = f; returns = ds } ∷ ts) < work (record { distance = d; returns = ds } ∷ ts)
+  pub fork : (d e f : ℕ) (ds : List ℕ) (ts : List Thread) → e < d → f < d
+      → work (record { distance = e; returns = ds } ∷ record { distance = f; returns = ds } ∷ ts) < work (record { distance = d; returns = ds } ∷ ts)
   pub step : (d e : ℕ) (ds : List ℕ) (ts : List Thread) → e < d → work (record { distance = e; returns = ds } ∷ ts) < work (record { distance = d; returns = ds } ∷ ts)
   pub proceed : (d e : ℕ) (ds : List ℕ) (ts : List Thread) → work (record { distance = e; returns = ds } ∷ ts) < work (record { distance = d; returns = e ∷ ds } ∷ ts)
   pub back : (d : ℕ) (ds : List ℕ) (ts : List Thread) → work ts < work (record { distance = d; returns = ds } ∷ ts)
@@ -52,4 +54,5 @@ pub record QueriesAreApart : Type 0 where
   pub returns : (a : Area) (ss : List State) → IsVerifiedBy a ss → (at : ℕ) → Holds a at Proceed → IsOutside a at
   pub executes : (a : Area) (ss : List State) → IsVerifiedBy a ss → (at e : ℕ) → Holds a at (Execute e) → IsOutside a at
   pub answers : (a : Area) (ss : List State) → IsVerifiedBy a ss → (at : ℕ) → IsOutside a at → ¬ Holds a at AnswerNow
-  pub shown : (a : Area) (ss : List State) → IsVerifiedBy a ss → (n at : ℕ) (q : Span) → HasQuery a n q → IsIn q at → Holds a at AnswerNow → (s actual : State) → HasState ss at s → Covers actual s → (k : ℕ) → 1 ≤ k → k ≤ length q.names → IsTrue (is_cell (slot_at actual.frame k))
+  pub shown : (a : Area) (ss : List State) → IsVerifiedBy a ss → (n at : ℕ) (q : Span) → HasQuery a n q → IsIn q at → Holds a at AnswerNow → (s actual : State)
+      → HasState ss at s → Covers actual s → (k : ℕ) → 1 ≤ k → k ≤ length q.names → IsTrue (is_cell (slot_at actual.frame k))

@@ -1,12 +1,11 @@
 pub mod Area
 pub mod Keys
-pub mod Standing
 pub mod Arities
 pub mod Effect
 pub mod VerifiedCode
 pub mod Places
-pub mod Means
+pub mod CodeMeaning
 pub mod Tries
-pub mod Ending
-pub mod Reaching
+pub mod WorkMeasure
+pub mod CodeRegions
 pub mod Laws

@@ -1,7 +1,7 @@
 -- The registers and slots of a clause's code, as terms of a branch.
 use Rattle.std.specs.Prelude.{◌≡◌, ◌⊎◌, ℕ, suc, ◌+◌, ◌<◌, ◌≤◌, ◌==◌, Bool, true, false, if◌then◌else◌, Option, Some, None}
 use Rattle.fd_language.specs.Term.{Name, Term, Terms, Atom, Comp, no_terms, term}
-use Rattle.machine_relation.specs.Heap.{Below}
+use Rattle.branch_meaning.specs.Heap.{Below}
 use Rattle.wam_code.specs.declared.instruction.Register.{Register}
 use Rattle.wam_code.specs.declared.instruction.Register.TheVariants.{X, Y}
 
@@ -21,7 +21,9 @@ deeper d e = record { points = d.points + e.points; branches = d.branches + e.br
 abbrev pub one_deeper : Depth → Depth
 one_deeper d = record { points = suc d.points; branches = suc d.branches }
 
--- A register, where it holds one, holds a term over the branch's variables. A slot may hold a depth instead, and noted is the depth that the call of the clause's predicate has noted, where no other goal was called since. known are the variables that the heap has already. Those of the clause and of the branch before it are below own; those from own on, below top, are the code's own, for parts of structures.
+-- A register, where it holds one, holds a term over the branch's variables. A slot may hold a depth instead, and noted is the depth that the call of the
+-- clause's predicate has noted, where no other goal was called since. known are the variables that the heap has already. Those of the clause and of the branch
+-- before it are below own; those from own on, below top, are the code's own, for parts of structures.
 pub record Places : Type 0 where
   pub x : ℕ → Option Term
   pub y : ℕ → Option Term

@@ -3,17 +3,18 @@ use Rattle.std.specs.Prelude.{◌≡◌, ◌≢◌, ◌⊎◌, ℕ, zero, suc, �
 use Rattle.fd_language.specs.Term.{Name, Term, Terms, Var, Int, Atom, Comp, no_terms, term, apply_all, term_count}
 use Rattle.fd_model.specs.Goal.{Goal, Clause, Query, Program, marked_all}
 use Rattle.fd_model.specs.Children.{paired, fits_head}
-use Rattle.fd_model.specs.Constraining.{arguments}
+use Rattle.fd_model.specs.ConstraintExpansion.{arguments}
 use Rattle.fd_model.specs.Renaming.{rename_goal}
-use Rattle.machine_relation.specs.Heap.{AllOf}
+use Rattle.branch_meaning.specs.Heap.{AllOf}
 use Rattle.wam_code.specs.declared.instruction.Key.{Key}
 use Rattle.wam_code.specs.declared.instruction.Key.TheVariants as key
 use Rattle.wam_code.specs.declared.instruction.Code.{Code}
-use Rattle.wam_code.specs.declared.instruction.Code.TheVariants.{Jump, FailNow, TryMeElse, RetryMeElse, TrustMe, Try, Retry, Trust, SwitchOnTerm, SwitchOnConstant, SwitchOnInteger, SwitchOnStructure}
+use Rattle.wam_code.specs.declared.instruction.Code.TheVariants.{Jump, FailNow, TryMeElse, RetryMeElse, TrustMe, Try, Retry, Trust, SwitchOnTerm}
+use Rattle.wam_code.specs.declared.instruction.Code.TheVariants.{SwitchOnConstant, SwitchOnInteger, SwitchOnStructure}
 use Rattle.wam_code.specs.declared.parts.Entry.{Entry}
 use Rattle.wam_code.specs.Area.{Area, Span, Table, Holds, HasEntry, name_of, table_at}
 use Rattle.wam_code.specs.Places.{Depth, no_depth, Places, Hold, made}
-use Rattle.wam_code.specs.Means.{Means}
+use Rattle.wam_code.specs.CodeMeaning.{Means}
 
 -- ---- what the first argument shows
 
@@ -67,10 +68,12 @@ pub record IsBefore (p : Places) (n variables : ℕ) : Type 0 where
   pub own : p.own ≡ n + variables
   pub top : p.top ≡ n + variables
 
--- From this place a clause's equations and goals follow, whatever the next fresh number, the arguments with variables below it, the depth that was noted, which the cuts keep, and the caller are.
+-- From this place a clause's equations and goals follow, whatever the next fresh number, the arguments with variables below it, the depth that was noted, which
+-- the cuts keep, and the caller are.
 abbrev pub IsClause : Area → ℕ → Clause → Type 0
 IsClause area at c =
-    (n : ℕ) (as' : Terms) (d : Depth) (after : List Goal) (shown : List ℕ) (p : Places) → term_count as' ≡ term_count (arguments c.head) → AllOf (λ v. v < n) as' → Hold p 1 as' → p.noted ≡ Some d → IsBefore p n c.variables
+    (n : ℕ) (as' : Terms) (d : Depth) (after : List Goal) (shown : List ℕ) (p : Places) → term_count as' ≡ term_count (arguments c.head)
+    → AllOf (λ v. v < n) as' → Hold p 1 as' → p.noted ≡ Some d → IsBefore p n c.variables
     → Means area (record { goals = after; shown = shown }) at p (paired as' (apply_all (λ x. Var (n + x)) (arguments c.head))) (marked_all d.branches (map (rename_goal (λ x. n + x)) c.body) ++ after)
 
 -- ---- choices and switches

@@ -3,12 +3,11 @@
 ghost use Rattle.std.specs.Prelude.{◌≡◌, ◌↔◌, ◌<◌, length, IsTrue};
 ghost use Rattle.wam_code.specs.Area.{area_of, table_at, range_at, Holds};
 ghost use Rattle.wam_code.specs.Keys.{HasRisingTables};
-ghost use Rattle.wam_code.specs.Standing.{StandsAt};
 ghost use Rattle.wam_code.specs.VerifiedCode.{IsVerified, IsThere};
 
-use crate::instruction::{Code, Instr, Key};
+use crate::instruction::{Code, Key};
 use crate::parts::CodeParts;
-use crate::rising::have_rising_tables;
+use crate::sorted_tables::have_rising_tables;
 use range_code::RangeCode;
 use std::marker::Model;
 use std::rc::Rc;
@@ -91,7 +90,7 @@ impl CodeArea {
 
     /// The range with this number.
     #[inline]
-    fn range(&self, r: usize) -> &Rc<RangeCode>
+    pub fn range(&self, r: usize) -> &Rc<RangeCode>
         requires { r < length self.now.ranges }
         ensures { result.now.value ≡ range_at self.now r }
     {
@@ -106,58 +105,5 @@ impl CodeArea {
         ensures there { IsThere self.now result }
     {
         self.parts.code[at]
-    }
-
-    /// The instruction at a place of the code, with its table or range.
-    #[inline]
-    pub fn instr(&self, at: usize) -> Instr<'_>
-        requires { at < length self.now.code }
-        ensures { StandsAt self.now at result }
-    {
-        match self.code_at(at) {
-            Code::GetVariable(r, a) => Instr::GetVariable(r, a),
-            Code::GetValue(r, a) => Instr::GetValue(r, a),
-            Code::GetConstant(c, a) => Instr::GetConstant(c, a),
-            Code::GetInteger(n, a) => Instr::GetInteger(n, a),
-            Code::GetStructure(f, n, a) => Instr::GetStructure(f, n, a),
-            Code::UnifyVariable(r) => Instr::UnifyVariable(r),
-            Code::UnifyValue(r) => Instr::UnifyValue(r),
-            Code::UnifyConstant(c) => Instr::UnifyConstant(c),
-            Code::UnifyInteger(n) => Instr::UnifyInteger(n),
-            Code::UnifyVoid(n) => Instr::UnifyVoid(n),
-            Code::PutVariable(r, a) => Instr::PutVariable(r, a),
-            Code::PutValue(r, a) => Instr::PutValue(r, a),
-            Code::PutConstant(c, a) => Instr::PutConstant(c, a),
-            Code::PutInteger(n, a) => Instr::PutInteger(n, a),
-            Code::PutStructure(f, n, a) => Instr::PutStructure(f, n, a),
-            Code::Allocate(n) => Instr::Allocate(n),
-            Code::Deallocate => Instr::Deallocate,
-            Code::Call(e) => Instr::Call(e),
-            Code::Execute(e) => Instr::Execute(e),
-            Code::Proceed => Instr::Proceed,
-            Code::Jump(to) => Instr::Jump(to),
-            Code::FailNow => Instr::FailNow,
-            Code::AnswerNow => Instr::AnswerNow,
-            Code::TryMeElse(to) => Instr::TryMeElse(to),
-            Code::RetryMeElse(to) => Instr::RetryMeElse(to),
-            Code::TrustMe => Instr::TrustMe,
-            Code::Try(to) => Instr::Try(to),
-            Code::Retry(to) => Instr::Retry(to),
-            Code::Trust(to) => Instr::Trust(to),
-            Code::SwitchOnTerm(v, c, i, s) => Instr::SwitchOnTerm(v, c, i, s),
-            Code::SwitchOnConstant(t) => Instr::SwitchOnConstant(self.table(t)),
-            Code::SwitchOnInteger(t) => Instr::SwitchOnInteger(self.table(t)),
-            Code::SwitchOnStructure(t) => Instr::SwitchOnStructure(self.table(t)),
-            Code::Either(to) => Instr::Either(to),
-            Code::Builtin(k) => Instr::Builtin(k),
-            Code::Constrain(k) => Instr::Constrain(k),
-            Code::Label(o) => Instr::Label(o),
-            Code::Best(o, least) => Instr::Best(o, least),
-            Code::PostRange(r, n) => Instr::PostRange(self.range(r), n),
-            Code::Level(n) => Instr::Level(n),
-            Code::TestOnly(n) => Instr::TestOnly(n),
-            Code::EnterTest(n, m, to) => Instr::EnterTest(n, m, to),
-            Code::CutTo(n) => Instr::CutTo(n),
-        }
     }
 }

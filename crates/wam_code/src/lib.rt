@@ -6,8 +6,8 @@ mod area;
 mod instruction;
 pub mod laws;
 mod parts;
-mod rising;
+mod sorted_tables;
 
 pub use crate::area::CodeArea;
-pub use crate::instruction::{Code, Instr, Key, Register};
+pub use crate::instruction::{Code, Key, Register};
 pub use crate::parts::{CodeParts, Entry, QueryEntry};

@@ -1,7 +1,7 @@
 use Rattle.std.proofs.Common.{◌≡◌, sym, refl, subst}
 use Rattle.std.specs.Prelude.{Result, MatchResult}
 use Rattle.byte_ports.specs.Ends.{SinkState, sink_at}
-use Rattle.answer_check.specs.declared.listed.Listed.{Listed}
+use Rattle.answer_check.specs.declared.listed_answers.Listed.{Listed}
 use Rattle.answer_check.specs.declared.outcome.CheckStatus.{CheckStatus}
 use Rattle.answer_check.specs.declared.outcome.Fault.{Fault}
 use Rattle.answer_check.specs.declared.outcome.Stop.{Stop}

@@ -1,7 +1,7 @@
 use Rattle.answer_check.specs.Lines.{lines_of}
 use Rattle.std.proofs.Common.{rules, ◌≡◌, drop, sym, subst, Err}
 use Rattle.std.specs.Prelude.{Result, MatchResult}
-use Rattle.answer_check.specs.declared.listed.Listed.{Listed}
+use Rattle.answer_check.specs.declared.listed_answers.Listed.{Listed}
 use Rattle.answer_check.specs.declared.outcome.Stop.{Stop}
 use Rattle.answer_check.specs.Inputs.{JudgesText, Lists, Stops}
 use Rattle.answer_check.proofs.WholeInputs.{query_names, rows_stop, parts_listed}

@@ -8,6 +8,16 @@ use Rattle.clpwhere.proofs.run.Goals as goal
 
 pub returns-in-Usage-clause-headline : goal.returns-in-Usage-clause-headline
 returns-in-Usage-clause-headline g c =
-    let old : Ends = record { left = g.S.Source.left c.args.source.now; written = g.K.Sink.written c.args.sink.now; source_faults = g.S.Source.faults c.args.source.now; sink_faults = g.K.Sink.faults c.args.sink.now } in
-    let new : Ends = record { left = g.S.Source.left c.args.source.now; written = g.K.Sink.written c.put_last.new.sink; source_faults = g.S.Source.faults c.args.source.now; sink_faults = g.K.Sink.faults c.put_last.new.sink } in
+    let old : Ends = record {
+      left = g.S.Source.left c.args.source.now;
+      written = g.K.Sink.written c.args.sink.now;
+      source_faults = g.S.Source.faults c.args.source.now;
+      sink_faults = g.K.Sink.faults c.args.sink.now;
+    } in
+    let new : Ends = record {
+      left = g.S.Source.left c.args.source.now;
+      written = g.K.Sink.written c.put_last.new.sink;
+      source_faults = g.S.Source.faults c.args.source.now;
+      sink_faults = g.K.Sink.faults c.put_last.new.sink;
+    } in
     subst (λ (a : Asked). Headline a old new c.put_last.result) (sym c.in-Usage.is) (run_line Usage old new c.put_last.result tt refl refl c.put_last.ensures)

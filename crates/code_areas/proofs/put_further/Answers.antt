@@ -1,6 +1,6 @@
 use Rattle.std.proofs.Common.{◌+◌, take, slice_set, sym, subst, arith}
 use Rattle.code_areas.specs.Areas.{IsPut}
-use Rattle.code_areas.proofs.Putting.{put_above}
+use Rattle.code_areas.proofs.RegisterCells.{put_above}
 use Rattle.code_areas.proofs.put_further.Goals as goal
 
 pub returns-clause-put : goal.returns-clause-put

@@ -19,6 +19,8 @@ returns c =
     c.in_ok-arg-2.ensures.shape c.option-2.ensures.local ∙ ap₂ with_rule one c.option-2.ensures.rule in
     let three : app_of c.in_ok-arg-3.field-0 ≡ with_rule (with_rule (with_rule bare_app (option_rule (codes "steps"))) (option_rule (codes "answers"))) (option_rule (codes "agenda")) =
     c.in_ok-arg-3.ensures.shape c.option-3.ensures.local ∙ ap₂ with_rule two c.option-3.ensures.rule in
-    let four : app_of c.in_ok-arg-4.field-0 ≡ with_rule (with_rule (with_rule (with_rule bare_app (option_rule (codes "steps"))) (option_rule (codes "answers"))) (option_rule (codes "agenda"))) (option_rule (codes "infinity")) =
+    let four : app_of c.in_ok-arg-4.field-0 ≡ with_rule
+    (with_rule (with_rule (with_rule bare_app (option_rule (codes "steps"))) (option_rule (codes "answers"))) (option_rule (codes "agenda")))
+    (option_rule (codes "infinity")) =
     c.in_ok-arg-4.ensures.shape c.option-4.ensures.local ∙ ap₂ with_rule three c.option-4.ensures.rule in
     IfOk-weaker c.arg-5.result _ _ (λ r h. h.shape c.option-5.ensures.local ∙ ap₂ with_rule four c.option-5.ensures.rule) c.arg-5.ensures

@@ -1,7 +1,7 @@
 use Rattle.std.proofs.Common.{◌≡◌, ◌+◌, ◌-◌, ◌++◌, ◌∷◌, [], length, get_or, ap, sym, ◌∙◌, arith}
 use Rattle.std.proofs.lemmas.Bool.{eqb-false}
 use Rattle.std.proofs.lemmas.List.{length-set}
-use Rattle.dependency_chains.proofs.Changing.{chains_less, filter_less, all_stay, last_apart}
+use Rattle.dependency_chains.proofs.LinkChanges.{chains_less, filter_less, all_stay, last_apart}
 use Rattle.dependency_chains.proofs.cut_links.Goals as goal
 
 pub cutting-preserved : goal.cutting-preserved

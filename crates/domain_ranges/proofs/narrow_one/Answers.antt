@@ -1,4 +1,4 @@
-use Rattle.domain_ranges.proofs.Inside.{met_one, met_none}
+use Rattle.domain_ranges.proofs.Inclusion.{met_one, met_none}
 use Rattle.domain_ranges.proofs.narrow_one.Goals as goal
 
 pub returns-then-low-high : goal.returns-then-low-high

@@ -1,5 +1,5 @@
 use Rattle.std.proofs.Common.{◌-◌, length}
-use Rattle.domain_trail.proofs.Sifting.{IsSifting}
+use Rattle.domain_trail.proofs.ForgottenCells.{IsSifting}
 use Rattle.domain_trail.proofs.forget.Given as goal
 
 abbrev pub invariant-sifting : goal.invariant-sifting

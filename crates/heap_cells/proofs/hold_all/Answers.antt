@@ -1,4 +1,4 @@
-use Rattle.heap_cells.proofs.Loose.{held_step}
+use Rattle.heap_cells.proofs.LooseVariables.{held_step}
 use Rattle.heap_cells.proofs.hold_all.Goals as goal
 
 pub loop-c-preserved : goal.loop-c-preserved

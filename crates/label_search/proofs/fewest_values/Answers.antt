@@ -25,7 +25,8 @@ loop-i-preserved g c =
     let old = subst (λ j. IsBest c.args.infinity 4294967295 sets c.args.list.now j c.loop-i.fewest c.loop-i.best) e c.loop-i.invariant in
     elim c.else-count-gt1.branch [
       | else-count-gt1-via-then-count-gt1+else-count-fewest w ↦
-          best_several c.args.infinity 4294967295 sets c.args.list.now (c.loop-i.i - 1) c.loop-i.fewest (omega arith) c.loop-i.best old (omega arith) (omega arith) (omega (arith, c.value_count_of-count.type_inv))
+          best_several c.args.infinity 4294967295 sets c.args.list.now (c.loop-i.i - 1) c.loop-i.fewest (omega arith) c.loop-i.best old (omega arith)
+          (omega arith) (omega (arith, c.value_count_of-count.type_inv))
       | else-count-gt1-via-else-count-gt1 w ↦ best_single c.args.infinity 4294967295 sets c.args.list.now (c.loop-i.i - 1) c.loop-i.fewest (omega arith) c.loop-i.best old (omega arith)
     ]
 

@@ -7,7 +7,7 @@ use Rattle.range_code.specs.Heights.{tallest}
 use Rattle.range_code.specs.Kinds.{has_pair}
 use Rattle.range_code.specs.Pieces.{piece_node, pieces_of, taken, literals}
 use Rattle.range_code.specs.CodeFields.{AreStepsOf}
-use Rattle.range_code.proofs.Compiling.{compiled, none_there}
+use Rattle.range_code.proofs.CompiledRanges.{compiled, none_there}
 use Rattle.range_code.proofs.compile_shape.Goals as goal
 
 pub invariant_of-result : goal.invariant_of-result
@@ -32,7 +32,8 @@ invariant_of-result c =
     (reverse-reverse (fold taken [] nodes))
     (subst (λ l. AreStepsOf l vals (literals pieces) (map piece_node pieces) c.in_ok-steps.steps) c.deref-3.ensures.value
     (subst (λ l. AreStepsOf c.deref-3.result.now l (literals pieces) (map piece_node pieces) c.in_ok-steps.steps) c.deref-4.ensures.value
-    (subst (λ l. AreStepsOf c.deref-3.result.now c.deref-4.result.now (literals (pieces_of l)) (map piece_node (pieces_of l)) c.in_ok-steps.steps) c.deref-2.ensures.value c.in_ok-steps.ensures.steps)))
+    (subst (λ l. AreStepsOf c.deref-3.result.now c.deref-4.result.now (literals (pieces_of l)) (map piece_node (pieces_of l)) c.in_ok-steps.steps)
+    c.deref-2.ensures.value c.in_ok-steps.ensures.steps)))
     (λ x h. c.in_ok-form.ensures.form x (c.deref-5.ensures.value ∙ h))
     (λ t. none_there vals _ (sym (ap length c.deref-4.ensures.value) ∙ c.deref-4.ensures.len) (sym c.is_empty.ensures ∙ c.in_ok-form.ensures.shifted t))
     (c.in_ok-steps.ensures.height ∙ ap (λ l. tallest (map piece_node (pieces_of l))) c.deref-2.ensures.value)

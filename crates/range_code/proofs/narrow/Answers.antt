@@ -6,21 +6,23 @@ use Rattle.fd_language.proofs.Lemmas.{rising_inside}
 use Rattle.domain_ranges.specs.Narrowing.{between, all_but}
 use Rattle.range_code.specs.Kinds.{val_slots}
 use Rattle.range_code.proofs.Forms.{narrows_same}
-use Rattle.range_code.proofs.Running.{nodes_readable, nodes_spelled, nodes_fit_family, table_narrows}
+use Rattle.range_code.proofs.RangeRuns.{nodes_readable, nodes_spelled, nodes_fit_family, table_narrows}
 use Rattle.range_code.specs.Slots.{in_slots}
 use Rattle.range_code.specs.FoldedRanges.{folded_range}
 use Rattle.range_code.proofs.Forms.{form_spells}
-use Rattle.range_code.proofs.Folding.{form_folded}
+use Rattle.range_code.proofs.FoldedRanges.{form_folded}
 use Rattle.range_code.proofs.narrow.Goals as goal
 
 pub evaluate_narrowing-requires-clause-readable : goal.evaluate_narrowing-requires-clause-readable
 evaluate_narrowing-requires-clause-readable g c = nodes_readable (g.V.View.sets c.args.view.now) c.args.code.now c.args.args.now c.form.ensures.accepted c.requires.frame _ c.steps.ensures.nodes
 
 pub evaluate_narrowing-requires-clause-fits : goal.evaluate_narrowing-requires-clause-fits
-evaluate_narrowing-requires-clause-fits g c = nodes_fit_family (g.V.View.sets c.args.view.now) c.args.code.now c.args.args.now c.form.ensures.accepted c.requires.frame _ c.steps.ensures.nodes c.requires.family
+evaluate_narrowing-requires-clause-fits g c = nodes_fit_family (g.V.View.sets c.args.view.now) c.args.code.now c.args.args.now c.form.ensures.accepted
+    c.requires.frame _ c.steps.ensures.nodes c.requires.family
 
 pub evaluate_narrowing-requires-clause-form : goal.evaluate_narrowing-requires-clause-form
-evaluate_narrowing-requires-clause-form g c = form_spells _ (folded_range (in_slots c.args.code.now)) c.form.result.now c.steps.ensures.nodes (form_folded (in_slots c.args.code.now) c.form.result.now c.form.ensures.form)
+evaluate_narrowing-requires-clause-form g c = form_spells _ (folded_range (in_slots c.args.code.now)) c.form.result.now c.steps.ensures.nodes
+    (form_folded (in_slots c.args.code.now) c.form.result.now c.form.ensures.form)
 
 pub evaluate_narrowing-requires-clause-spelled : goal.evaluate_narrowing-requires-clause-spelled
 evaluate_narrowing-requires-clause-spelled g c = nodes_spelled (g.V.View.sets c.args.view.now) c.args.code.now c.args.args.now c.form.ensures.accepted c.requires.frame _ c.steps.ensures.nodes
@@ -47,4 +49,6 @@ returns-in-All-clause-narrowed g c =
 
 pub returns-in-Other-clause-narrowed : goal.returns-in-Other-clause-narrowed
 returns-in-Other-clause-narrowed g c =
-    table_narrows (g.V.View.sets c.args.view.now) c.args.code.now c.args.args.now c.form.ensures.accepted c.requires.frame _ c.steps.ensures.nodes c.evaluate_narrowing.result c.args.target.now (val_slots c.args.code.now) c.requires.some refl (sym (c.reach_of.ensures.other c.in-Other.is)) c.evaluate_narrowing.ensures.narrowed
+    table_narrows (g.V.View.sets c.args.view.now) c.args.code.now c.args.args.now c.form.ensures.accepted c.requires.frame _ c.steps.ensures.nodes
+    c.evaluate_narrowing.result c.args.target.now (val_slots c.args.code.now) c.requires.some refl (sym (c.reach_of.ensures.other c.in-Other.is))
+    c.evaluate_narrowing.ensures.narrowed

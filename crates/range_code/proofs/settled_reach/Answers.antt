@@ -5,7 +5,7 @@ use Rattle.domain_ranges.specs.Narrowing.{between}
 use Rattle.range_code.specs.Frames.{slot_set, slot_integer}
 use Rattle.range_code.specs.Steps.{outside}
 use Rattle.range_code.proofs.Forms.{except_one}
-use Rattle.range_code.proofs.Running.{read_nodes, settled_set}
+use Rattle.range_code.proofs.RangeRuns.{read_nodes, settled_set}
 use Rattle.range_code.proofs.settled_reach.Goals as goal
 
 pub value-low-requires-clause-width : goal.value-low-requires-clause-width
@@ -82,4 +82,5 @@ returns-in-Except g c =
     let k = rw (c.in-Except.is) at c.form.ensures.form in
     let a : SFits w64 c.value-in-Except.result = search rules in
     simp to_z-of_z (settled_set (g.V.View.sets c.args.view.now) c.args.code.now c.args.args.now c.form.ensures.accepted c.requires.frame c.requires.some c.requires.settled
-    ∙ (k.set (slot_set (g.V.View.sets c.args.view.now) c.args.args.now) (slot_integer c.args.args.now) ∙ (sym (ap (λ z. outside (between z z)) c.value-in-Except.ensures) ∙ sym (except_one c.value-in-Except.result))))
+    ∙ (k.set (slot_set (g.V.View.sets c.args.view.now) c.args.args.now) (slot_integer c.args.args.now)
+    ∙ (sym (ap (λ z. outside (between z z)) c.value-in-Except.ensures) ∙ sym (except_one c.value-in-Except.result))))

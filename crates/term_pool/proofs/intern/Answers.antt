@@ -14,13 +14,15 @@ returns-in-Some-clause-names c = sym (interned_same string_bytes c.args.text.now
 
 pub returns-in_err-name-clause-known : goal.returns-in_err-name-clause-known
 returns-in_err-name-clause-known c h =
-    let absent : list_any (bytes_eq c.args.text.now) (map string_bytes c.args.atoms.now.keys) ≡ false = list_any-map (bytes_eq c.args.text.now) string_bytes c.args.atoms.now.keys ∙ sym c.in_default.ensures.found in
+    let absent : list_any (bytes_eq c.args.text.now) (map string_bytes c.args.atoms.now.keys) ≡ false = list_any-map (bytes_eq c.args.text.now) string_bytes
+    c.args.atoms.now.keys ∙ sym c.in_default.ensures.found in
     let clash : true ≡ false = sym h ∙ absent in
     absurd cc
 
 pub returns-in_err-number-clause-known : goal.returns-in_err-number-clause-known
 returns-in_err-number-clause-known c h =
-    let absent : list_any (bytes_eq c.args.text.now) (map string_bytes c.args.atoms.now.keys) ≡ false = list_any-map (bytes_eq c.args.text.now) string_bytes c.args.atoms.now.keys ∙ sym c.in_default.ensures.found in
+    let absent : list_any (bytes_eq c.args.text.now) (map string_bytes c.args.atoms.now.keys) ≡ false = list_any-map (bytes_eq c.args.text.now) string_bytes
+    c.args.atoms.now.keys ∙ sym c.in_default.ensures.found in
     let clash : true ≡ false = sym h ∙ absent in
     absurd cc
 

@@ -16,14 +16,19 @@ returns-in-Ok g c = λ words some.
 pub returns-in-Err-TooLarge : goal.returns-in-Err-TooLarge
 returns-in-Err-TooLarge g c = λ words some.
     with_large words (asked c.args.options) _ _ c.answer-in-Err-TooLarge.result some c.requires.size (c.in-Err-TooLarge.ensures.large (ap Err c.in-Err-TooLarge.field-0-is))
-    (stays (g.S.Source.faults c.args.source.now) (g.S.Source.faults c.read_text.new.src) c.in-Err-TooLarge.ensures.later (λ l. let e = c.in-Err-TooLarge.ensures.told l in let f = c.in-Err-TooLarge.field-0-is in cc (e, f)))
-    (λ text long out st o. c.answer-in-Err-TooLarge.ensures out st (verdict_outputs words c.args.options text c.refused.result out st some c.requires.size (large_verdicts c.args.options.infinity text c.refused.result long c.refused.ensures) o))
+    (stays (g.S.Source.faults c.args.source.now) (g.S.Source.faults c.read_text.new.src) c.in-Err-TooLarge.ensures.later
+    (λ l. let e = c.in-Err-TooLarge.ensures.told l in let f = c.in-Err-TooLarge.field-0-is in cc (e, f)))
+    (λ text long out st o. c.answer-in-Err-TooLarge.ensures out st
+    (verdict_outputs words c.args.options text c.refused.result out st some c.requires.size
+    (large_verdicts c.args.options.infinity text c.refused.result long c.refused.ensures) o))
 
 pub returns-in-Err-NoMemory : goal.returns-in-Err-NoMemory
 returns-in-Err-NoMemory g c = λ words some.
     with_memory words (asked c.args.options) _ _ some c.requires.size refl (c.in-Err-NoMemory.ensures.memory (ap Err c.in-Err-NoMemory.field-0-is))
-    (stays (g.S.Source.faults c.args.source.now) (g.S.Source.faults c.read_text.new.src) c.in-Err-NoMemory.ensures.later (λ l. let e = c.in-Err-NoMemory.ensures.told l in let f = c.in-Err-NoMemory.field-0-is in cc (e, f)))
+    (stays (g.S.Source.faults c.args.source.now) (g.S.Source.faults c.read_text.new.src) c.in-Err-NoMemory.ensures.later
+    (λ l. let e = c.in-Err-NoMemory.ensures.told l in let f = c.in-Err-NoMemory.field-0-is in cc (e, f)))
 
 pub returns-in-Err-ReadFault : goal.returns-in-Err-ReadFault
 returns-in-Err-ReadFault g c = λ words some.
-    with_fault words (asked c.args.options) _ _ some c.requires.size refl (c.in-Err-ReadFault.ensures.fault (ap Err c.in-Err-ReadFault.field-0-is)) (c.in-Err-ReadFault.ensures.cause (ap Err c.in-Err-ReadFault.field-0-is)) c.in-Err-ReadFault.ensures.later
+    with_fault words (asked c.args.options) _ _ some c.requires.size refl (c.in-Err-ReadFault.ensures.fault (ap Err c.in-Err-ReadFault.field-0-is))
+    (c.in-Err-ReadFault.ensures.cause (ap Err c.in-Err-ReadFault.field-0-is)) c.in-Err-ReadFault.ensures.later

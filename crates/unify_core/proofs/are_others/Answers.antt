@@ -1,8 +1,8 @@
 use Rattle.std.proofs.Common.{rules, subst}
 use Rattle.std.proofs.lemmas.List.{take_all}
 use Rattle.std.proofs.lemmas.List.Elements.{All-more}
-use Rattle.unify_core.specs.Occurs.{IsAbsentAmong, ShowsOther}
-use Rattle.unify_core.proofs.Occurring.{others_next}
+use Rattle.unify_core.specs.OccursCheck.{IsAbsentAmong, ShowsOther}
+use Rattle.unify_core.proofs.OccursCheck.{others_next}
 use Rattle.unify_core.proofs.are_others.Goals as goal
 
 pub loop-c-preserved : goal.loop-c-preserved

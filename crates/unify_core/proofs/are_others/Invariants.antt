@@ -1,5 +1,5 @@
 use Rattle.std.proofs.Common.{take, All}
-use Rattle.unify_core.specs.Occurs.{IsAbsentAmong, ShowsOther}
+use Rattle.unify_core.specs.OccursCheck.{IsAbsentAmong, ShowsOther}
 use Rattle.unify_core.proofs.are_others.Given as goal
 
 abbrev pub invariant-loop-c : goal.invariant-loop-c

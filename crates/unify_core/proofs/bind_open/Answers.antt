@@ -2,7 +2,7 @@ use Rattle.std.proofs.Common.{◌≡◌, ◌∙◌, false, ap, sym, subst}
 use Rattle.heap_cells.specs.Cells.{Heaps, bound, with_slot}
 use Rattle.heap_cells.specs.Terms.{Naming, term_of, occurs}
 use Rattle.unify_core.specs.Outcome.{IsInfinite}
-use Rattle.unify_core.proofs.Occurring.{root_absent, compound_infinite}
+use Rattle.unify_core.proofs.OccursCheck.{root_absent, compound_infinite}
 use Rattle.unify_core.proofs.bind_open.Goals as goal
 use Rattle.unify_core.proofs.bind_open.Goals.{in-Struct+in_ok-is_inside+else-branch, in_default}
 
@@ -14,7 +14,8 @@ returns-then-branch-clause-infinite c =
 pub bind-requires-clause-absent : goal.bind-requires-clause-absent
 bind-requires-clause-absent c = elim c.match-to.branch [
   | in-Struct+in_ok-is_inside+else-branch w ↦ λ name. ap (λ t. occurs c.args.var (term_of name c.args.heap.now.now t)) w.to-is ∙ sym (w.in_ok-is_inside.ensures name) ∙ w.if-branch.false
-  | in_default w ↦ λ name. ap (λ t. occurs c.args.var (term_of name c.args.heap.now.now t)) w.to-is ∙ root_absent c.args.heap.now.now c.requires.valid c.args.var c.args.to c.requires.root c.requires.other (λ j. w.in_default.not-Struct j) name
+  | in_default w ↦ λ name. ap (λ t. occurs c.args.var (term_of name c.args.heap.now.now t)) w.to-is
+      ∙ root_absent c.args.heap.now.now c.requires.valid c.args.var c.args.to c.requires.root c.requires.other (λ j. w.in_default.not-Struct j) name
 ]
 
 absent : (c : goal.In_ok-bind) → (name : Naming) → occurs c.args.var (term_of name c.args.heap.now.now c.args.to) ≡ false

@@ -1,4 +1,4 @@
-use Rattle.unify_core.proofs.Occurring.{args_absent, root_other}
+use Rattle.unify_core.proofs.OccursCheck.{args_absent, root_other}
 use Rattle.unify_core.proofs.is_soon_apart.Goals as goal
 
 pub returns-in-Struct : goal.returns-in-Struct

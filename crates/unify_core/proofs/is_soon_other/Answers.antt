@@ -1,5 +1,5 @@
 use Rattle.std.proofs.Common.{sym, subst}
-use Rattle.unify_core.specs.Occurs.{IsOther}
+use Rattle.unify_core.specs.OccursCheck.{IsOther}
 use Rattle.unify_core.proofs.is_soon_other.Goals as goal
 
 pub returns-in-Some-clause-shows : goal.returns-in-Some-clause-shows

@@ -1,5 +1,5 @@
 use Rattle.std.proofs.Common.{take}
-use Rattle.unify_core.specs.Occurs.{LeavesAhead}
+use Rattle.unify_core.specs.OccursCheck.{LeavesAhead}
 use Rattle.unify_core.proofs.look_into.Given as goal
 
 abbrev pub invariant-loop-c : goal.invariant-loop-c

@@ -1,6 +1,6 @@
 use Rattle.std.proofs.Common.{◌++◌, [], ◌∷◌}
 use Rattle.heap_cells.specs.declared.Cell.TheVariants as cell
-use Rattle.unify_core.proofs.Occurring.{ahead_size, Looks}
+use Rattle.unify_core.proofs.OccursCheck.{ahead_size, Looks}
 use Rattle.unify_core.proofs.occurs_in.Given as goal
 
 abbrev pub invariant-compounds : goal.invariant-compounds

@@ -2,7 +2,7 @@ use Rattle.std.proofs.Common.{rules, ℕ, List, ◌≡◌, ◌≤◌, ◌<◌, �
 use Rattle.std.specs.Prelude.{All, MatchResult, Result}
 use Rattle.term_pool.specs.declared.AtomId.{AtomId}
 use Rattle.term_pool.specs.Contents.{atom_name}
-use Rattle.answer_check.specs.declared.listed.Answers.{Answers}
+use Rattle.answer_check.specs.declared.listed_answers.Answers.{Answers}
 use Rattle.answer_check.specs.declared.outcome.Stop.{Stop}
 use Rattle.answer_check.specs.declared.outcome.Stop.TheVariants as stop
 use Rattle.answer_check.specs.Lines.{first_line, lines_of}
@@ -17,7 +17,8 @@ returns-then-behind-input c = λ f i.
     let input = c.args.input.now in
     let at = c.loop-at.at in
     let line : c.first_line-line.result.now ≡ first_line (drop at input) = c.first_line-line.ensures ∙ ap first_line (slice_end input at) in
-    stands_behind f.query _ c.args.from input at c.loop-at.values.items c.loop-at.count (names_shown f c.args.query.now i) (c.loop-at.invariant.read f i) c.loop-at-test.true c.first_line-line.result.now line
+    stands_behind f.query _ c.args.from input at c.loop-at.values.items c.loop-at.count (names_shown f c.args.query.now i) (c.loop-at.invariant.read f i)
+    c.loop-at-test.true c.first_line-line.result.now line
     (sym c.is_last_line.ensures ∙ c.if-is_last_line.true) c.if-behind-input.true c.bad_answer.result c.bad_answer.ensures
 
 pub returns-then-is_last_line : goal.returns-then-is_last_line
@@ -26,7 +27,8 @@ returns-then-is_last_line c = λ f i.
     let input = c.args.input.now in
     let at = c.loop-at.at in
     let line : c.first_line-line.result.now ≡ first_line (drop at input) = c.first_line-line.ensures ∙ ap first_line (slice_end input at) in
-    ends_well f.query _ c.args.from input at c.loop-at.values.items c.loop-at.count (names_shown f c.args.query.now i) (c.loop-at.invariant.read f i) c.loop-at-test.true c.first_line-line.result.now line
+    ends_well f.query _ c.args.from input at c.loop-at.values.items c.loop-at.count (names_shown f c.args.query.now i) (c.loop-at.invariant.read f i)
+    c.loop-at-test.true c.first_line-line.result.now line
     (sym c.is_last_line.ensures ∙ c.if-is_last_line.true) c.if-behind-input.false c.len-variables.result (c.len-variables.ensures ∙ many ∙ sym i.variables)
 
 pub read_answer-requires : goal.read_answer-requires
@@ -49,7 +51,8 @@ returns-then-not-branch c = λ f i.
     let read : answer_in (map (atom_name pool) c.deref.result.now) row ≡ None
     = subst (IsRead (answer_in (map (atom_name pool) c.deref.result.now) row) c.loop-at.values.items c.read_answer.new.values.items) c.if-not-branch.true c.in_ok-read_answer.ensures in
     no_row f.query _ c.args.from input at c.loop-at.values.items c.loop-at.count (names_shown f c.args.query.now i) (c.loop-at.invariant.read f i) c.loop-at-test.true row line
-    (sym c.is_last_line.ensures ∙ c.if-is_last_line.false) (ap (λ ns. answer_in (map (atom_name pool) ns) row) (sym c.deref.ensures.value) ∙ read) c.bad_answer-then-not-branch.result c.bad_answer-then-not-branch.ensures
+    (sym c.is_last_line.ensures ∙ c.if-is_last_line.false) (ap (λ ns. answer_in (map (atom_name pool) ns) row) (sym c.deref.ensures.value) ∙ read)
+    c.bad_answer-then-not-branch.result c.bad_answer-then-not-branch.ensures
 
 pub loop-at-preserved : goal.loop-at-preserved
 loop-at-preserved c =
@@ -68,11 +71,14 @@ loop-at-preserved c =
     record {
       within = subst (λ (l : List ℕ). at + length l ≤ length input) (sym line) (behind_line input at (let t = c.loop-at-test.true in omega (arith, t)));
       few = (let k = c.loop-at.invariant.few in omega (arith, k, longer));
-      whole = ap (λ ns. length ns) read.2 ∙ length-append c.loop-at.values.items read.0 ∙ row_more (length c.loop-at.values.items) c.loop-at.count c.len-variables.result (length read.0) c.loop-at.invariant.whole (many ∙ sym (c.len-variables.ensures ∙ size));
+      whole = ap (λ ns. length ns) read.2 ∙ length-append c.loop-at.values.items read.0
+          ∙ row_more (length c.loop-at.values.items) c.loop-at.count c.len-variables.result (length read.0) c.loop-at.invariant.whole
+          (many ∙ sym (c.len-variables.ensures ∙ size));
       read = λ f i. row_read f.query _ c.args.from input at c.loop-at.values.items c.loop-at.count (names_shown f c.args.query.now i) (c.loop-at.invariant.read f i) c.loop-at-test.true row line
           read.0 c.read_answer.new.values.items (sym c.is_last_line.ensures ∙ c.if-is_last_line.false) found read.2;
     }
 
 pub returns : goal.returns
 returns c = λ f i.
-    ends_early f.query _ c.args.from c.args.input.now c.loop-at.at c.loop-at.values.items c.loop-at.count (names_shown f c.args.query.now i) (c.loop-at.invariant.read f i) c.loop-at-test.false c.bad_answer-2.result c.bad_answer-2.ensures
+    ends_early f.query _ c.args.from c.args.input.now c.loop-at.at c.loop-at.values.items c.loop-at.count (names_shown f c.args.query.now i)
+    (c.loop-at.invariant.read f i) c.loop-at-test.false c.bad_answer-2.result c.bad_answer-2.ensures

@@ -1,6 +1,6 @@
 use Rattle.std.proofs.Common.{take}
 use Rattle.fd_language.specs.declared.TheConstants.{INFINITY}
-use Rattle.fd_model.specs.Satisfies.{AreNumbers}
+use Rattle.fd_model.specs.Satisfaction.{AreNumbers}
 use Rattle.answer_check.specs.AnswerLines.{assigned}
 use Rattle.answer_check.specs.Members.{worths_of}
 use Rattle.answer_check.proofs.checks.are_numbers.Given as goal

@@ -15,7 +15,8 @@ returns-in-Some c =
     let f : SFits w64 c.worth.result = search rules in
     let l : c.args.index - 1 < length c.args.members.now = search rules in
     let is : c.in-Some.member.now ≡ get_or c.args.members.now (c.args.index - 1) c.in-Some.member.now = search rules in
-    let w : c.worth.result ≡ worth_of (assigned c.args.values.now) (get_or c.args.members.now (c.args.index - 1) c.in-Some.member.now) = c.worth.ensures ∙ ap (worth_of (assigned c.args.values.now)) is in
+    let w : c.worth.result ≡ worth_of (assigned c.args.values.now) (get_or c.args.members.now (c.args.index - 1) c.in-Some.member.now) = c.worth.ensures
+    ∙ ap (worth_of (assigned c.args.values.now)) is in
     let same : c.is_same.result ≡ int_eq c.args.integer c.worth.result = simp to_z-of_z at c.is_same.ensures in
     element_there c.in-Some.member.now (assigned c.args.values.now) c.args.members.now c.args.index c.args.integer c.worth.result c.is_same.result c.if-index-eq0.false l w same
 

@@ -22,5 +22,6 @@ loop-member-preserved c =
     let counted = simp to_z-of_z at c.loop-member.invariant.counted in
     record {
       few = few;
-      counted = simp to_z-of_z (occurrences_step _ (assigned c.args.values.now) c.args.members.now c.loop-member.member-index c.worth.result c.loop-member-test.true c.worth.ensures c.args.integer c.loop-member.count c.if-is_same.count c.is_same.result same counted count);
+      counted = simp to_z-of_z (occurrences_step _ (assigned c.args.values.now) c.args.members.now c.loop-member.member-index c.worth.result
+          c.loop-member-test.true c.worth.ensures c.args.integer c.loop-member.count c.if-is_same.count c.is_same.result same counted count);
     }

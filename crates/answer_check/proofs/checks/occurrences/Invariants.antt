@@ -1,5 +1,5 @@
 use Rattle.std.proofs.Common.{◌≡◌, ◌≤◌, take}
-use Rattle.fd_model.specs.Satisfies.{occurrences}
+use Rattle.fd_model.specs.Satisfaction.{occurrences}
 use Rattle.answer_check.specs.AnswerLines.{assigned}
 use Rattle.answer_check.specs.Members.{worths_of}
 use Rattle.answer_check.proofs.checks.occurrences.Given as goal

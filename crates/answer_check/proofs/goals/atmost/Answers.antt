@@ -15,8 +15,11 @@ returns-in-Some-2 c =
     let ms = c.in-Some-2.members.items in
     let e : known_in n ≡ Some c.in-Some.most = sym c.integer_of.ensures ∙ c.in-Some.is in
     let f : known_in v ≡ Some c.in-Some-integer_of.value = sym c.integer_of-2.ensures ∙ c.in-Some-integer_of.is in
-    let g : Some ms ≡ members_in l = ap (option_map (λ (w : Vec Member Global). w.items)) (sym c.in-Some-2.is) ∙ c.in_ok-members.ensures in
-    (atmost_test n l v c.in-Some.most c.in-Some-integer_of.value ms e f g, atmost_says n l v c.in-Some.most c.in-Some-integer_of.value ms e f g (constraint.Atmost c.in-Some.most c.in-Some-2.members c.in-Some-integer_of.value) (λ a y. y) (λ a y. y) tt)
+    let g : Some ms ≡ members_in l = ap (option_map (λ (w : Vec Member Global). w.items)) (sym c.in-Some-2.is) ∙ c.in_ok-members.ensures in (
+      atmost_test n l v c.in-Some.most c.in-Some-integer_of.value ms e f g,
+      atmost_says n l v c.in-Some.most c.in-Some-integer_of.value ms e f g (constraint.Atmost c.in-Some.most c.in-Some-2.members c.in-Some-integer_of.value)
+          (λ a y. y) (λ a y. y) tt,
+    )
 
 pub returns-in-None : goal.returns-in-None
 returns-in-None c =

@@ -7,7 +7,7 @@ use Rattle.fd_model.specs.FlatConstraints.{is_place}
 use Rattle.fd_model.specs.FlatQueries.{IsSatisfied}
 use Rattle.fd_model.specs.Forms.{form_named}
 use Rattle.fd_model.specs.Queries.{goal_of}
-use Rattle.fd_model.specs.Satisfies.{InRange}
+use Rattle.fd_model.specs.Satisfaction.{InRange}
 use Rattle.term_pool.specs.declared.TermId.{TermId}
 use Rattle.term_pool.specs.Contents.{atom_name}
 use Rattle.term_pool.specs.PlacedTerms.{placed_of, parts_by}
@@ -44,7 +44,8 @@ returns-in-Some-Constraint c =
     let x = placed_of pool c.args.t in
     let f = atom_name pool c.in-Comp.name in
     let k = c.in-Some-Constraint.kind in
-    let form = ap (λ (g : Name). flat_form (form_named g (length ids))) (sym c.name_of.ensures.name) ∙ sym c.form_named.ensures ∙ c.in-Some-Constraint.is ∙ ap (λ g. Some g) c.in-Some-Constraint.field-0-is in
+    let form = ap (λ (g : Name). flat_form (form_named g (length ids))) (sym c.name_of.ensures.name) ∙ sym c.form_named.ensures ∙ c.in-Some-Constraint.is
+    ∙ ap (λ g. Some g) c.in-Some-Constraint.field-0-is in
     weaker (KeepsKind k (terms_by (term_of pool) ids)) (Keeps (is_flat_goal INFINITY x (goal_of INFINITY x)) (λ s. IsSatisfied INFINITY INFINITY s (goal_of INFINITY x))) c.constraint_by.result
     (kind_says pool x f (place x) ids c.in-Comp.ensures.placed k form) c.constraint_by.ensures
 

@@ -19,8 +19,11 @@ returns-in-Some-2 c =
     let e : member_in i ≡ Some c.in-Some.index = sym c.member_of.ensures ∙ c.in-Some.is in
     let f : member_in x ≡ Some c.in-Some-member_of.element = sym c.member_of-2.ensures ∙ c.in-Some-member_of.is in
     let g : Some ms ≡ members_in l = ap (option_map (λ (v : Vec Member Global). v.items)) (sym c.in-Some-2.is) ∙ c.in_ok-members.ensures in
-    let known : list_all is_known ms ≡ true = ap (list_all is_known) (sym c.deref.ensures.value) ∙ sym c.are_known.ensures ∙ c.if-are_known.true in
-    (element_test i l x c.in-Some.index c.in-Some-member_of.element ms e f g known, element_says i l x c.in-Some.index c.in-Some-member_of.element ms e f g known (constraint.Element c.in-Some.index c.in-Some-2.members c.in-Some-member_of.element) (λ a y. y) (λ a y. y) tt)
+    let known : list_all is_known ms ≡ true = ap (list_all is_known) (sym c.deref.ensures.value) ∙ sym c.are_known.ensures ∙ c.if-are_known.true in (
+      element_test i l x c.in-Some.index c.in-Some-member_of.element ms e f g known,
+      element_says i l x c.in-Some.index c.in-Some-member_of.element ms e f g known
+          (constraint.Element c.in-Some.index c.in-Some-2.members c.in-Some-member_of.element) (λ a y. y) (λ a y. y) tt,
+    )
 
 pub returns-in_default-2 : goal.returns-in_default-2
 returns-in_default-2 c =

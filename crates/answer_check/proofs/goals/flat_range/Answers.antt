@@ -1,6 +1,6 @@
 use Rattle.std.proofs.Common.{◌≡◌, ◌∙◌, sym, ap, true, false}
 use Rattle.std.specs.List.{list_any}
-use Rattle.fd_language.specs.Flat.{nodes_of}
+use Rattle.fd_language.specs.PostfixRanges.{nodes_of}
 use Rattle.term_pool.specs.PlacedTerms.{placed_of}
 use Rattle.answer_check.specs.Goals.{is_left_out}
 use Rattle.answer_check.proofs.PlainRanges.{flat_not, flat_yes}

@@ -20,7 +20,8 @@ returns-then-branch c =
     let xs = c.in_ok-labelled.labelled.items in
     let e : Some ms ≡ members_in list = ap (option_map (λ (v : Vec Member Global). v.items)) (sym c.in-Some.is) ∙ c.in_ok-members.ensures in
     let opened : xs ≡ open_in ms = c.in_ok-labelled.ensures ∙ ap open_in c.deref.ensures.value in
-    let all : list_all (has xs) (count_up 0 c.args.count) ≡ true = ap (λ ys. list_all (has ys) (count_up 0 c.args.count)) (sym c.deref-2.ensures.value) ∙ sym c.in_ok-has_below.ensures ∙ c.if-branch.true in
+    let all : list_all (has xs) (count_up 0 c.args.count) ≡ true = ap (λ ys. list_all (has ys) (count_up 0 c.args.count)) (sym c.deref-2.ensures.value)
+    ∙ sym c.in_ok-has_below.ensures ∙ c.if-branch.true in
     labels_some c.args.count c.args.order list ms xs _ e opened all refl refl
 
 pub returns : goal.returns
@@ -30,5 +31,6 @@ returns c =
     let xs = c.in_ok-labelled.labelled.items in
     let e : Some ms ≡ members_in list = ap (option_map (λ (v : Vec Member Global). v.items)) (sym c.in-Some.is) ∙ c.in_ok-members.ensures in
     let opened : xs ≡ open_in ms = c.in_ok-labelled.ensures ∙ ap open_in c.deref.ensures.value in
-    let all : list_all (has xs) (count_up 0 c.args.count) ≡ false = ap (λ ys. list_all (has ys) (count_up 0 c.args.count)) (sym c.deref-2.ensures.value) ∙ sym c.in_ok-has_below.ensures ∙ c.if-branch.false in
+    let all : list_all (has xs) (count_up 0 c.args.count) ≡ false = ap (λ ys. list_all (has ys) (count_up 0 c.args.count)) (sym c.deref-2.ensures.value)
+    ∙ sym c.in_ok-has_below.ensures ∙ c.if-branch.false in
     labels_short c.args.count list ms xs e opened all

@@ -36,17 +36,20 @@ returns-in-Some-Posting c =
     let pool = c.args.pool.now in
     let is = sym c.in-Some-Posting.field-0-is in
     let form = ap (λ g. Some g) is ∙ sym c.in-Some-Posting.is ∙ c.form_named.ensures ∙ ap (λ (g : Name). flat_form (form_named g (length c.in-Comp.parts.now))) c.name_of.ensures.name in
-    no_labels pool (placed_of pool c.args.t) (atom_name pool c.in-Comp.name) (place (placed_of pool c.args.t)) c.in-Comp.parts.now c.in-Comp.ensures.placed c.args.count (place (placed_of pool c.args.t)) (λ k g. let q = form ∙ g in cc (q))
+    no_labels pool (placed_of pool c.args.t) (atom_name pool c.in-Comp.name) (place (placed_of pool c.args.t)) c.in-Comp.parts.now c.in-Comp.ensures.placed
+    c.args.count (place (placed_of pool c.args.t)) (λ k g. let q = form ∙ g in cc (q))
 
 pub returns-in-Some-Constraint : goal.returns-in-Some-Constraint
 returns-in-Some-Constraint c =
     let pool = c.args.pool.now in
     let is = sym c.in-Some-Constraint.field-0-is in
     let form = ap (λ g. Some g) is ∙ sym c.in-Some-Constraint.is ∙ c.form_named.ensures ∙ ap (λ (g : Name). flat_form (form_named g (length c.in-Comp.parts.now))) c.name_of.ensures.name in
-    no_labels pool (placed_of pool c.args.t) (atom_name pool c.in-Comp.name) (place (placed_of pool c.args.t)) c.in-Comp.parts.now c.in-Comp.ensures.placed c.args.count (place (placed_of pool c.args.t)) (λ k g. let q = form ∙ g in cc (q))
+    no_labels pool (placed_of pool c.args.t) (atom_name pool c.in-Comp.name) (place (placed_of pool c.args.t)) c.in-Comp.parts.now c.in-Comp.ensures.placed
+    c.args.count (place (placed_of pool c.args.t)) (λ k g. let q = form ∙ g in cc (q))
 
 pub returns-in-None : goal.returns-in-None
 returns-in-None c =
     let pool = c.args.pool.now in
     let form = sym c.in-None.is ∙ c.form_named.ensures ∙ ap (λ (g : Name). flat_form (form_named g (length c.in-Comp.parts.now))) c.name_of.ensures.name in
-    no_labels pool (placed_of pool c.args.t) (atom_name pool c.in-Comp.name) (place (placed_of pool c.args.t)) c.in-Comp.parts.now c.in-Comp.ensures.placed c.args.count (place (placed_of pool c.args.t)) (λ k g. let q = form ∙ g in cc (q))
+    no_labels pool (placed_of pool c.args.t) (atom_name pool c.in-Comp.name) (place (placed_of pool c.args.t)) c.in-Comp.parts.now c.in-Comp.ensures.placed
+    c.args.count (place (placed_of pool c.args.t)) (λ k g. let q = form ∙ g in cc (q))

@@ -2,7 +2,7 @@ use Rattle.std.proofs.Common.{rules, ◌≡◌, ◌≤◌, length, subst}
 use Rattle.term_pool.specs.declared.Node.{Node}
 use Rattle.term_pool.specs.Contents.{atom_name}
 use Rattle.term_pool.specs.Terms.{term_of, shape_term}
-use Rattle.term_pool.specs.Valid.{shape_of}
+use Rattle.term_pool.specs.PoolInvariant.{shape_of}
 use Rattle.answer_check.proofs.MemberTerms.{many_no_cell}
 use Rattle.answer_check.proofs.members.cell_of.Goals as goal
 

@@ -10,7 +10,8 @@ pub returns-in-None : goal.returns-in-None
 returns-in-None c =
     let pool = c.args.pool.now in
     let cell = cell_members (term_of pool c.loop-head.rest) (term_of pool c.in-Some.head) (term_of pool c.in-Some.tail) c.in-Some.ensures.is in
-    sym (none_onto c.loop-head.members.items (members_in (term_of pool c.in-Some.tail))) ∙ ap (λ o. behind_members c.loop-head.members.items (onto o (members_in (term_of pool c.in-Some.tail)))) (sym (sym c.member_of.ensures ∙ c.in-None.is))
+    sym (none_onto c.loop-head.members.items (members_in (term_of pool c.in-Some.tail)))
+    ∙ ap (λ o. behind_members c.loop-head.members.items (onto o (members_in (term_of pool c.in-Some.tail)))) (sym (sym c.member_of.ensures ∙ c.in-None.is))
     ∙ ap (behind_members c.loop-head.members.items) (sym cell) ∙ c.loop-head.invariant.members
 
 pub loop-head-preserved : goal.loop-head-preserved

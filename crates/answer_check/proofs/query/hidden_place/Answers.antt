@@ -73,7 +73,13 @@ loop-next-preserved c =
     let popped = All-pop P c.loop-next.ahead.items rest (Some t) c.in-Some.ensures.items c.loop-next.invariant.within in
     record {
       within = popped.0;
-      least = sym (least_skip names pool least rest t (flat_here names pool t c.look.result c.look.ensures.placed (λ x e. elim c.in-Int.is [ inl p ↦ (let q = p.1 in cc (e, q)) | inr p ↦ (let q = p.1 in cc (e, q)) ]) (λ f ids e. elim c.in-Int.is [ inl p ↦ (let q = p.1 in cc (e, q)) | inr p ↦ (let q = p.1 in cc (e, q)) ]))) ∙ ap (λ (ts : List TermId). lower least (least_ahead names pool ts)) (sym c.in-Some.ensures.items) ∙ c.loop-next.invariant.least;
+      least = sym (least_skip names pool least rest t
+          (flat_here names pool t c.look.result c.look.ensures.placed (λ x e. elim c.in-Int.is [
+            | inl p ↦ (let q = p.1 in cc (e, q))
+            | inr p ↦ (let q = p.1 in
+                cc (e, q))
+          ]) (λ f ids e. elim c.in-Int.is [ inl p ↦ (let q = p.1 in cc (e, q)) | inr p ↦ (let q = p.1 in cc (e, q)) ])))
+          ∙ ap (λ (ts : List TermId). lower least (least_ahead names pool ts)) (sym c.in-Some.ensures.items) ∙ c.loop-next.invariant.least;
     }
 
 pub loop-next-smaller-in-Continue-branch-2 : goal.loop-next-smaller-in-Continue-branch-2

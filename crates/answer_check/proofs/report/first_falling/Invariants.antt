@@ -1,6 +1,6 @@
 use Rattle.std.proofs.Common.{ℕ, List}
 use Rattle.answer_check.specs.Rows.{Keeps}
-use Rattle.answer_check.proofs.Rising.{Rise}
+use Rattle.answer_check.proofs.AnswerOrder.{Rise}
 use Rattle.answer_check.proofs.report.first_falling.Given as goal
 
 abbrev pub invariant-loop-number : goal.invariant-loop-number

@@ -3,7 +3,7 @@ use Rattle.std.proofs.lemmas.Bool.{ltb-true, lt-ltb}
 use Rattle.answer_check.specs.Judgement.{values_of}
 use Rattle.answer_check.proofs.Lists.{take_whole}
 use Rattle.answer_check.proofs.CheckSteps.{none_true}
-use Rattle.answer_check.proofs.Rising.{precedes_to, precedes_from, none_precedes}
+use Rattle.answer_check.proofs.AnswerOrder.{precedes_to, precedes_from, none_precedes}
 use Rattle.answer_check.proofs.report.precedes.Goals as goal
 
 pub returns-then-first-second : goal.returns-then-first-second

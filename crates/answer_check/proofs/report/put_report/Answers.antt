@@ -28,5 +28,6 @@ returns-in_err-write_all g c = λ f nss i k.
     let a = c.args.answers.now in
     let put = c.in_ok-is_in_order.ensures nss (subst (λ (m : ℕ). Keeps m nss a) (sym k.0) k) in
     let front : WroteFront now new c.deref-2.result.now = record { put = c.in_err-write_all.ensures.err; rose = c.in_err-write_all.ensures.cause; later = c.in_err-write_all.ensures.later } in
-    report_failed f nss old now c.in_ok-text.field-0 (c.in_ok-text.ensures f nss i k) c.args.query.now.goals.order c.deref.result.now i.goals.order (c.deref.ensures.value ∙ i.goals.labelled) c.put_order.new.text.items
+    report_failed f nss old now c.in_ok-text.field-0 (c.in_ok-text.ensures f nss i k) c.args.query.now.goals.order c.deref.result.now i.goals.order
+    (c.deref.ensures.value ∙ i.goals.labelled) c.put_order.new.text.items
     c.in_ok-is_in_order.is_in_order put new c.from_residual-in_err-write_all.result (subst (λ (t : List ℕ). WroteFront now new t) c.deref-2.ensures.value front) e

@@ -14,7 +14,8 @@ returns-then-not-branch c =
     let pool = c.args.pool.now in
     let aim = run pool (task.Spell c.args.right ∷ task.Spell c.args.left ∷ []) [] in
     let none = subst (IsDone pool c.in-Some.task c.loop-task.made c.pop.new.self.items c.take.new.self c.take.new.ahead.items) c.if-not-branch.true c.in_ok-take.ensures in
-    sides_unmade pool c.args.left c.args.right (none_left pool aim c.in-Some.task c.loop-task.made c.pop.new.self.items none (subst (λ (ts : List Task). IsLeft pool aim c.loop-task.made ts) c.in-Some.ensures.items c.loop-task.invariant))
+    sides_unmade pool c.args.left c.args.right (none_left pool aim c.in-Some.task c.loop-task.made c.pop.new.self.items none
+    (subst (λ (ts : List Task). IsLeft pool aim c.loop-task.made ts) c.in-Some.ensures.items c.loop-task.invariant))
 
 pub loop-task-smaller : goal.loop-task-smaller
 loop-task-smaller c =

@@ -3,7 +3,7 @@ use Rattle.fd_language.specs.PlacedTerm.{place}
 use Rattle.term_pool.specs.declared.Node.{Node}
 use Rattle.term_pool.specs.Contents.{atom_name}
 use Rattle.term_pool.specs.PlacedTerms.{placed_of, placed_by}
-use Rattle.term_pool.specs.Valid.{shape_of}
+use Rattle.term_pool.specs.PoolInvariant.{shape_of}
 use Rattle.answer_check.proofs.Shapes.{many_unasked}
 use Rattle.answer_check.proofs.terms.body_of.Goals as goal
 

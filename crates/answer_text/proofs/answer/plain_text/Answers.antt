@@ -1,13 +1,13 @@
 use Rattle.std.proofs.Common.{rules, ◌≡◌, ◌++◌, ◌∙◌, ℕ, List, [], ap, subst}
 use Rattle.std.proofs.lemmas.List.{append-nil}
 use Rattle.fd_language.specs.Variables.{variables_of, distinct}
-use Rattle.fd_language.specs.Writing.{Plain, term_text}
+use Rattle.fd_language.specs.TermTexts.{Plain, term_text}
 use Rattle.term_pool.specs.Terms.{term_of}
 use Rattle.term_writer.specs.declared.VarText.{VarText}
 use Rattle.term_writer.specs.Views.{text_of}
 use Rattle.answer_text.specs.Pieces.{inserted}
 use Rattle.answer_text.specs.Variables.{GiveTexts, open_by, set_by}
-use Rattle.answer_text.proofs.Numbering.{numbers_of}
+use Rattle.answer_text.proofs.VariableNumbers.{numbers_of}
 use Rattle.answer_text.proofs.Texts.{own_texts}
 use Rattle.answer_text.proofs.answer.plain_text.Goals as goal
 

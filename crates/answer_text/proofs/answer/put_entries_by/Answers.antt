@@ -1,8 +1,9 @@
-use Rattle.std.proofs.Common.{rules, ◌≡◌, ◌+◌, ◌<◌, ◌≤◌, ◌++◌, ◌∙◌, ℕ, List, length, map, take, codes, append_assoc, refl, sym, ap, subst, arith, slice_index_or}
+use Rattle.std.proofs.Common.{rules, ◌≡◌, ◌+◌, ◌<◌, ◌≤◌, ◌++◌, ◌∙◌, ℕ, List, length, map, take, codes, append_assoc, refl, sym, ap, subst, arith}
+use Rattle.std.proofs.Common.{slice_index_or}
 use Rattle.std.proofs.lemmas.List.{length-map, take_all}
 use Rattle.fd_language.specs.Term.{Name, Term, as_terms}
 use Rattle.fd_language.specs.Variables.{variables_of, distinct}
-use Rattle.fd_language.specs.Writing.{Quoted, term_text}
+use Rattle.fd_language.specs.TermTexts.{Quoted, term_text}
 use Rattle.fd_model.specs.Lines.{equals_text, joined}
 use Rattle.machine_events.specs.Events.{set_in, terms_in, variable_text}
 use Rattle.term_pool.specs.declared.AtomId.{AtomId}
@@ -11,8 +12,8 @@ use Rattle.term_pool.specs.Contents.{atom_name}
 use Rattle.term_pool.specs.Terms.{term_of}
 use Rattle.answer_text.specs.Pieces.{inserted, separator_at}
 use Rattle.answer_text.specs.Variables.{open_by, set_by}
-use Rattle.answer_text.proofs.Joining.{entry_step, one_more}
-use Rattle.answer_text.proofs.Numbering.{variables_in, numbers_more, numbers_front}
+use Rattle.answer_text.proofs.JoinedTexts.{entry_step, one_more}
+use Rattle.answer_text.proofs.VariableNumbers.{variables_in, numbers_more, numbers_front}
 use Rattle.answer_text.proofs.Texts.{text_by_same}
 use Rattle.answer_text.proofs.answer.put_entries_by.Goals as goal
 

@@ -4,7 +4,7 @@ use Rattle.fd_language.specs.Term.{as_terms}
 use Rattle.fd_model.specs.Lines.{equals_text, joined}
 use Rattle.machine_events.specs.Events.{terms_in, variable_text}
 use Rattle.term_pool.specs.Contents.{atom_name}
-use Rattle.answer_text.proofs.Numbering.{variables_in}
+use Rattle.answer_text.proofs.VariableNumbers.{variables_in}
 use Rattle.answer_text.proofs.answer.put_entries_by.Given as goal
 
 abbrev pub invariant-loop-index : goal.invariant-loop-index

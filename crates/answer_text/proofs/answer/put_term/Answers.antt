@@ -1,6 +1,6 @@
 use Rattle.std.proofs.Common.{◌++◌, ◌∙◌, ℕ, List, ap}
 use Rattle.std.proofs.lemmas.Result.{on_ok_weaker}
-use Rattle.fd_language.specs.Writing.{Quoted, term_text}
+use Rattle.fd_language.specs.TermTexts.{Quoted, term_text}
 use Rattle.term_pool.specs.Terms.{term_of}
 use Rattle.term_writer.specs.declared.VarText.{VarText}
 use Rattle.term_writer.specs.Views.{text_of}

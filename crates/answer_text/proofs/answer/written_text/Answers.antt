@@ -2,12 +2,12 @@ use Rattle.std.proofs.Common.{◌≡◌, ◌∙◌, ℕ, [], ◌∷◌, List, le
 use Rattle.std.proofs.lemmas.Result.{IfOk-weaker}
 use Rattle.fd_language.specs.Term.{Term, no_terms, term}
 use Rattle.fd_language.specs.Variables.{variables_of, distinct}
-use Rattle.fd_language.specs.Writing.{Plain, term_text}
+use Rattle.fd_language.specs.TermTexts.{Plain, term_text}
 use Rattle.machine_events.specs.Events.{set_in, variable_text, first_term}
 use Rattle.term_pool.specs.declared.TermId.{TermId}
 use Rattle.term_pool.specs.Terms.{term_of}
 use Rattle.answer_text.specs.Variables.{HasSets, set_by}
-use Rattle.answer_text.proofs.Numbering.{variables_in, numbers_of, numbers_one}
+use Rattle.answer_text.proofs.VariableNumbers.{variables_in, numbers_of, numbers_one}
 use Rattle.answer_text.proofs.Texts.{text_by_same}
 use Rattle.answer_text.proofs.answer.written_text.Goals as goal
 

@@ -1,6 +1,6 @@
 use Rattle.std.proofs.Common.{◌++◌, ◌∙◌, List, ℕ, ap}
 use Rattle.fd_model.specs.Lines.{domain_text}
-use Rattle.answer_text.proofs.Joining.{domain_spans, put_between}
+use Rattle.answer_text.proofs.JoinedTexts.{domain_spans, put_between}
 use Rattle.answer_text.proofs.domains.put_domain.Goals as goal
 
 pub returns : goal.returns

@@ -8,7 +8,7 @@ use Rattle.term_pool.specs.Contents.{comp, atom_name}
 use Rattle.term_pool.specs.Terms.{term_of, total_size}
 use Rattle.term_pool.proofs.Lemmas.{rest_is_smaller}
 use Rattle.answer_text.specs.Pieces.{inserted}
-use Rattle.answer_text.proofs.Walking.{variables_ahead, walk_takes, walk_opens, walk_falls, each_reversed}
+use Rattle.answer_text.proofs.PendingVariables.{variables_ahead, walk_takes, walk_opens, walk_falls, each_reversed}
 use Rattle.answer_text.proofs.variables.put_variables.Goals as goal
 
 pub loop-next-init : goal.loop-next-init
@@ -35,7 +35,8 @@ loop-next-preserved-in_ok-insert_full-in-Var c =
     let P : TermId → Type 0 = λ t. t.number < length pool.entries in
     record {
       within = (All-pop P c.loop-next.ahead.items rest (Some c.in-Some.next) c.in-Some.ensures.items c.loop-next.invariant.within).0;
-      own = walk_takes pool c.loop-next.own.keys c.insert_full.new.self.keys c.loop-next.ahead.items rest c.in-Some.next (Var c.in-Var.variable) (inserted c.args.own.now.keys (variables_of (term_of pool c.args.t)))
+      own = walk_takes pool c.loop-next.own.keys c.insert_full.new.self.keys c.loop-next.ahead.items rest c.in-Some.next (Var c.in-Var.variable)
+          (inserted c.args.own.now.keys (variables_of (term_of pool c.args.t)))
           c.in-Some.ensures.items c.in-Var.ensures.term c.in_ok-insert_full-in-Var.ensures.keys c.loop-next.invariant.own;
     }
 
@@ -53,7 +54,8 @@ loop-next-preserved-in-Int c =
     let P : TermId → Type 0 = λ t. t.number < length pool.entries in
     record {
       within = (All-pop P c.loop-next.ahead.items rest (Some c.in-Some.next) c.in-Some.ensures.items c.loop-next.invariant.within).0;
-      own = walk_takes pool c.loop-next.own.keys c.loop-next.own.keys c.loop-next.ahead.items rest c.in-Some.next (Int c.in-Int.field-0) (inserted c.args.own.now.keys (variables_of (term_of pool c.args.t)))
+      own = walk_takes pool c.loop-next.own.keys c.loop-next.own.keys c.loop-next.ahead.items rest c.in-Some.next (Int c.in-Int.field-0)
+          (inserted c.args.own.now.keys (variables_of (term_of pool c.args.t)))
           c.in-Some.ensures.items c.in-Int.ensures.term refl c.loop-next.invariant.own;
     }
 
@@ -71,7 +73,8 @@ loop-next-preserved-in-Atom c =
     let P : TermId → Type 0 = λ t. t.number < length pool.entries in
     record {
       within = (All-pop P c.loop-next.ahead.items rest (Some c.in-Some.next) c.in-Some.ensures.items c.loop-next.invariant.within).0;
-      own = walk_takes pool c.loop-next.own.keys c.loop-next.own.keys c.loop-next.ahead.items rest c.in-Some.next (Atom (atom_name pool c.in-Atom.field-0)) (inserted c.args.own.now.keys (variables_of (term_of pool c.args.t)))
+      own = walk_takes pool c.loop-next.own.keys c.loop-next.own.keys c.loop-next.ahead.items rest c.in-Some.next (Atom (atom_name pool c.in-Atom.field-0))
+          (inserted c.args.own.now.keys (variables_of (term_of pool c.args.t)))
           c.in-Some.ensures.items c.in-Atom.ensures.term refl c.loop-next.invariant.own;
     }
 
@@ -95,6 +98,7 @@ loop-next-preserved c =
     let parts = All-weaker (λ t. t.number < c.in-Some.next.number) P (λ t h. omega (arith, popped.1)) ids c.in-Comp.ensures.within.1 in
     record {
       within = subst (All P) (sym c.in_ok-put_ahead-in-Comp.ensures) (All-append P rest (reverse ids) popped.0 (each_reversed P ids parts));
-      own = walk_opens pool c.loop-next.own.keys c.loop-next.ahead.items rest c.put_ahead.new.ahead.items c.in-Some.next (atom_name pool c.in-Comp.field-0) ids (inserted c.args.own.now.keys (variables_of (term_of pool c.args.t)))
+      own = walk_opens pool c.loop-next.own.keys c.loop-next.ahead.items rest c.put_ahead.new.ahead.items c.in-Some.next (atom_name pool c.in-Comp.field-0) ids
+          (inserted c.args.own.now.keys (variables_of (term_of pool c.args.t)))
           c.in-Some.ensures.items c.in-Comp.ensures.term c.in_ok-put_ahead-in-Comp.ensures c.loop-next.invariant.own;
     }

@@ -3,7 +3,7 @@ use Rattle.std.specs.Prelude.{All}
 use Rattle.fd_language.specs.Variables.{variables_of}
 use Rattle.term_pool.specs.Terms.{term_of, total_size}
 use Rattle.answer_text.specs.Pieces.{inserted}
-use Rattle.answer_text.proofs.Walking.{variables_ahead}
+use Rattle.answer_text.proofs.PendingVariables.{variables_ahead}
 use Rattle.answer_text.proofs.variables.put_variables.Given as goal
 
 abbrev pub invariant-loop-next : goal.invariant-loop-next

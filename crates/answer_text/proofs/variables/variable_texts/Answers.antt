@@ -4,7 +4,7 @@ use Rattle.std.proofs.lemmas.List.{take_all, take_more}
 use Rattle.fd_model.specs.Lines.{open_part}
 use Rattle.answer_text.specs.Pieces.{inserted, with_number}
 use Rattle.answer_text.specs.Variables.{AreTexts, open_by, set_by}
-use Rattle.answer_text.proofs.Numbering.{inserted_append}
+use Rattle.answer_text.proofs.VariableNumbers.{inserted_append}
 use Rattle.answer_text.proofs.Texts.{texts_step}
 use Rattle.answer_text.proofs.variables.variable_texts.Goals as goal
 
@@ -31,6 +31,7 @@ loop-variable-preserved c =
       numbers = c.in_ok-index.ensures.keys
           ∙ ap (λ (l : List ℕ). with_number l v) c.loop-variable.invariant.numbers
           ∙ sym (ap (inserted start) (take_more vars i 0 c.loop-variable-test.true) ∙ inserted_append start (take i vars) (v ∷ []));
-      texts = λ more. texts_step set ks c.insert_full.new.self.keys more vars i c.loop-variable.texts.items c.push.new.self.items (record { var = v; text = c.in_ok-text.text }) c.loop-variable-test.true
+      texts = λ more. texts_step set ks c.insert_full.new.self.keys more vars i c.loop-variable.texts.items c.push.new.self.items
+          (record { var = v; text = c.in_ok-text.text }) c.loop-variable-test.true
           c.in_ok-index.ensures.keys c.loop-variable.invariant.texts refl (text ∙ ap (λ (n : ℕ). open_part (n + 1) (set v)) c.in_ok-index.ensures.index) c.in_ok-push.ensures.items;
     }

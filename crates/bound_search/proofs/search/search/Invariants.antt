@@ -1,7 +1,7 @@
 use Rattle.std.proofs.Common.{◌≡◌, false, [], reverse, length}
 use Rattle.bound_search.specs.Members.{members_of}
-use Rattle.bound_search.specs.Searching.{IsSearching, all_levels, progress}
-use Rattle.bound_search.specs.Wants.{wanted}
+use Rattle.bound_search.specs.SearchStates.{IsSearching, all_levels, progress}
+use Rattle.bound_search.specs.Objectives.{wanted}
 use Rattle.bound_search.specs.Work.{work}
 use Rattle.bound_search.proofs.search.search.Given as goal
 

@@ -17,6 +17,7 @@ loop-low-preserved g c =
     listing_more c.args.branch.now c.args.spans.items c.loop-low.spans.items c.pop.new.self.items (c.in-Some.low, c.in-Some.high) c.loop-low.branch c.loop-low.list c.loop-low.invariant last
     c.compound.new.self c.in_ok-interval.interval
     (subst (λ z. IsMade SPAN (cell.Int z ∷ cell.Int c.in-Some.high ∷ []) c.loop-low.branch c.compound.new.self c.in_ok-interval.interval) (to_z-of_z w64 c.in-Some.low fits_low)
-    (subst (λ z. IsMade SPAN (cell.Int (to_z w64 (of_z w64 c.in-Some.low)) ∷ cell.Int z ∷ []) c.loop-low.branch c.compound.new.self c.in_ok-interval.interval) (to_z-of_z w64 c.in-Some.high fits_high) c.in_ok-interval.ensures.made))
+    (subst (λ z. IsMade SPAN (cell.Int (to_z w64 (of_z w64 c.in-Some.low)) ∷ cell.Int z ∷ []) c.loop-low.branch c.compound.new.self c.in_ok-interval.interval)
+    (to_z-of_z w64 c.in-Some.high fits_high) c.in_ok-interval.ensures.made))
     c.in_ok-interval.ensures.heap c.in_ok-interval.ensures.sound
     c.compound-in-Some.new.self c.in_ok-list.list c.in_ok-list.ensures.made c.in_ok-list.ensures.heap c.in_ok-list.ensures.sound

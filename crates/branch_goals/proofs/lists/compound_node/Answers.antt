@@ -1,6 +1,6 @@
 use Rattle.std.proofs.Common.{◌≡◌, length, rules}
 use Rattle.term_pool.specs.declared.TheConstants.{CONS}
-use Rattle.branch_goals.proofs.Listing.{other_count, other_name}
+use Rattle.branch_goals.proofs.ListNodes.{other_count, other_name}
 use Rattle.branch_goals.proofs.lists.compound_node.Goals as goal
 use Rattle.branch_goals.proofs.lists.compound_node.Goals.{else-eq-via-then-eq+else-args-eq2, else-eq-via-else-eq}
 

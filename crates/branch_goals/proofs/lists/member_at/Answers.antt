@@ -2,11 +2,11 @@ use Rattle.std.proofs.Common.{◌≡◌, ◌∙◌, ap, sym, subst, Some, None, 
 use Rattle.std.proofs.lemmas.Int.{to_z-of_z}
 use borrow.Author.Rules.{sfits_of}
 use Rattle.range_code.specs.Frames.{family_of}
-use Rattle.machine_frames.specs.Frames.{link_of}
+use Rattle.branch_lemmas.specs.Frames.{link_of}
 use Rattle.fd_language.specs.SingleValues.{only}
 use Rattle.label_search.specs.declared.Member.TheVariants.{Fixed}
 use Rattle.branch_goals.specs.Lists.{IsMemberOf}
-use Rattle.branch_goals.proofs.Listing.{member_free, member_fixed, member_variable, member_int, member_default}
+use Rattle.branch_goals.proofs.ListNodes.{member_free, member_fixed, member_variable, member_int, member_default}
 use Rattle.branch_goals.proofs.lists.member_at.Goals as goal
 
 pub domain-requires : goal.domain-requires
@@ -34,9 +34,11 @@ returns-in-None g c = λ name.
 
 pub returns-in-Int : goal.returns-in-Int
 returns-in-Int g c = λ name.
-    subst (λ z. IsMemberOf name c.args.heap.now.now (g.V.View.sets c.args.view.now) c.args.at (Some (Fixed z))) (sym (to_z-of_z w64 c.in-Int.z (sfits_of (rw c.in-Int.is at c.deref.type_inv).1.1.1.1.0.1)))
+    subst (λ z. IsMemberOf name c.args.heap.now.now (g.V.View.sets c.args.view.now) c.args.at (Some (Fixed z)))
+    (sym (to_z-of_z w64 c.in-Int.z (sfits_of (rw c.in-Int.is at c.deref.type_inv).1.1.1.1.0.1)))
     (member_int name c.args.heap.now.now c.deref.ensures.valid (g.V.View.sets c.args.view.now) c.args.at c.in-Int.z c.in-Int.ensures.seen)
 
 pub returns-in_default : goal.returns-in_default
 returns-in_default g c = λ name.
-    member_default name c.args.heap.now.now c.deref.ensures.valid (g.V.View.sets c.args.view.now) c.args.at c.deref.result c.deref.ensures.seen c.in_default.not-Open c.in_default.not-Constrained c.in_default.not-Int
+    member_default name c.args.heap.now.now c.deref.ensures.valid (g.V.View.sets c.args.view.now) c.args.at c.deref.result c.deref.ensures.seen
+    c.in_default.not-Open c.in_default.not-Constrained c.in_default.not-Int

@@ -1,7 +1,7 @@
 use Rattle.std.proofs.Common.{ap, subst}
-use Rattle.machine_frames.specs.Frames.{link_of}
+use Rattle.branch_lemmas.specs.Frames.{link_of}
 use Rattle.branch_goals.specs.Lists.{IsVariableNode}
-use Rattle.branch_goals.proofs.Listing.{node_free, node_variable, node_int, node_atom, node_compound}
+use Rattle.branch_goals.proofs.ListNodes.{node_free, node_variable, node_int, node_atom, node_compound}
 use Rattle.branch_goals.proofs.lists.node_at.Goals as goal
 
 pub domain-requires : goal.domain-requires
@@ -29,4 +29,5 @@ returns-in-Atom g c = λ name names.
 pub returns-in-Struct : goal.returns-in-Struct
 returns-in-Struct g c = λ name names.
     let s = c.in-Struct.ensures.seen in
-    node_compound name c.args.heap.now.now c.deref.ensures.valid (g.V.View.sets c.args.view.now) c.args.at names c.in-Struct.f c.in-Struct.args.now s.0 c.compound_node.result s.2 s.3 c.compound_node.ensures
+    node_compound name c.args.heap.now.now c.deref.ensures.valid (g.V.View.sets c.args.view.now) c.args.at names c.in-Struct.f c.in-Struct.args.now s.0
+    c.compound_node.result s.2 s.3 c.compound_node.ensures

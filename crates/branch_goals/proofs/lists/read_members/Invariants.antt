@@ -3,7 +3,7 @@ use Rattle.term_pool.specs.Terms.{size}
 use Rattle.heap_cells.specs.SeenTerms.{seen_term}
 use Rattle.range_code.specs.Frames.{family_of}
 use Rattle.branch_goals.specs.Lists.{IsListNaming}
-use Rattle.branch_goals.proofs.Listing.{IsWalked, list_naming}
+use Rattle.branch_goals.proofs.ListNodes.{IsWalked, list_naming}
 use Rattle.branch_goals.proofs.lists.read_members.Given as goal
 
 abbrev pub invariant-walking : goal.invariant-walking

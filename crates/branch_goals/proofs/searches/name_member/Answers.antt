@@ -1,6 +1,6 @@
 use Rattle.std.proofs.Common.{subst}
 use Rattle.branch_goals.specs.Searches.{Numbers}
-use Rattle.branch_goals.proofs.Seeking.{step_none, step_some}
+use Rattle.branch_goals.proofs.BestLeafSearch.{step_none, step_some}
 use Rattle.branch_goals.proofs.searches.name_member.Goals as goal
 
 pub returns-in_ok-push-in-None : goal.returns-in_ok-push-in-None

@@ -4,7 +4,7 @@ use Rattle.heap_cells.specs.Cells.{IsOf}
 use Rattle.label_search.specs.declared.Member.TheVariants.{Fixed}
 use Rattle.branch_goals.specs.Lists.{IsMemberAt}
 use Rattle.branch_goals.specs.Searches.{AreNamed}
-use Rattle.branch_goals.proofs.Seeking.{cells_long, member_there, members_long}
+use Rattle.branch_goals.proofs.BestLeafSearch.{cells_long, member_there, members_long}
 use Rattle.branch_goals.proofs.searches.name_members.Goals as goal
 
 pub index-requires : goal.index-requires

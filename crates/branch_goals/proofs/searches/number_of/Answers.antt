@@ -1,4 +1,4 @@
-use Rattle.branch_goals.proofs.Naming.{looked_here, looked_more}
+use Rattle.branch_goals.proofs.SearchMembers.{looked_here, looked_more}
 use Rattle.branch_goals.proofs.searches.number_of.Goals as goal
 
 pub returns-then-own-variable : goal.returns-then-own-variable

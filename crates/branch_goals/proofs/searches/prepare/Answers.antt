@@ -3,8 +3,8 @@ use Rattle.heap_cells.specs.SeenTerms.{seen_term}
 use Rattle.range_code.specs.Frames.{family_of}
 use Rattle.branch_goals.specs.Lists.{IsListRead}
 use Rattle.branch_goals.specs.Searches.{search_fault}
-use Rattle.branch_goals.proofs.Listing.{is_list_naming, list_naming}
-use Rattle.branch_goals.proofs.Seeking.{prepared_by}
+use Rattle.branch_goals.proofs.ListNodes.{is_list_naming, list_naming}
+use Rattle.branch_goals.proofs.BestLeafSearch.{prepared_by}
 use Rattle.branch_goals.proofs.searches.prepare.Goals as goal
 
 pub returns-in-Err : goal.returns-in-Err

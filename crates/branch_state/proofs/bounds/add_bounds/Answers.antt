@@ -3,9 +3,9 @@ use Rattle.fd_language.specs.Range.{Range}
 use Rattle.range_code.specs.declared.frame.Arg.TheVariants as arg
 use Rattle.propagate_queue.specs.Instances.{posting}
 use Rattle.propagate_queue.specs.Postings.{Posting}
-use Rattle.branch_state.specs.Bounding.{bound_posting, bound_postings}
+use Rattle.branch_state.specs.VariableBounds.{bound_posting, bound_postings}
 use Rattle.branch_state.specs.Codes.{bound_range}
-use Rattle.branch_state.proofs.Bounding.{postings_more}
+use Rattle.branch_state.proofs.VariableBounds.{postings_more}
 use Rattle.branch_state.proofs.bounds.add_bounds.Goals as goal
 
 abbrev posts_one : Range → ℕ → ℤ → Posting
@@ -18,7 +18,8 @@ pub returns : goal.returns
 returns c =
     let a = c.loop-k.invariant.to in
     let b = c.loop-k-test.false in
-    c.loop-k.invariant.listed ∙ ap (λ n. map posting c.args.list.now.items ++ bound_postings c.args.made.infinity c.args.made.first n) (let e : c.loop-k.k - c.args.made.first ≡ c.args.vars - c.args.made.first = omega (arith, a, b) in e)
+    c.loop-k.invariant.listed ∙ ap (λ n. map posting c.args.list.now.items ++ bound_postings c.args.made.infinity c.args.made.first n)
+    (let e : c.loop-k.k - c.args.made.first ≡ c.args.vars - c.args.made.first = omega (arith, a, b) in e)
 
 pub loop-k-preserved : goal.loop-k-preserved
 loop-k-preserved c =
@@ -31,6 +32,7 @@ loop-k-preserved c =
     let fits : to_z w64 (of_z w64 c.from.result) ≡ pos N = search rules in
     record {
       to = omega (arith, below);
-      listed = postings_more c.args.list.now.items c.loop-k.list.items c.push.new.self.items N start (c.loop-k.k - start) (c.loop-k.k + 1 - start) more c.loop-k.invariant.listed c.in_ok-instance.field-0
+      listed = postings_more c.args.list.now.items c.loop-k.list.items c.push.new.self.items N start (c.loop-k.k - start) (c.loop-k.k + 1 - start) more
+          c.loop-k.invariant.listed c.in_ok-instance.field-0
           (c.in_ok-instance.ensures ∙ same_one _ c.loop-k.k (start + (c.loop-k.k - start)) _ N c.requires.bound there fits) c.in_ok-push.ensures.items;
     }

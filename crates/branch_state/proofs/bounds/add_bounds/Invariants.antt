@@ -1,6 +1,6 @@
 use Rattle.std.proofs.Common.{◌≡◌, ◌-◌, ◌≤◌, ◌++◌, map}
 use Rattle.propagate_queue.specs.Instances.{posting}
-use Rattle.branch_state.specs.Bounding.{bound_postings}
+use Rattle.branch_state.specs.VariableBounds.{bound_postings}
 use Rattle.branch_state.proofs.bounds.add_bounds.Given as goal
 
 abbrev pub invariant-loop-k : goal.invariant-loop-k

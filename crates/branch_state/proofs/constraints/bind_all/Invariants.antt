@@ -1,6 +1,6 @@
 use Rattle.std.proofs.Common.{◌≡◌, take}
 use Rattle.heap_cells.specs.Cells.{with_now}
-use Rattle.heap_cells.specs.Valid.{IsHeap}
+use Rattle.heap_cells.specs.HeapInvariant.{IsHeap}
 use Rattle.branch_state.specs.Constraints.{with_integers}
 use Rattle.branch_state.proofs.constraints.bind_all.Given as goal
 

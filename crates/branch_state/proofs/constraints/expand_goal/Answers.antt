@@ -6,7 +6,8 @@ pub expand-requires-clause-ends : goal.expand-requires-clause-ends
 expand-requires-clause-ends g c =
     let a = c.if-fresh-ge-LIMIT.false in
     let b = c.if-goal-ge-LIMIT.false in
-    row_ends c.read_back.new.pool c.arguments.ensures.valid c.args.kind c.arguments.result.now c.args.fresh c.in_ok-goal.goal.number (omega (arith, a)) (omega (arith, b)) c.arguments.ensures.own c.arguments.ensures.earlier
+    row_ends c.read_back.new.pool c.arguments.ensures.valid c.args.kind c.arguments.result.now c.args.fresh c.in_ok-goal.goal.number (omega (arith, a))
+    (omega (arith, b)) c.arguments.ensures.own c.arguments.ensures.earlier
 
 pub returns-clause-words : goal.returns-clause-words
 returns-clause-words g c = answer_words c.read_back.new.pool c.arguments.ensures.valid c.arguments.result.now c.arguments.ensures.own c.args.kind c.args.fresh c.expand.result c.expand.ensures

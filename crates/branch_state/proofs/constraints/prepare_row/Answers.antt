@@ -2,8 +2,8 @@ use Rattle.std.proofs.Common.{◌≡◌, ◌∙◌, ◌-◌, ap, sym, subst, len
 use Rattle.fd_language.specs.Term.{Var}
 use Rattle.heap_cells.specs.Cells.{Cells, Heaps}
 use Rattle.branch_state.specs.Constraints.{variables_in, firsts, with_variables, AreLinked, AreOpen}
-use Rattle.branch_state.specs.Naming.{IsNaming}
-use Rattle.branch_state.proofs.ConstrainingPosts.{all_unbound, wider_links, equated_linked, equated_open}
+use Rattle.branch_state.specs.StoreVariables.{IsNaming}
+use Rattle.branch_state.proofs.LinkedRows.{all_unbound, wider_links, equated_linked, equated_open}
 use Rattle.branch_state.proofs.constraints.prepare_row.Goals as goal
 
 pub list_ranges-requires-clause-unbound : goal.list_ranges-requires-clause-unbound
@@ -46,4 +46,6 @@ bind_all-requires-clause-unbound g c =
     let S = c.list_ranges.new.store.current.sets in
     let w : IsNaming Var (with_variables (y.fresh - length h.slots) h) sets (variables_in y.ranges) middle S [] [] =
     subst (λ (x : Cells). IsNaming Var x sets (variables_in y.ranges) middle S [] []) grown c.in_ok-list.ensures.linked in
-    subst (λ n. AreOpen n c.equated-2.result.now middle) (sym c.requires.fresh) (subst (λ l. AreOpen (length h.slots) l middle) (sym (c.equated-2.ensures ∙ c.list_ranges.ensures.equated)) (equated_open h sets c.requires.links y c.requires.row middle S w))
+    subst (λ n. AreOpen n c.equated-2.result.now middle) (sym c.requires.fresh)
+    (subst (λ l. AreOpen (length h.slots) l middle) (sym (c.equated-2.ensures ∙ c.list_ranges.ensures.equated))
+    (equated_open h sets c.requires.links y c.requires.row middle S w))

@@ -1,5 +1,5 @@
 use Rattle.std.proofs.Common.{◌≡◌, ◌≤◌}
-use Rattle.branch_state.specs.Naming.{with_level_sets}
+use Rattle.branch_state.specs.StoreVariables.{with_level_sets}
 use Rattle.branch_state.specs.OpenSets.{with_open_sets}
 use Rattle.branch_state.proofs.open_vars.add_open.Given as goal
 

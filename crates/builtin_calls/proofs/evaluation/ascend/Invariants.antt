@@ -8,7 +8,11 @@ use Rattle.builtin_calls.specs.Evaluations.{IsOfHeap, Leads, load, unnamed}
 use Rattle.builtin_calls.proofs.evaluation.ascend.Given as goal
 
 abbrev pub invariant-loop-waits : goal.invariant-loop-waits
-invariant-loop-waits l = record { leads : ((names : List Name) (G : Family) → Leads names l.heap.now G l.fn.waiting (Leave l.fn.value) l.waiting (Leave l.current)); held : All (IsOfHeap l.heap.now) l.waiting }
+invariant-loop-waits l = record {
+  leads : ((names : List Name) (G : Family)
+      → Leads names l.heap.now G l.fn.waiting (Leave l.fn.value) l.waiting (Leave l.current));
+  held : All (IsOfHeap l.heap.now) l.waiting;
+}
 
 abbrev pub decreases-loop-waits : goal.decreases-loop-waits
 decreases-loop-waits l = load (seen_term unnamed l.heap.now (λ k. [])) l.waiting (Leave l.current)

@@ -3,8 +3,8 @@ use Rattle.domain_ranges.specs.Views.{family_of}
 use Rattle.heap_cells.specs.declared.Seen.TheVariants as seen
 use Rattle.builtin_calls.specs.declared.evaluation.Step.TheVariants.{Enter}
 use Rattle.builtin_calls.specs.Evaluations.{GoesOn}
-use Rattle.builtin_calls.proofs.Showing.{shown_else, simple_seen, held_seen}
-use Rattle.builtin_calls.proofs.Evaluating.{entered, enter_fails, descended, descent_fails, leads_further, held_own, held_name}
+use Rattle.builtin_calls.proofs.CellTops.{shown_else, simple_seen, held_seen}
+use Rattle.builtin_calls.proofs.Evaluations.{entered, enter_fails, descended, descent_fails, leads_further, held_own, held_name}
 use Rattle.builtin_calls.proofs.evaluation.descend.Given as given
 use Rattle.builtin_calls.proofs.evaluation.descend.Goals as goal
 
@@ -17,10 +17,12 @@ value_of_simple-requires g c =
     }
 
 pub returns-in_default : goal.returns-in_default
-returns-in_default g c = descended c.args.pool.now.names c.args.heap.now.now (family_of (g.V.View.sets c.args.view.now)) c.args.waiting.now c.down.waiting c.args.c c.down.at c.value_of_simple.result c.down.invariant.leads c.value_of_simple.ensures.tells
+returns-in_default g c = descended c.args.pool.now.names c.args.heap.now.now (family_of (g.V.View.sets c.args.view.now)) c.args.waiting.now c.down.waiting
+    c.args.c c.down.at c.value_of_simple.result c.down.invariant.leads c.value_of_simple.ensures.tells
 
 -- one compound term further
-further : (g : given.Over) (c : goal.In_ok-at g) → GoesOn c.args.pool.now.names c.args.heap.now.now (family_of (g.V.View.sets c.args.view.now)) c.down.waiting (Enter c.down.at) c.enter_compound.new.waiting (Enter c.in_ok-at.at)
+further : (g : given.Over) (c : goal.In_ok-at g) → GoesOn c.args.pool.now.names c.args.heap.now.now (family_of (g.V.View.sets c.args.view.now)) c.down.waiting
+    (Enter c.down.at) c.enter_compound.new.waiting (Enter c.in_ok-at.at)
 further g c =
     let h = c.args.heap.now.now in
     let G = family_of (g.V.View.sets c.args.view.now) in
@@ -49,6 +51,7 @@ down-smaller g c = (further g c).falls
 
 pub down-preserved : goal.down-preserved
 down-preserved g c = record {
-  leads = leads_further c.args.pool.now.names c.args.heap.now.now (family_of (g.V.View.sets c.args.view.now)) c.args.waiting.now c.down.waiting c.enter_compound.new.waiting (Enter c.args.c) (Enter c.down.at) (Enter c.in_ok-at.at) c.down.invariant.leads (further g c);
+  leads = leads_further c.args.pool.now.names c.args.heap.now.now (family_of (g.V.View.sets c.args.view.now)) c.args.waiting.now c.down.waiting
+      c.enter_compound.new.waiting (Enter c.args.c) (Enter c.down.at) (Enter c.in_ok-at.at) c.down.invariant.leads (further g c);
   latest = c.enter_compound.ensures.latest;
 }

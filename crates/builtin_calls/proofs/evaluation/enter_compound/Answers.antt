@@ -2,7 +2,7 @@ use Rattle.std.proofs.Common.{◌++◌, [], ◌∷◌, FitsSigned, refl, ap, sym
 use Rattle.heap_cells.specs.declared.Cell.TheVariants as cell
 use Rattle.builtin_calls.specs.declared.operations.OpenOperation.TheVariants.{Right}
 use Rattle.builtin_calls.proofs.Remainders.{read_back}
-use Rattle.builtin_calls.proofs.Evaluating.{two_of}
+use Rattle.builtin_calls.proofs.Evaluations.{two_of}
 use Rattle.builtin_calls.proofs.evaluation.enter_compound.Goals as goal
 
 pub returns-in-Some-constant-clause-entered : goal.returns-in-Some-constant-clause-entered

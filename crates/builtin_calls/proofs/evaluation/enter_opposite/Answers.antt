@@ -1,5 +1,5 @@
 use Rattle.std.proofs.Common.{not, ap, sym, ◌∙◌, arith}
-use Rattle.builtin_calls.proofs.Evaluating.{no_opposite, too_many}
+use Rattle.builtin_calls.proofs.Evaluations.{no_opposite, too_many}
 use Rattle.builtin_calls.proofs.evaluation.enter_opposite.Goals as goal
 
 pub returns-then-not-is_minus : goal.returns-then-not-is_minus

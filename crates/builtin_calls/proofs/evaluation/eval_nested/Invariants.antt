@@ -2,7 +2,7 @@ use Rattle.domain_ranges.specs.Views.{family_of}
 use Rattle.builtin_calls.specs.declared.evaluation.Step.TheVariants.{Enter}
 use Rattle.heap_cells.specs.SeenTerms.{seen_term}
 use Rattle.builtin_calls.specs.Evaluations.{load, unnamed}
-use Rattle.builtin_calls.proofs.Evaluating.{IsUnderWay}
+use Rattle.builtin_calls.proofs.Evaluations.{IsUnderWay}
 use Rattle.builtin_calls.proofs.evaluation.eval_nested.Given as goal
 
 abbrev pub invariant-steps : goal.invariant-steps

@@ -15,7 +15,8 @@ returns-then-rest-right c =
     let fits : FitsSigned w64 c.wrapping_rem-rest.result = search rules in
     let is = rest_is c.args.left c.args.right c.wrapping_rem-rest.result c.ranges.left c.ranges.right c.wrapping_rem-rest.ensures in
     let d = signs c.wrapping_rem-rest.result c.args.right fits c.ranges.right ∙ c.if-rest-right.true in
-    ap (λ x. to_z w64 (of_z w64 (x +ℤ to_z w64 (of_z w64 c.args.right)))) (read_back c.wrapping_rem-rest.result fits) ∙ ap (λ x. to_z w64 (of_z w64 (c.wrapping_rem-rest.result +ℤ x))) (read_back c.args.right c.ranges.right)
+    ap (λ x. to_z w64 (of_z w64 (x +ℤ to_z w64 (of_z w64 c.args.right)))) (read_back c.wrapping_rem-rest.result fits)
+    ∙ ap (λ x. to_z w64 (of_z w64 (c.wrapping_rem-rest.result +ℤ x))) (read_back c.args.right c.ranges.right)
     ∙ read_back (c.wrapping_rem-rest.result +ℤ c.args.right) (sum_fits c.wrapping_rem-rest.result c.args.right fits c.ranges.right d) ∙ ap (λ x. x +ℤ c.args.right) is
     ∙ modulo_moves c.args.left c.args.right c.requires (λ z. c.if-rest-ne0.true (ap (of_z w64) (is ∙ z))) (ap (λ x. differ x c.args.right) (sym is) ∙ d)
 

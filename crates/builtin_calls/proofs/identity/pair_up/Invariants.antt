@@ -1,7 +1,7 @@
 use Rattle.std.proofs.Common.{◌++◌, drop}
 use Rattle.std.specs.Prelude.{reverse, option_to_list}
 use Rattle.fd_language.specs.Family.{Family}
-use Rattle.builtin_calls.specs.Identical.{paired, IsSettled}
+use Rattle.builtin_calls.specs.Identity.{paired, IsSettled}
 use Rattle.builtin_calls.proofs.identity.pair_up.Given as goal
 
 abbrev pub invariant-loop-i : goal.invariant-loop-i

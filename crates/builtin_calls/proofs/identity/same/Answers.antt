@@ -2,12 +2,13 @@ use Rattle.std.proofs.Common.{◌≡◌, ◌++◌, [], ◌∷◌, ap, sym, ◌�
 use Rattle.domain_ranges.specs.Views.{family_of}
 use Rattle.builtin_calls.specs.declared.identity.Pair.{Pair}
 use Rattle.heap_cells.specs.SeenTerms.{seen_term}
-use Rattle.builtin_calls.proofs.Comparing.{same_seen, comparing_roots}
+use Rattle.builtin_calls.proofs.TermPairs.{same_seen, comparing_roots}
 use Rattle.builtin_calls.proofs.identity.same.Goals as goal
 
 pub pairs-init : goal.pairs-init
 pairs-init g c =
-    comparing_roots c.args.heap.now.now (family_of (g.V.View.sets c.args.view.now)) c.args.a c.args.b c.root-left.result c.root-right.result _ c.root-left.ensures.same c.root-right.ensures.same c.root-left.ensures.own c.root-right.ensures.own
+    comparing_roots c.args.heap.now.now (family_of (g.V.View.sets c.args.view.now)) c.args.a c.args.b c.root-left.result c.root-right.result _
+    c.root-left.ensures.same c.root-right.ensures.same c.root-left.ensures.own c.root-right.ensures.own
     (ap (λ (ps : List Pair). ps ++ record { left = c.root-left.result; right = c.root-right.result } ∷ []) c.new-work.ensures.items)
 
 pub returns-then-eq : goal.returns-then-eq

@@ -1,9 +1,9 @@
 use Rattle.std.proofs.Common.{◌++◌, [], ◌∷◌}
 use Rattle.domain_ranges.specs.Views.{family_of}
-use Rattle.builtin_calls.specs.Identical.{weight}
+use Rattle.builtin_calls.specs.Identity.{weight}
 use Rattle.heap_cells.specs.SeenTerms.{seen_term}
 use Rattle.builtin_calls.specs.Evaluations.{unnamed}
-use Rattle.builtin_calls.proofs.Comparing.{IsComparing}
+use Rattle.builtin_calls.proofs.TermPairs.{IsComparing}
 use Rattle.builtin_calls.proofs.identity.same.Given as goal
 
 abbrev pub invariant-pairs : goal.invariant-pairs

@@ -1,8 +1,8 @@
 use Rattle.std.proofs.Common.{subst, [], ◌∷◌, ◌++◌, Option, append-nil}
 use Rattle.std.specs.Prelude.{reverse, option_to_list}
 use Rattle.domain_ranges.specs.Views.{family_of}
-use Rattle.builtin_calls.specs.Identical.{paired, IsSettled}
-use Rattle.builtin_calls.proofs.Comparing.{atom_same, atom_other, parts_settled, parts_apart, flat_alike, held_parts}
+use Rattle.builtin_calls.specs.Identity.{paired, IsSettled}
+use Rattle.builtin_calls.proofs.TermPairs.{atom_same, atom_other, parts_settled, parts_apart, flat_alike, held_parts}
 use Rattle.builtin_calls.specs.declared.identity.Pair.{Pair}
 use Rattle.builtin_calls.proofs.identity.step.Goals as goal
 use Rattle.builtin_calls.proofs.identity.step.Goals.{then-ne-via-then-ne, then-ne-via-else-ne+then-some-others}
@@ -30,7 +30,8 @@ returns-in-Some g c =
     (held_parts h c.in-Struct.ensures.valid c.in-Struct.f c.in-Struct.some c.in-Struct.ensures.held)
     (held_parts h c.in-Struct-look.ensures.valid c.in-Struct-look.g c.in-Struct-look.others c.in-Struct-look.ensures.held)
     c.if-some-others.false
-    (subst (λ (o : Option Pair). IsSettled h G (c.args.work.now.items ++ reverse (paired c.in-Struct.some.now c.in-Struct-look.others.now)) (c.pair_up.new.work.items ++ option_to_list o)) c.in-Some.is (c.in_ok-next-in-Struct-look.ensures G))
+    (subst (λ (o : Option Pair). IsSettled h G (c.args.work.now.items ++ reverse (paired c.in-Struct.some.now c.in-Struct-look.others.now))
+    (c.pair_up.new.work.items ++ option_to_list o)) c.in-Some.is (c.in_ok-next-in-Struct-look.ensures G))
 
 pub returns-in-None : goal.returns-in-None
 returns-in-None g c =
@@ -44,7 +45,8 @@ returns-in-None g c =
     (held_parts h c.in-Struct-look.ensures.valid c.in-Struct-look.g c.in-Struct-look.others c.in-Struct-look.ensures.held)
     c.if-some-others.false
     (subst (IsSettled h G (c.args.work.now.items ++ reverse (paired c.in-Struct.some.now c.in-Struct-look.others.now))) (append-nil c.pair_up.new.work.items)
-    (subst (λ (o : Option Pair). IsSettled h G (c.args.work.now.items ++ reverse (paired c.in-Struct.some.now c.in-Struct-look.others.now)) (c.pair_up.new.work.items ++ option_to_list o)) c.in-None.is (c.in_ok-next-in-Struct-look.ensures G)))
+    (subst (λ (o : Option Pair). IsSettled h G (c.args.work.now.items ++ reverse (paired c.in-Struct.some.now c.in-Struct-look.others.now))
+    (c.pair_up.new.work.items ++ option_to_list o)) c.in-None.is (c.in_ok-next-in-Struct-look.ensures G)))
 
 pub returns-then-is_same_flat : goal.returns-then-is_same_flat
 returns-then-is_same_flat g c =

@@ -6,7 +6,8 @@ pub loop-done-preserved : goal.loop-done-preserved
 loop-done-preserved g c =
     record {
       in_range = search rules;
-      put = put_rest (g.K.Sink.written c.args.sink.now) (g.K.Sink.written c.loop-done.sink) (g.K.Sink.written c.write.new.self) c.loop-done.done c.in-Ok.n c.args.piece.now c.loop-done.invariant.put c.in-Ok.ensures.bytes;
+      put = put_rest (g.K.Sink.written c.args.sink.now) (g.K.Sink.written c.loop-done.sink) (g.K.Sink.written c.write.new.self) c.loop-done.done c.in-Ok.n
+          c.args.piece.now c.loop-done.invariant.put c.in-Ok.ensures.bytes;
       kept = search rules;
       untouched = search rules;
     }

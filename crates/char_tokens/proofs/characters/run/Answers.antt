@@ -21,6 +21,11 @@ loop-c-preserved c =
 pub returns-clause-size : goal.returns-clause-size
 returns-clause-size c =
     elim c.match-first_char.branch [
-      | in-Some+then-not-passes w ↦ omega (arith, c.loop-c.invariant.so_far, run_ends (passes c.args.class) c.loop-c.rest.now w.in-Some.behind.now w.in-Some.c c.loop-c.invariant.utf8 w.in-Some.ensures.split.1 (sym w.passes.ensures ∙ w.if-not-passes.true))
+      | in-Some+then-not-passes w ↦ omega (
+        arith,
+        c.loop-c.invariant.so_far,
+        run_ends (passes c.args.class) c.loop-c.rest.now w.in-Some.behind.now w.in-Some.c c.loop-c.invariant.utf8 w.in-Some.ensures.split.1
+            (sym w.passes.ensures ∙ w.if-not-passes.true),
+      )
       | in_default w ↦ omega (arith, c.loop-c.invariant.so_far, run_none (passes c.args.class) c.loop-c.rest.now w.in_default.ensures.split)
     ]

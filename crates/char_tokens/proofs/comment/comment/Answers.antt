@@ -18,7 +18,8 @@ pub loop-c-init : goal.loop-c-init
 loop-c-init c =
     let first = starts_ascii 42 c.args.behind.now (omega arith) c.utf8.behind c.requires.star in
     let rest : c.range_from-rest.result.now ≡ drop 1 c.args.behind.now = c.range_from-rest.ensures.value in
-    let at : IsAt c.args.text.now 2 (drop 1 c.args.behind.now) = at_ascii c.args.text.now c.args.behind.now 1 42 (omega arith) (at_first c.args.text.now c.args.behind.now 47 c.requires.slash c.utf8.behind) first in
+    let at : IsAt c.args.text.now 2 (drop 1 c.args.behind.now) = at_ascii c.args.text.now c.args.behind.now 1 42 (omega arith)
+    (at_first c.args.text.now c.args.behind.now 47 c.requires.slash c.utf8.behind) first in
     record {
       utf8 = subst IsUtf8 (sym rest) first.utf8;
       at = subst (λ (l : List ℕ). IsAt c.args.text.now 2 l) (sym rest) at;

@@ -42,4 +42,6 @@ returns-then-is_character_code-clause-front c =
     sym (decimal_code c.args.c later h k)
 
 pub returns-clause-behind : goal.returns-clause-behind
-returns-clause-behind c = behind_number c.args.text.now c.digits-size.result.2.now c.number.result (digits_value 10 0 (chars c.args.text.now)) c.digits-size.result.0 (c.number.ensures (digits_value 10 0 (chars c.args.text.now)) c.digits-size.ensures.value) c.digits-size.ensures.within c.digits-size.ensures.rest
+returns-clause-behind c = behind_number c.args.text.now c.digits-size.result.2.now c.number.result (digits_value 10 0 (chars c.args.text.now))
+    c.digits-size.result.0 (c.number.ensures (digits_value 10 0 (chars c.args.text.now)) c.digits-size.ensures.value) c.digits-size.ensures.within
+    c.digits-size.ensures.rest

@@ -13,7 +13,8 @@ use Rattle.char_tokens.proofs.number.digits.Goals.{in-Some+in_default-to_digit, 
 no_digit : (c : goal.After-rest-1) → NoDigit c.args.base (chars c.loop-c.rest.now)
 no_digit c =
     elim c.match-first_char.branch [
-      | in-Some+in_default-to_digit w ↦ no_digit_other c.args.base c.loop-c.rest.now w.in-Some.behind.now w.in-Some.c c.loop-c.invariant.utf8 w.in-Some.ensures.split.1 (omega (arith, w.in_default-to_digit.ensures.value))
+      | in-Some+in_default-to_digit w ↦ no_digit_other c.args.base c.loop-c.rest.now w.in-Some.behind.now w.in-Some.c c.loop-c.invariant.utf8
+          w.in-Some.ensures.split.1 (omega (arith, w.in_default-to_digit.ensures.value))
       | in_default w ↦ no_digit_none c.args.base c.loop-c.rest.now w.in_default.ensures.split
     ]
 
@@ -34,7 +35,8 @@ loop-c-preserved c =
       at = subst (λ (m : ℕ). IsAt c.args.text.now (c.loop-c.size + m) c.in-Some.behind.now) (sym n) next;
       size = omega (arith, i.size, run_here (is_digit_of base) c.loop-c.rest.now c.in-Some.behind.now c.in-Some.c i.utf8 split h, n);
       past = sym (past_here (is_digit_of base) c.loop-c.rest.now c.in-Some.behind.now c.in-Some.c i.utf8 split h) ∙ i.past;
-      value = subst (λ (o : Option ℕ). SoFar base o (chars c.in-Some.behind.now) (chars c.args.text.now)) (sym (c.next_integer-value.ensures ∙ ap (λ (d : ℕ). next_integer base c.loop-c.value d) digit)) after;
+      value = subst (λ (o : Option ℕ). SoFar base o (chars c.in-Some.behind.now) (chars c.args.text.now))
+          (sym (c.next_integer-value.ensures ∙ ap (λ (d : ℕ). next_integer base c.loop-c.value d) digit)) after;
     }
 
 pub returns-clause-size : goal.returns-clause-size

@@ -6,7 +6,7 @@ use Rattle.fd_language.proofs.Lemmas.{gap_grows}
 use Rattle.char_tokens.specs.declared.front.Front.{Front}
 use Rattle.char_tokens.specs.declared.front.Front.TheVariants as fronts
 use Rattle.char_tokens.specs.Views.{front_is, IsBehind}
-use Rattle.char_tokens.specs.Scanning.{no_gap}
+use Rattle.char_tokens.specs.NextTokens.{no_gap}
 use Rattle.char_tokens.proofs.NextTokens.{gaps_tokens, gaps_more}
 use Rattle.char_tokens.proofs.scanner.first_token.Goals as goal
 

@@ -1,7 +1,7 @@
 use Rattle.std.proofs.Common.{◌≡◌, ◌+◌, length, true}
 use denote.Text.{Utf8}
 use denote.Shadow.{shadow}
-use Rattle.char_tokens.specs.Scanning.{AreGaps}
+use Rattle.char_tokens.specs.NextTokens.{AreGaps}
 use Rattle.char_tokens.proofs.scanner.first_token.Given as goal
 
 abbrev pub invariant-loop-cause : goal.invariant-loop-cause

@@ -3,7 +3,7 @@ use Rattle.std.proofs.lemmas.Result.{err_from_is_err_and}
 use Rattle.fd_language.specs.Tokens.{HasTokens}
 use Rattle.fd_language.proofs.Lemmas.{tokens_are_slices, one_list, not_both}
 use Rattle.char_tokens.specs.Views.{lexemes, lexeme_of}
-use Rattle.char_tokens.specs.Scanning.{HasRead}
+use Rattle.char_tokens.specs.NextTokens.{HasRead}
 use Rattle.char_tokens.proofs.NextTokens.{completes_more, lexemes-push, next_shorter, completed_fault, only_fault, no_list}
 use Rattle.char_tokens.proofs.scanner.tokens.Goals as goal
 

@@ -8,4 +8,5 @@ returns-in-Some-clause-kept c = λ N ranges.
     let pool = c.args.pool.now in
     let g = c.first_part-labelling.result in
     let o = c.in-Some.order in
-    keeps_best N pool ranges (placed_of pool c.args.t) o c.args.least g c.first_part-list.result c.second_part.result c.first_part-labelling.ensures c.first_part-list.ensures c.second_part.ensures (ordered _ o c.in-Some.ensures)
+    keeps_best N pool ranges (placed_of pool c.args.t) o c.args.least g c.first_part-list.result c.second_part.result c.first_part-labelling.ensures
+    c.first_part-list.ensures c.second_part.ensures (ordered _ o c.in-Some.ensures)

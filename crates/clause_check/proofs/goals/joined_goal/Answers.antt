@@ -4,7 +4,7 @@ use Rattle.clause_check.specs.declared.program.FlatGoal.{FlatGoal}
 use Rattle.clause_check.specs.declared.program.FlatGoal.TheVariants as flat
 use Rattle.clause_check.specs.declared.terms.Joint.{Joint}
 use Rattle.clause_check.specs.GoalStores.{flat_part, joined_by}
-use Rattle.clause_check.proofs.Joining.{several_ways}
+use Rattle.clause_check.proofs.JoinedGoals.{several_ways}
 use Rattle.clause_check.proofs.goals.joined_goal.Goals as goal
 
 pub returns-in_default-4 : goal.returns-in_default-4

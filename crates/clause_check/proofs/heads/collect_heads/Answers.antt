@@ -23,7 +23,8 @@ loop-sentence-preserved c =
     (elim c.match-head_functor.branch [
       | in-Some+in_ok-insert w ↦
           let keys : new ≡ insert_key same_numbers old w.in-Some.functor = rw w.heads-is w.in_ok-insert.ensures.keys in
-          subst (AreHeadsOf s.pool (front s i ++ term_in s item ∷ [])) (sym keys) (heads_more s.pool (front s i) old (term_in s item) c.loop-sentence.invariant c.requires.own.pool w.in-Some.functor w.in-Some.ensures)
+          subst (AreHeadsOf s.pool (front s i ++ term_in s item ∷ [])) (sym keys)
+          (heads_more s.pool (front s i) old (term_in s item) c.loop-sentence.invariant c.requires.own.pool w.in-Some.functor w.in-Some.ensures)
       | in_default w ↦
           let keys : new ≡ old = rw w.heads-is refl in
           subst (AreHeadsOf s.pool (front s i ++ term_in s item ∷ [])) (sym keys) (heads_same s.pool (front s i) old (term_in s item) c.loop-sentence.invariant w.in_default.ensures)

@@ -1,6 +1,6 @@
 use Rattle.std.proofs.Common.{◌≡◌, ℕ, ap, sym, ◌∙◌}
 use Rattle.fd_language.specs.PlacedTerm.{place}
-use Rattle.term_pool.specs.Valid.{shape_of}
+use Rattle.term_pool.specs.PoolInvariant.{shape_of}
 use Rattle.term_pool.specs.PlacedTerms.{placed_of, placed_by}
 use Rattle.term_reader.proofs.Lemmas.{place_placed}
 use Rattle.term_pool.proofs.Lemmas.{placed_of_shape, entry_of}

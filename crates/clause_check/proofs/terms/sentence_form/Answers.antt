@@ -2,7 +2,7 @@ use Rattle.std.proofs.Common.{subst, ◌∙◌}
 use Rattle.fd_language.specs.PlacedTerm.{place}
 use Rattle.term_pool.specs.Contents.{atom_name}
 use Rattle.term_pool.specs.declared.Node.{Node}
-use Rattle.term_pool.specs.Valid.{shape_of}
+use Rattle.term_pool.specs.PoolInvariant.{shape_of}
 use Rattle.term_pool.specs.PlacedTerms.{placed_of}
 use Rattle.clause_check.specs.Terms.{IsSeen}
 use Rattle.clause_check.proofs.TermShapes.{many_formed, two_formed, one_formed, bare_formed}
@@ -14,7 +14,8 @@ returns-in_default-name_of-2 c =
     let t = c.args.t in
     let name = atom_name pool c.in-Comp-default-len2.name in (
       c.requires,
-      two_formed (placed_of pool t) name (place (placed_of pool t)) (placed_of pool) c.in-Comp-default-len2.field-1.now c.in-Comp-default-len2.ensures.placed c.in-Comp-default-len2.len_at_least c.in-Comp-default-len2.len_below
+      two_formed (placed_of pool t) name (place (placed_of pool t)) (placed_of pool) c.in-Comp-default-len2.field-1.now c.in-Comp-default-len2.ensures.placed
+          c.in-Comp-default-len2.len_at_least c.in-Comp-default-len2.len_below
           (λ e. c.in_default-name_of-2.not-text (c.name_of-in-Comp-default-len2.ensures.name ∙ e)),
     )
 
@@ -33,7 +34,8 @@ returns-in_default-name_of c =
     let name = atom_name pool c.in-Comp-default-len1.name in
     let text = c.name_of.ensures.name in (
       c.requires,
-      one_formed (placed_of pool t) name (place (placed_of pool t)) (placed_of pool) c.in-Comp-default-len1.field-1.now c.in-Comp-default-len1.ensures.placed c.in-Comp-default-len1.len_at_least c.in-Comp-default-len1.len_below
+      one_formed (placed_of pool t) name (place (placed_of pool t)) (placed_of pool) c.in-Comp-default-len1.field-1.now c.in-Comp-default-len1.ensures.placed
+          c.in-Comp-default-len1.len_at_least c.in-Comp-default-len1.len_below
           (λ e. c.in_default-name_of.not-text (text ∙ e)) (λ e. c.in_default-name_of.not-text-2 (text ∙ e)),
     )
 

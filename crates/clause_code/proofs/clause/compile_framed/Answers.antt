@@ -1,5 +1,5 @@
 use Rattle.std.proofs.Common.{sym, subst}
-use Rattle.clause_code.specs.Fitting.{AreNeeds}
+use Rattle.clause_code.specs.LevelSlots.{AreNeeds}
 use Rattle.clause_code.proofs.clause.compile_framed.Goals as goal
 
 pub most_needed-count-requires-clause-needs : goal.most_needed-count-requires-clause-needs

@@ -1,4 +1,4 @@
-use Rattle.clause_code.specs.Whole.{InOrder}
+use Rattle.clause_code.specs.ClauseParts.{InOrder}
 use Rattle.clause_code.proofs.clause.slot_homes.Given as goal
 
 abbrev pub invariant-loop-x : goal.invariant-loop-x

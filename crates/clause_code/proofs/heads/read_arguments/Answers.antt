@@ -1,7 +1,7 @@
 use Rattle.std.proofs.Common.{◌≡◌, ◌+◌, ◌++◌, suc, length, subst, arith, OnOk}
 use Rattle.term_pool.specs.Terms.{term_of, terms_by}
 use Rattle.fd_language.specs.Term.{term_count}
-use Rattle.clause_code.specs.Whole.{head_code}
+use Rattle.clause_code.specs.ClauseParts.{head_code}
 use Rattle.clause_code.proofs.Rests.{count_terms}
 use Rattle.clause_code.proofs.heads.read_arguments.Goals as goal
 

@@ -4,4 +4,5 @@ use Rattle.clause_code.proofs.Rests.{few_parts}
 use Rattle.clause_code.proofs.heads.write_head.Goals as goal
 
 pub read_arguments-requires-clause-few : goal.read_arguments-requires-clause-few
-read_arguments-requires-clause-few c = few_parts c.args.pool.now (length c.args.homes.now) c.args.head (atom_name c.args.pool.now c.in-Comp.field-0) c.in-Comp.parts.now c.in-Comp.ensures.term c.requires.own.1
+read_arguments-requires-clause-few c = few_parts c.args.pool.now (length c.args.homes.now) c.args.head (atom_name c.args.pool.now c.in-Comp.field-0)
+    c.in-Comp.parts.now c.in-Comp.ensures.term c.requires.own.1

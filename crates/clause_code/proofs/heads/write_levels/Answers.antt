@@ -1,6 +1,6 @@
 use Rattle.std.proofs.Common.{◌++◌, ap, refl, ◌∙◌, arith}
-use Rattle.clause_code.specs.Whole.{level_codes}
-use Rattle.clause_code.proofs.Leveling.{levels_none, levels_next, levels_all}
+use Rattle.clause_code.specs.ClauseParts.{level_codes}
+use Rattle.clause_code.proofs.LevelInstructions.{levels_none, levels_next, levels_all}
 use Rattle.clause_code.proofs.heads.write_levels.Goals as goal
 
 pub loop-slot-init : goal.loop-slot-init

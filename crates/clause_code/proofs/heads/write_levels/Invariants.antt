@@ -1,5 +1,5 @@
 use Rattle.std.proofs.Common.{◌≡◌, ◌-◌, ◌≤◌, ◌++◌}
-use Rattle.clause_code.specs.Whole.{level_codes}
+use Rattle.clause_code.specs.ClauseParts.{level_codes}
 use Rattle.clause_code.proofs.heads.write_levels.Given as goal
 
 abbrev pub invariant-loop-slot : goal.invariant-loop-slot

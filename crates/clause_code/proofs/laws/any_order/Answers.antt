@@ -1,4 +1,4 @@
-use Rattle.clause_code.proofs.Restating.{does_move}
+use Rattle.clause_code.proofs.NestedStructures.{does_move}
 use Rattle.clause_code.proofs.laws.any_order.Goals as goal
 
 pub returns : goal.returns

@@ -1,4 +1,4 @@
-use Rattle.clause_code.proofs.Trying.{list_tries}
+use Rattle.clause_code.proofs.ClauseChoices.{list_tries}
 use Rattle.clause_code.proofs.laws.lists_in_order.Goals as goal
 
 pub returns : goal.returns

@@ -1,4 +1,4 @@
-use Rattle.clause_code.specs.Fitting.{AreNeeds}
+use Rattle.clause_code.specs.LevelSlots.{AreNeeds}
 use Rattle.clause_code.proofs.needs.level_needs.Given as goal
 
 abbrev pub invariant-loop-i : goal.invariant-loop-i

@@ -3,8 +3,8 @@ use Rattle.std.proofs.Math.Nat.{le-max_left}
 use Rattle.std.proofs.lemmas.Result.{MatchResult-from_err}
 use Rattle.clause_check.specs.declared.program.FlatGoal.{FlatGoal}
 use Rattle.clause_check.specs.Programs.{goal_in, goals_in}
-use Rattle.clause_code.specs.Fitting.{need, each_need}
-use Rattle.clause_code.proofs.Fitting.{other_need, need_either, need_if, need_not}
+use Rattle.clause_code.specs.LevelSlots.{need, each_need}
+use Rattle.clause_code.proofs.LevelSlots.{other_need, need_either, need_if, need_not}
 use Rattle.clause_code.proofs.needs.needed.Goals as goal
 use Rattle.clause_code.proofs.needs.needed.Goals.{in-Some, in-None}
 

@@ -1,6 +1,6 @@
 use Rattle.std.proofs.Common.{length, map, refl, arith, subst}
 use Rattle.clause_code.specs.Predicates.{predicate_in, Gathered}
-use Rattle.clause_code.proofs.Gathering.{predicates_gathered}
+use Rattle.clause_code.proofs.ProgramFunctors.{predicates_gathered}
 use Rattle.clause_code.proofs.predicates.predicates_of.Goals as goal
 
 pub returns : goal.returns

@@ -1,7 +1,7 @@
 use Rattle.std.proofs.Common.{sym, subst}
-use Rattle.clause_code.specs.Codable.{AreOnce}
-use Rattle.clause_code.specs.Fitting.{AreNeeds}
-use Rattle.clause_code.proofs.Asking.{query_known}
+use Rattle.clause_code.specs.CodablePrograms.{AreOnce}
+use Rattle.clause_code.specs.LevelSlots.{AreNeeds}
+use Rattle.clause_code.proofs.QueryCode.{query_known}
 use Rattle.clause_code.proofs.query.compile_query.Goals as goal
 
 pub frame_of-requires-clause-once : goal.frame_of-requires-clause-once

@@ -1,7 +1,7 @@
 use Rattle.std.proofs.Common.{ap, get_or, subst, arith, ◌∙◌, map}
 use Rattle.wam_code.specs.declared.instruction.Register.TheVariants.{Y}
 use Rattle.clause_code.specs.Slots.{AreGiven, AreAll}
-use Rattle.clause_code.proofs.Asking.{frame_made}
+use Rattle.clause_code.proofs.QueryCode.{frame_made}
 use Rattle.clause_code.proofs.query.frame_of.Goals as goal
 
 pub returns : goal.returns

@@ -1,5 +1,5 @@
 use Rattle.std.proofs.Common.{get_or, set, ap, arith, refl}
-use Rattle.clause_code.proofs.Asking.{given_next, shown_next}
+use Rattle.clause_code.proofs.QueryCode.{given_next, shown_next}
 use Rattle.clause_code.proofs.query.shown_slots.Goals as goal
 
 pub loop-x-preserved : goal.loop-x-preserved
@@ -10,6 +10,7 @@ loop-x-preserved c =
     let e = k.next in
     record {
       given = given_next c.args.variables c.loop-x.next x c.loop-x.slots.items _ k.given below refl;
-      shown = shown_next c.args.variables c.loop-x.x-index c.args.shown.now c.loop-x.slots.items _ c.requires.once c.loop-x-test.true (let g = k.given in g.long) below k.shown (ap (λ n. set c.loop-x.slots.items x n) e);
+      shown = shown_next c.args.variables c.loop-x.x-index c.args.shown.now c.loop-x.slots.items _ c.requires.once c.loop-x-test.true (let g = k.given in
+          g.long) below k.shown (ap (λ n. set c.loop-x.slots.items x n) e);
       next = omega (arith, e);
     }

@@ -1,24 +1,25 @@
 use Rattle.std.proofs.Common.{◌+◌, ◌++◌, [], ◌∷◌, true, ap, sym, subst, length, ◌∙◌, append_assoc}
 use Rattle.wam_code.specs.declared.instruction.Code.TheVariants.{Allocate}
 use Rattle.fd_language.specs.Term.{no_terms}
-use Rattle.fd_model.specs.Sound.{EachBelow}
+use Rattle.fd_model.specs.RunnablePrograms.{EachBelow}
 use Rattle.term_pool.specs.Contents.{Contents}
 use Rattle.clause_check.specs.declared.program.Part.{Part}
 use Rattle.clause_check.specs.Programs.{goals_in, query_at, query_in}
 use Rattle.clause_code.specs.Bodies.{Levels, AreFree, IsGoalsCode}
-use Rattle.clause_code.specs.Codable.{EachCodable}
-use Rattle.clause_code.specs.Fitting.{EachFits, each_need}
+use Rattle.clause_code.specs.CodablePrograms.{EachCodable}
+use Rattle.clause_code.specs.LevelSlots.{EachFits, each_need}
 use Rattle.clause_code.specs.Predicates.{Appends, base_in}
-use Rattle.clause_code.specs.Whole.{head_code, levels_code}
-use Rattle.clause_code.proofs.Asking.{query_known, frame_slots, frame_free, query_written}
-use Rattle.clause_code.proofs.Fitting.{behind_fits}
+use Rattle.clause_code.specs.ClauseParts.{head_code, levels_code}
+use Rattle.clause_code.proofs.QueryCode.{query_known, frame_slots, frame_free, query_written}
+use Rattle.clause_code.proofs.LevelSlots.{behind_fits}
 use Rattle.clause_code.proofs.query.write_query.Goals as goal
 
 pub write_goals-requires-clause-below : goal.write_goals-requires-clause-below
 write_goals-requires-clause-below c =
     let p = c.args.program.now in
     let k = query_known p c.known.ensures c.args.q c.requires.query in
-    subst (λ (a : Part). EachBelow (length c.args.homes.now) (goals_in p a)) (sym c.goals_of-goals.ensures.goals) (subst (λ v. EachBelow v (goals_in p (query_at p c.args.q).goals)) (sym c.requires.frame.long) k.below)
+    subst (λ (a : Part). EachBelow (length c.args.homes.now) (goals_in p a)) (sym c.goals_of-goals.ensures.goals)
+    (subst (λ v. EachBelow v (goals_in p (query_at p c.args.q).goals)) (sym c.requires.frame.long) k.below)
 
 pub write_goals-requires-clause-codable : goal.write_goals-requires-clause-codable
 write_goals-requires-clause-codable c =
@@ -53,7 +54,8 @@ returns c =
     let goals = c.write_goals.new.code.items in
     let h = c.in_ok-read_arguments.ensures in
     let g = c.in_ok-write_goals.ensures in
-    query_written p ps homes c.args.given n c.args.q c.args.start c.args.code.now.items one head goals c.push-2.new.self.items c.requires.frame (query_known p c.known.ensures c.args.q c.requires.query)
+    query_written p ps homes c.args.given n c.args.q c.args.start c.args.code.now.items one head goals c.push-2.new.self.items c.requires.frame
+    (query_known p c.known.ensures c.args.q c.requires.query)
     (c.in_ok-push.ensures.items ∙ ap (λ k. c.args.code.now.items ++ (Allocate k ∷ [])) c.requires.slots)
     (c.in_ok-write_levels.ensures
     ∙ ap (λ is. is ++ levels_code c.args.levels) (h.code ∙ ap (λ (q : Contents). one ++ head_code q homes 1 no_terms) c.pool-pool.ensures)

@@ -1,7 +1,7 @@
 use Rattle.std.proofs.Common.{◌≡◌, ◌++◌, length, All}
 use Rattle.clause_code.specs.Steps.{code_of, marked_by_all}
-use Rattle.clause_code.specs.Works.{stack_steps, total_weight, IsWork}
-use Rattle.clause_code.proofs.Writing.{Owes}
+use Rattle.clause_code.specs.BuildStack.{stack_steps, total_weight, IsWork}
+use Rattle.clause_code.proofs.WrittenSteps.{Owes}
 use Rattle.clause_code.proofs.terms.work_all.Given as goal
 
 abbrev pub invariant-loop-work : goal.invariant-loop-work

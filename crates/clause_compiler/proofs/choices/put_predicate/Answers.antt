@@ -1,6 +1,6 @@
 use Rattle.std.proofs.Common.{◌∙◌, refl, sym, inl, inr}
 use Rattle.std.proofs.lemmas.Result.{on_ok_weaker}
-use Rattle.clause_code.specs.Trying.{list_of}
+use Rattle.clause_code.specs.ClauseChoices.{list_of}
 use Rattle.clause_compiler.proofs.choices.put_predicate.Goals as goal
 
 pub returns-then-are_told_apart-clause-code : goal.returns-then-are_told_apart-clause-code

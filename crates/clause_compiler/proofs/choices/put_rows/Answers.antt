@@ -3,10 +3,10 @@ use Rattle.std.proofs.lemmas.List.{get_or-map}
 use Rattle.std.proofs.lemmas.Option.{get_or_from_slice_get}
 use Rattle.wam_code.specs.declared.instruction.Key.{Key}
 use Rattle.wam_code.specs.declared.instruction.Key.TheVariants as key
-use Rattle.clause_code.specs.Trying.{list_of}
+use Rattle.clause_code.specs.ClauseChoices.{list_of}
 use Rattle.clause_compiler.specs.Sections.{IsListIn, its_row}
 use Rattle.clause_compiler.proofs.Lists.{get_there}
-use Rattle.clause_compiler.proofs.Putting.{put_one}
+use Rattle.clause_compiler.proofs.PieceOffsets.{put_one}
 use Rattle.clause_compiler.proofs.choices.put_rows.Goals as goal
 
 other_default : {X : Type 0} (xs : List X) (i : ℕ) (d e : X) → i < length xs → get_or xs i d ≡ get_or xs i e
@@ -25,7 +25,8 @@ loop-i-preserved c =
     let l : c.loop-i.i < length keys = omega arith in
     let equal = c.requires in
     let m : c.loop-i.i < length lists = omega (arith, l, equal) in
-    put_one (its_row keys) (IsListIn (map (λ g. g.items) lists)) c.loop-i.i c.args.code.now.items c.loop-i.code.items c.put_list.new.code.items c.loop-i.rows.items c.push.new.self.items c.loop-i.invariant
+    put_one (its_row keys) (IsListIn (map (λ g. g.items) lists)) c.loop-i.i c.args.code.now.items c.loop-i.code.items c.put_list.new.code.items
+    c.loop-i.rows.items c.push.new.self.items c.loop-i.invariant
     (list_of c.deref.result.now) _
     (ap list_of (c.deref.ensures.value ∙ ap (λ g. g.items) c.index-lists-i.is ∙ sym (get_or-map (λ g. g.items) lists c.loop-i.i c.index-lists-i.result [] m)))
     (same_row _ _ c.len.result (length c.loop-i.code.items) (other_default keys c.loop-i.i _ (key.Int (pos 0)) l) (omega arith))

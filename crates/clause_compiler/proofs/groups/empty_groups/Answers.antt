@@ -1,6 +1,6 @@
 use Rattle.std.proofs.Common.{List, ℕ, [], ◌∷◌, ◌++◌, map, ap, ◌∙◌, arith}
 use Rattle.std.proofs.lemmas.List.{map_push, take_all}
-use Rattle.clause_compiler.proofs.Grouping.{no_groups}
+use Rattle.clause_compiler.proofs.ClauseGroups.{no_groups}
 use Rattle.clause_compiler.proofs.Vectors.{items}
 use Rattle.clause_compiler.proofs.groups.empty_groups.Goals as goal
 

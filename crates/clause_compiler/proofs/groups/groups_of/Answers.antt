@@ -2,7 +2,7 @@ use Rattle.std.proofs.Common.{◌≡◌, ℕ, Option, Some, None, IfNone, length
 use Rattle.std.proofs.lemmas.List.{map-set, length-map}
 use Rattle.clause_compiler.specs.Groups.{numbers_of}
 use Rattle.clause_compiler.proofs.Vectors.{items, list_put}
-use Rattle.clause_compiler.proofs.Grouping.{none_more, one_group}
+use Rattle.clause_compiler.proofs.ClauseGroups.{none_more, one_group}
 use Rattle.clause_compiler.proofs.groups.groups_of.Goals as goal
 use Rattle.clause_compiler.proofs.groups.groups_of.Goals.{in-Some+in_ok-push, in_default}
 
@@ -30,7 +30,9 @@ loop-clause-preserved c =
       | in-Some+in_ok-push w ↦
           let inside = w.in-Some.ensures.within in
           ap (λ v. map items v.items) w.groups-is ∙ map-set items vs w.in-Some.n w.push.new.self
-          ∙ ap (set (map items vs) w.in-Some.n) (list_put vs w.in-Some.n n w.index_mut.result.now w.push.new.self.items w.in_ok-push.ensures.items w.index_mut.ensures.value (omega (arith, long, inside)))
+          ∙ ap (set (map items vs) w.in-Some.n) (list_put vs w.in-Some.n n w.index_mut.result.now w.push.new.self.items w.in_ok-push.ensures.items
+          w.index_mut.ensures.value (omega (arith, long, inside)))
           ∙ one_group p ps n (map items vs) w.in-Some.n c.requires.apart inside w.in-Some.ensures.found c.loop-clause.invariant
-      | in_default w ↦ ap (λ v. map items v.items) w.groups-is ∙ none_more p ps n (map items vs) (none_case c.number_of_head.result w.in_default.is c.number_of_head.ensures.none) c.loop-clause.invariant
+      | in_default w ↦ ap (λ v. map items v.items) w.groups-is
+          ∙ none_more p ps n (map items vs) (none_case c.number_of_head.result w.in_default.is c.number_of_head.ensures.none) c.loop-clause.invariant
     ]

@@ -5,8 +5,8 @@ use Rattle.wam_code.specs.VerifiedCode.{IsVerified}
 use Rattle.wam_code.specs.Tries.{StandsForProgram}
 use Rattle.clause_compiler.specs.Parts.{area_with}
 use Rattle.clause_compiler.specs.PredicateSwitches.{HasSwitches}
-use Rattle.clause_compiler.proofs.Verifying.{laid_out_verified}
-use Rattle.clause_compiler.proofs.Standing.{laid_out_stands}
+use Rattle.clause_compiler.proofs.VerifiedCode.{laid_out_verified}
+use Rattle.clause_compiler.proofs.CodeMeaning.{laid_out_stands}
 use Rattle.clause_compiler.proofs.program.compile.Goals as goal
 
 pub from_verified-requires : goal.from_verified-requires

@@ -23,7 +23,8 @@ returns-in-Ok g c = λ words asks.
 pub returns-in-Err-TooLarge : goal.returns-in-Err-TooLarge
 returns-in-Err-TooLarge g c = λ words asks.
     let just = c.in-Err-TooLarge.ensures.large (ap Err c.in-Err-TooLarge.field-0-is) in
-    let kept = stays (g.S.Source.faults c.args.source.now) (g.S.Source.faults c.read_text.new.src) c.in-Err-TooLarge.ensures.later (λ l. let e = c.in-Err-TooLarge.ensures.told l in let f = c.in-Err-TooLarge.field-0-is in cc (e, f)) in
+    let kept = stays (g.S.Source.faults c.args.source.now) (g.S.Source.faults c.read_text.new.src) c.in-Err-TooLarge.ensures.later
+    (λ l. let e = c.in-Err-TooLarge.ensures.told l in let f = c.in-Err-TooLarge.field-0-is in cc (e, f)) in
     let old : Ends = ends (g.S.Source.left c.args.source.now) (g.K.Sink.written c.args.sink.now) (g.S.Source.faults c.args.source.now) (g.K.Sink.faults c.args.sink.now) in
     let new : Ends = ends (g.S.Source.left c.read_text.new.src) (g.K.Sink.written c.answer.new.sink) (g.S.Source.faults c.read_text.new.src) (g.K.Sink.faults c.answer.new.sink) in
     let text = text_large old new just in
@@ -33,8 +34,10 @@ returns-in-Err-TooLarge g c = λ words asks.
 pub returns-in-Err-NoMemory : goal.returns-in-Err-NoMemory
 returns-in-Err-NoMemory g c = λ words asks.
     with_short words c.args.task asks _ _ _ (within_front _ _ _ (c.in-Err-NoMemory.ensures.memory (ap Err c.in-Err-NoMemory.field-0-is)))
-    (stays (g.S.Source.faults c.args.source.now) (g.S.Source.faults c.read_text.new.src) c.in-Err-NoMemory.ensures.later (λ l. let e = c.in-Err-NoMemory.ensures.told l in let f = c.in-Err-NoMemory.field-0-is in cc (e, f))) (refl, refl)
+    (stays (g.S.Source.faults c.args.source.now) (g.S.Source.faults c.read_text.new.src) c.in-Err-NoMemory.ensures.later
+    (λ l. let e = c.in-Err-NoMemory.ensures.told l in let f = c.in-Err-NoMemory.field-0-is in cc (e, f))) (refl, refl)
 
 pub returns-in-Err-ReadFault : goal.returns-in-Err-ReadFault
 returns-in-Err-ReadFault g c = λ words asks.
-    with_fault words c.args.task asks _ _ (within_front _ _ _ (c.in-Err-ReadFault.ensures.fault (ap Err c.in-Err-ReadFault.field-0-is))) refl (c.in-Err-ReadFault.ensures.cause (ap Err c.in-Err-ReadFault.field-0-is)) c.in-Err-ReadFault.ensures.later
+    with_fault words c.args.task asks _ _ (within_front _ _ _ (c.in-Err-ReadFault.ensures.fault (ap Err c.in-Err-ReadFault.field-0-is))) refl
+    (c.in-Err-ReadFault.ensures.cause (ap Err c.in-Err-ReadFault.field-0-is)) c.in-Err-ReadFault.ensures.later

@@ -19,4 +19,5 @@ returns-in-Load g c =
     let old : SinkState = sink_at (g.K.Sink.written c.args.sink.now) (g.K.Sink.faults c.args.sink.now) in
     let new : SinkState = sink_at (g.K.Sink.written c.load_text.new.sink) (g.K.Sink.faults c.load_text.new.sink) in
     let r = c.load_text.result in
-    subst (λ (t : Task). IsShort old new r ⊎ Answers t (Ending old new r) r c.args.text.now) (sym c.in-Load.is) (short_or_loaded (Ending old new r) r c.args.text.now (IsShort old new r) c.requires c.load_text.ensures)
+    subst (λ (t : Task). IsShort old new r ⊎ Answers t (Ending old new r) r c.args.text.now) (sym c.in-Load.is)
+    (short_or_loaded (Ending old new r) r c.args.text.now (IsShort old new r) c.requires c.load_text.ensures)

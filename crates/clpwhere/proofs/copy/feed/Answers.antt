@@ -1,7 +1,7 @@
 use Rattle.std.proofs.Common.{rules, get_or, refl}
 use Rattle.std.specs.Prelude.{◌||◌}
 use Rattle.byte_ports.specs.Ends.{SinkState, sink_at}
-use Rattle.clpwhere.proofs.Feeding.{fed_stop, gave_step}
+use Rattle.clpwhere.proofs.OpenLines.{fed_stop, gave_step}
 use Rattle.clpwhere.proofs.copy.feed.Goals as goal
 
 pub returns-in_err-is_told : goal.returns-in_err-is_told

@@ -1,6 +1,6 @@
 use Rattle.std.proofs.Common.{rules, ◌≡◌, ◌∷◌, ◌++◌, []}
 use Rattle.byte_ports.specs.Ends.{SinkState, sink_at}
-use Rattle.clpwhere.proofs.Feeding.{fed_short, fed_ended, gave_open, gave_ended}
+use Rattle.clpwhere.proofs.OpenLines.{fed_short, fed_ended, gave_open, gave_ended}
 use Rattle.clpwhere.proofs.copy.feed_byte.Goals as goal
 
 pub returns-in_err-push : goal.returns-in_err-push

@@ -1,7 +1,7 @@
 use Rattle.std.proofs.Common.{◌<◌, length, arith}
 use Rattle.std.proofs.lemmas.Bool.Decides.{nat_tests}
 use Rattle.byte_ports.specs.Ends.{SinkState, sink_at}
-use Rattle.clpwhere.proofs.Feeding.{wrote_last, told_last}
+use Rattle.clpwhere.proofs.OpenLines.{wrote_last, told_last}
 use Rattle.clpwhere.proofs.copy.finish.Goals as goal
 
 pub returns-clause-wrote : goal.returns-clause-wrote

@@ -1,4 +1,4 @@
-use Rattle.clpwhere.proofs.Telling.{told}
+use Rattle.clpwhere.proofs.Refusals.{told}
 use Rattle.clpwhere.proofs.laws.told_as_spelled.Goals as goal
 
 pub returns : goal.returns

@@ -3,14 +3,15 @@ use Rattle.std.proofs.lemmas.List.{length-reverse}
 use Rattle.code_areas.specs.declared.Mark.{Mark}
 use Rattle.code_areas.specs.Areas.{Contents}
 use Rattle.code_areas.specs.AreaFields.{Stack, slots_kept}
-use Rattle.code_areas.proofs.Counting.{count}
+use Rattle.code_areas.proofs.PointCount.{count}
 use Rattle.code_areas.proofs.Fields.{points_dropped}
 use Rattle.code_areas.proofs.Areas.drop_points.Goals as goal
 
 pub returns-then-k-len : goal.returns-then-k-len
 returns-then-k-len c =
     let a = c.self.inside in
-    let n : length c.args.self.now.points ≡ length a.marks.items = ap (λ (k : Contents). length k.points) (sym c.self.view_is) ∙ count (reverse a.marks.items) a.saved.items a.slots.items a.frames.items ∙ length-reverse a.marks.items in
+    let n : length c.args.self.now.points ≡ length a.marks.items = ap (λ (k : Contents). length k.points) (sym c.self.view_is)
+    ∙ count (reverse a.marks.items) a.saved.items a.slots.items a.frames.items ∙ length-reverse a.marks.items in
     let q = c.requires in
     let o = a.marks.ok.0 in
     let e = c.len.ensures in
@@ -21,7 +22,8 @@ returns-then-k-len c =
 pub index-requires : goal.index-requires
 index-requires c =
     let a = c.self.inside in
-    let n : length c.args.self.now.points ≡ length a.marks.items = ap (λ (k : Contents). length k.points) (sym c.self.view_is) ∙ count (reverse a.marks.items) a.saved.items a.slots.items a.frames.items ∙ length-reverse a.marks.items in
+    let n : length c.args.self.now.points ≡ length a.marks.items = ap (λ (k : Contents). length k.points) (sym c.self.view_is)
+    ∙ count (reverse a.marks.items) a.saved.items a.slots.items a.frames.items ∙ length-reverse a.marks.items in
     let q = c.requires in
     let o = a.marks.ok.0 in
     let e = c.len.ensures in
@@ -32,7 +34,8 @@ pub invariant_of-self : goal.invariant_of-self
 invariant_of-self c =
     let a = c.self.inside in
     let s : Stack = record { slots = a.slots.items; base = a.base; size = a.size; frames = a.frames.items; newest = a.newest } in
-    let n : length c.args.self.now.points ≡ length a.marks.items = ap (λ (k : Contents). length k.points) (sym c.self.view_is) ∙ count (reverse a.marks.items) a.saved.items a.slots.items a.frames.items ∙ length-reverse a.marks.items in
+    let n : length c.args.self.now.points ≡ length a.marks.items = ap (λ (k : Contents). length k.points) (sym c.self.view_is)
+    ∙ count (reverse a.marks.items) a.saved.items a.slots.items a.frames.items ∙ length-reverse a.marks.items in
     let q = c.requires in
     let o = a.marks.ok.0 in
     let e = c.len.ensures in
@@ -46,7 +49,8 @@ pub returns : goal.returns
 returns c =
     let a = c.self.inside in
     let s : Stack = record { slots = a.slots.items; base = a.base; size = a.size; frames = a.frames.items; newest = a.newest } in
-    let n : length c.args.self.now.points ≡ length a.marks.items = ap (λ (k : Contents). length k.points) (sym c.self.view_is) ∙ count (reverse a.marks.items) a.saved.items a.slots.items a.frames.items ∙ length-reverse a.marks.items in
+    let n : length c.args.self.now.points ≡ length a.marks.items = ap (λ (k : Contents). length k.points) (sym c.self.view_is)
+    ∙ count (reverse a.marks.items) a.saved.items a.slots.items a.frames.items ∙ length-reverse a.marks.items in
     let q = c.requires in
     let o = a.marks.ok.0 in
     let e = c.len.ensures in

@@ -12,7 +12,9 @@ invariant_of-self c =
     let v = ap (λ (k : Contents). length k.slots) c.self.view_is in
     let q = c.requires in
     let l : c.args.n < a.size = omega (arith, e, v, q) in
-    (place_set a.noted a.held (length a.cells.items) (vec_capacity a.slots) a.floor (take a.held a.cells.items) a.saved.items s (reverse a.marks.items) c.self.invariant (vec_capacity c.put_place-self-inside.new.slots) c.put_place-self-inside.ensures.same c.put_place-self-inside.result c.put_place-self-inside.new.slots.items c.args.n c.args.place l c.put_place-self-inside.ensures.kept c.put_place-self-inside.ensures.copied).0
+    (place_set a.noted a.held (length a.cells.items) (vec_capacity a.slots) a.floor (take a.held a.cells.items) a.saved.items s (reverse a.marks.items)
+    c.self.invariant (vec_capacity c.put_place-self-inside.new.slots) c.put_place-self-inside.ensures.same c.put_place-self-inside.result
+    c.put_place-self-inside.new.slots.items c.args.n c.args.place l c.put_place-self-inside.ensures.kept c.put_place-self-inside.ensures.copied).0
 
 pub returns : goal.returns
 returns c =
@@ -22,5 +24,7 @@ returns c =
     let v = ap (λ (k : Contents). length k.slots) c.self.view_is in
     let q = c.requires in
     let l : c.args.n < a.size = omega (arith, e, v, q) in
-    (place_set a.noted a.held (length a.cells.items) (vec_capacity a.slots) a.floor (take a.held a.cells.items) a.saved.items s (reverse a.marks.items) c.self.invariant (vec_capacity c.put_place-self-inside.new.slots) c.put_place-self-inside.ensures.same c.put_place-self-inside.result c.put_place-self-inside.new.slots.items c.args.n c.args.place l c.put_place-self-inside.ensures.kept c.put_place-self-inside.ensures.copied).1
+    (place_set a.noted a.held (length a.cells.items) (vec_capacity a.slots) a.floor (take a.held a.cells.items) a.saved.items s (reverse a.marks.items)
+    c.self.invariant (vec_capacity c.put_place-self-inside.new.slots) c.put_place-self-inside.ensures.same c.put_place-self-inside.result
+    c.put_place-self-inside.new.slots.items c.args.n c.args.place l c.put_place-self-inside.ensures.kept c.put_place-self-inside.ensures.copied).1
     ∙ ap (λ (k : Contents). record k { slots = slice_set k.slots c.args.n c.args.place }) c.self.view_is

@@ -1,6 +1,6 @@
 use Rattle.std.proofs.Common.{◌+◌, ap, sym, ◌∙◌, subst}
 use Rattle.code_areas.specs.Areas.{Places, Contents, cell_at, IsSet}
-use Rattle.code_areas.proofs.Putting.{cell_behind}
+use Rattle.code_areas.proofs.RegisterCells.{cell_behind}
 use Rattle.code_areas.proofs.Areas.slot.Goals as goal
 
 pub set_cell-requires : goal.set_cell-requires
@@ -15,4 +15,5 @@ returns c =
     let a = c.self.inside in
     let same = ap (λ (k : Contents). k.slots) c.self.view_is in
     let there = subst (λ (x : Places). IsSet x c.args.n) (sym same) c.requires in
-    ap (λ (x : Places). cell_at x c.args.n) (sym same) ∙ there.1 ∙ sym (cell_behind a.slots.items a.base a.size c.args.n there.0 there.1) ∙ sym (ap (λ (x : Places). cell_at x (a.base + c.args.n)) c.deref.ensures.value) ∙ c.set_cell.ensures
+    ap (λ (x : Places). cell_at x c.args.n) (sym same) ∙ there.1 ∙ sym (cell_behind a.slots.items a.base a.size c.args.n there.0 there.1)
+    ∙ sym (ap (λ (x : Places). cell_at x (a.base + c.args.n)) c.deref.ensures.value) ∙ c.set_cell.ensures

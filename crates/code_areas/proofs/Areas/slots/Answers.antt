@@ -8,4 +8,5 @@ pub returns : goal.returns
 returns c =
     let a = c.self.inside in
     let s : Stack = record { slots = a.slots.items; base = a.base; size = a.size; frames = a.frames.items; newest = a.newest } in
-    sym (slots_many a.noted a.held (length a.cells.items) (vec_capacity a.slots) a.floor (take a.held a.cells.items) a.saved.items s (reverse a.marks.items) c.self.invariant) ∙ ap (λ (k : Contents). length k.slots) c.self.view_is
+    sym (slots_many a.noted a.held (length a.cells.items) (vec_capacity a.slots) a.floor (take a.held a.cells.items) a.saved.items s (reverse a.marks.items)
+    c.self.invariant) ∙ ap (λ (k : Contents). length k.slots) c.self.view_is

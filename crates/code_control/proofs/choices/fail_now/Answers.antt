@@ -1,5 +1,5 @@
 use Rattle.code_control.proofs.Threads.{back_safe}
-use Rattle.code_control.proofs.Working.{back_less}
+use Rattle.code_control.proofs.Work.{back_less}
 use Rattle.code_control.proofs.Stages.{fail_runs}
 use Rattle.code_control.proofs.choices.fail_now.Goals as goal
 

@@ -1,7 +1,7 @@
 use Rattle.std.proofs.Common.{List, ap, sym}
 use Rattle.code_areas.specs.Areas.{Point}
-use Rattle.wam_code.specs.Ending.{work}
-use Rattle.code_states.specs.Work.{point_threads}
+use Rattle.wam_code.specs.WorkMeasure.{work}
+use Rattle.code_safety.specs.Work.{point_threads}
 use Rattle.code_control.proofs.Threads.{can_undo, resumed_safe}
 use Rattle.code_control.proofs.Stages.{resumed_runs}
 use Rattle.code_control.proofs.choices.go_back.Goals as goal
@@ -16,7 +16,8 @@ undo-requires-clause-marked g c =
 
 pub returns-clause-safe : goal.returns-clause-safe
 returns-clause-safe g c =
-    resumed_safe c.args.code.now c.args.branch.now c.undo.new.self c.args.areas.now c.pop_point.new.self c.pop_point.result c.requires.safe c.pop_point.ensures c.undo.ensures.undone c.undo.ensures.sound
+    resumed_safe c.args.code.now c.args.branch.now c.undo.new.self c.args.areas.now c.pop_point.new.self c.pop_point.result c.requires.safe c.pop_point.ensures
+    c.undo.ensures.undone c.undo.ensures.sound
 
 pub returns-clause-runs : goal.returns-clause-runs
 returns-clause-runs g c =

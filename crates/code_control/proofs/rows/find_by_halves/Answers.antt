@@ -1,6 +1,6 @@
 use Rattle.std.proofs.Common.{◌+◌, ◌<◌, slice_index_or, length, sym, ◌∙◌, arith}
 use Rattle.std.proofs.lemmas.Bool.{true≢false}
-use Rattle.code_control.proofs.Rising.{found_here, found_nowhere, lower_half, middle, no_row, row_there, upper_half}
+use Rattle.code_control.proofs.BinarySearch.{found_here, found_nowhere, lower_half, middle, no_row, row_there, upper_half}
 use Rattle.code_control.proofs.rows.find_by_halves.Goals as goal
 
 pub returns-then-is_key_of : goal.returns-then-is_key_of
@@ -18,8 +18,11 @@ halving-preserved-then-is_key_below c =
     let m = middle c.halving.low c.halving.high in
     let test = c.halving-test.true in
     let within = c.halving.invariant.1 in
-    let low : m < length rows = omega (arith, test, within) in
-    (upper_half c.args.seen rows c.requires m (slice_index_or rows m no_row) (row_there rows m low) c.halving.low c.halving.high (m + 1) (omega arith) c.halving.invariant.0 (c.is_key_below.ensures.0 c.if-is_key_below.true), within)
+    let low : m < length rows = omega (arith, test, within) in (
+      upper_half c.args.seen rows c.requires m (slice_index_or rows m no_row) (row_there rows m low) c.halving.low c.halving.high (m + 1) (omega arith)
+          c.halving.invariant.0 (c.is_key_below.ensures.0 c.if-is_key_below.true),
+      within,
+    )
 
 pub halving-preserved : goal.halving-preserved
 halving-preserved c =

@@ -1,5 +1,5 @@
 use Rattle.std.proofs.Common.{drop}
-use Rattle.code_states.specs.declared.went.Went.{Went}
+use Rattle.code_safety.specs.declared.instruction_outcomes.Went.{Went}
 use Rattle.code_control.specs.Rows.{Finds}
 use Rattle.code_control.proofs.rows.find_by_rows.Given as goal
 

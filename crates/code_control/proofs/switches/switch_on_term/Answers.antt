@@ -1,5 +1,5 @@
 use Rattle.std.proofs.Common.{sym, subst, arith}
-use Rattle.code_control.specs.Leading.{IsPastJump}
+use Rattle.code_control.specs.JumpTargets.{IsPastJump}
 use Rattle.code_control.proofs.switches.switch_on_term.Goals as goal
 
 pub returns-clause-runs : goal.returns-clause-runs

@@ -1,4 +1,4 @@
-use Rattle.code_flow.proofs.Conditions.{verified_fits, fits_verified}
+use Rattle.code_flow.proofs.PlaceConditions.{verified_fits, fits_verified}
 use Rattle.code_flow.proofs.laws.places_decide.Goals as goal
 
 pub returns : goal.returns

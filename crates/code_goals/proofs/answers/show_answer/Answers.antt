@@ -1,13 +1,13 @@
 use Rattle.std.proofs.Common.{List, length, All, ap, sym, subst, ◌∙◌}
 use Rattle.heap_cells.specs.declared.Cell.{Cell}
-use Rattle.branch_state.specs.Showing.{IsShown}
+use Rattle.branch_state.specs.ShownTerms.{IsShown}
 use Rattle.branch_state.specs.States.{IsCell}
 use Rattle.machine_events.specs.declared.Shown.{Shown}
 use Rattle.term_pool.specs.Contents.{Contents}
 use Rattle.code_goals.specs.Answers.{HasFirstSlots, AreSlots, ShowsAnswer}
-use Rattle.code_goals.proofs.Answering.{query_within, slots_own, answer_shown}
+use Rattle.code_goals.proofs.AnswerSlots.{query_within, slots_own, answer_shown}
 use Rattle.code_goals.proofs.BuiltinGoals.{ok_then}
-use Rattle.code_goals.proofs.Safe.{slots_there}
+use Rattle.code_goals.proofs.GoalSafety.{slots_there}
 use Rattle.code_goals.proofs.answers.show_answer.Goals as goal
 
 pub shown_count-requires : goal.shown_count-requires
@@ -25,7 +25,8 @@ pub show-requires-clause-atoms : goal.show-requires-clause-atoms
 show-requires-clause-atoms g c = ap (λ (x : Contents). length x.names) c.pool.ensures ∙ sym c.requires.safe.atoms
 
 pub show-requires-clause-cells : goal.show-requires-clause-cells
-show-requires-clause-cells g c = subst (All (IsCell c.args.branch.now)) (sym c.deref.ensures.value) (slots_own c.args.branch.now c.args.areas.now c.requires.safe.here.slots_own 0 c.in_ok-cells.cells.items c.in_ok-cells.ensures.1)
+show-requires-clause-cells g c = subst (All (IsCell c.args.branch.now)) (sym c.deref.ensures.value)
+    (slots_own c.args.branch.now c.args.areas.now c.requires.safe.here.slots_own 0 c.in_ok-cells.cells.items c.in_ok-cells.ensures.1)
 
 pub returns : goal.returns
 returns g c =

@@ -1,10 +1,10 @@
 use Rattle.std.proofs.Common.{[], ◌∷◌, length, ap, sym, subst, ◌∙◌}
-use Rattle.branch_state.specs.Showing.{IsShown}
+use Rattle.branch_state.specs.ShownTerms.{IsShown}
 use Rattle.branch_state.specs.States.{IsCell}
 use Rattle.machine_events.specs.declared.Shown.{Shown}
 use Rattle.term_pool.specs.Contents.{Contents}
 use Rattle.code_goals.specs.GoalTexts.{ShowsWritten}
-use Rattle.code_goals.proofs.Answering.{written_is}
+use Rattle.code_goals.proofs.AnswerSlots.{written_is}
 use Rattle.code_goals.proofs.BuiltinGoals.{all_one, ok_then}
 use Rattle.code_goals.proofs.answers.show_written.Goals as goal
 

@@ -1,5 +1,5 @@
 use Rattle.std.proofs.Common.{arith}
-use Rattle.code_goals.proofs.Answering.{slots_none, slots_more}
+use Rattle.code_goals.proofs.AnswerSlots.{slots_none, slots_more}
 use Rattle.code_goals.proofs.answers.slot_cells.Goals as goal
 
 pub loop-i-init : goal.loop-i-init

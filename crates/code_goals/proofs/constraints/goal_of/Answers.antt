@@ -5,8 +5,8 @@ use Rattle.wam_code.specs.Arities.{constraint_arity}
 use Rattle.term_pool.specs.declared.TheConstants.{CONS}
 use Rattle.code_goals.specs.Arguments.{HasArguments, IsGathered}
 use Rattle.code_goals.proofs.BuiltinGoals.{found_safe}
-use Rattle.code_goals.proofs.Constraining.{gathered_own, goal_ready, made_own, made_grown}
-use Rattle.code_goals.proofs.Safe.{arguments_there}
+use Rattle.code_goals.proofs.ConstraintGoals.{gathered_own, goal_ready, made_own, made_grown}
+use Rattle.code_goals.proofs.GoalSafety.{arguments_there}
 use Rattle.code_goals.proofs.constraints.goal_of.Goals as goal
 
 pub gather-requires : goal.gather-requires
@@ -33,7 +33,8 @@ returns-clause-goal g c =
     let gathered = subst (λ n. IsGathered c.args.areas.now n c.gather.new.cells.items) c.arity.ensures c.in_ok-gather.ensures in
     goal_ready c.args.code.now c.args.branch.now c.compound.new.self c.args.areas.now (constraint_arity c.args.kind) CONS c.deref.result.now
     (subst (IsGathered c.args.areas.now (constraint_arity c.args.kind)) (sym c.deref.ensures.value) gathered)
-    (subst (All (IsCell c.args.branch.now)) (sym c.deref.ensures.value) (gathered_own c.args.branch.now c.args.areas.now c.requires.safe.here.registers_own 1 c.gather.new.cells.items c.in_ok-gather.ensures.1))
+    (subst (All (IsCell c.args.branch.now)) (sym c.deref.ensures.value)
+    (gathered_own c.args.branch.now c.args.areas.now c.requires.safe.here.registers_own 1 c.gather.new.cells.items c.in_ok-gather.ensures.1))
     c.compound.result c.compound.ensures.made
 
 pub returns-clause-grown : goal.returns-clause-grown

@@ -6,7 +6,7 @@ use Rattle.heap_cells.specs.Cells.{Heaps}
 use Rattle.heap_cells.specs.declared.Cell.TheVariants as cell
 use Rattle.heap_cells.specs.declared.Seen.TheVariants as looks
 use Rattle.heap_cells.specs.SeenCells.{IsSeen}
-use Rattle.machine_frames.specs.Frames.{link_of}
+use Rattle.branch_lemmas.specs.Frames.{link_of}
 use Rattle.range_code.specs.Frames.{family_of}
 use Rattle.code_goals.proofs.Numbers.{own_link, no_link, values_linked, values_all}
 use Rattle.code_goals.proofs.labels.values.Goals as goal
@@ -29,7 +29,8 @@ returns-clause-values g c =
           ∙ values_linked s i w.in-Constrained.k (own_link s.heaps.now valid i c.requires.variable w.in-Constrained.field-0 w.in-Constrained.k seen))
       | in_default w ↦
           (let seen = subst (λ (h : Heaps). IsSeen h.now (cell.Ref i) c.deref.result) c.heap.ensures c.deref.ensures.seen in
-          w.all-is ∙ w.numbers_to-all.ensures ∙ ap universe w.infinity.ensures ∙ values_all s i (no_link s.heaps.now valid i c.requires.variable c.deref.result seen (λ j k e. w.in_default.not-Constrained j k e)))
+          w.all-is ∙ w.numbers_to-all.ensures ∙ ap universe w.infinity.ensures
+          ∙ values_all s i (no_link s.heaps.now valid i c.requires.variable c.deref.result seen (λ j k e. w.in_default.not-Constrained j k e)))
     ]
 
 pub numbers_to-all-requires : goal.numbers_to-all-requires

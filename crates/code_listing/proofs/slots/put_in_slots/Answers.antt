@@ -5,5 +5,6 @@ use Rattle.code_listing.proofs.SlotNodes.{named_more}
 use Rattle.code_listing.proofs.slots.put_in_slots.Goals as goal
 
 pub loop-node-preserved : goal.loop-node-preserved
-loop-node-preserved c = named_more (rename_node (λ y. position_or_len (nat_eq y) c.args.met.now.keys)) c.args.nodes.now c.loop-node.node-index _ c.loop-node.named.items c.push.new.self.items c.in_slot.result c.loop-node-test.true c.loop-node.invariant
+loop-node-preserved c = named_more (rename_node (λ y. position_or_len (nat_eq y) c.args.met.now.keys)) c.args.nodes.now c.loop-node.node-index _
+    c.loop-node.named.items c.push.new.self.items c.in_slot.result c.loop-node-test.true c.loop-node.invariant
     c.in_ok-push.ensures.items c.in_slot.ensures

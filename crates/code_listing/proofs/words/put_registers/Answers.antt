@@ -1,7 +1,9 @@
 use Rattle.std.proofs.Common.{rules, codes}
 use Rattle.code_listing.specs.Texts.{argument_word}
-use Rattle.code_listing.proofs.Joining.{between_step}
+use Rattle.code_listing.proofs.JoinedTexts.{between_step}
 use Rattle.code_listing.proofs.words.put_registers.Goals as goal
 
 pub loop-index-preserved : goal.loop-index-preserved
-loop-index-preserved c = between_step argument_word c.args.registers.now c.loop-index.index _ (search rules) (codes ",") c.args.text.now.items c.loop-index.text.items c.put_separator.new.text.items c.put_register.new.text.items c.loop-index.invariant c.in_ok-put_separator.ensures c.in_ok-put_register.ensures
+loop-index-preserved c = between_step argument_word c.args.registers.now c.loop-index.index _ (search rules) (codes ",") c.args.text.now.items
+    c.loop-index.text.items c.put_separator.new.text.items c.put_register.new.text.items c.loop-index.invariant c.in_ok-put_separator.ensures
+    c.in_ok-put_register.ensures

@@ -1,5 +1,5 @@
 use Rattle.std.proofs.Common.{◌≡◌, ◌++◌, ◌-◌, take, drop, map}
-use Rattle.fd_language.specs.Writing.{Quoted, atom_text}
+use Rattle.fd_language.specs.TermTexts.{Quoted, atom_text}
 use Rattle.code_listing.specs.Words.{line_bytes}
 use Rattle.code_listing.proofs.write.put_atoms.Given as goal
 

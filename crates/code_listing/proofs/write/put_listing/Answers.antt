@@ -1,6 +1,6 @@
 use Rattle.std.proofs.Common.{◌≡◌, ◌++◌, ◌∙◌, List, [], ◌∷◌, map, drop, sym, subst, codes}
-use Rattle.fd_language.specs.Writing.{Quoted, atom_text}
-use Rattle.fd_language.specs.Flat.{nodes_of}
+use Rattle.fd_language.specs.TermTexts.{Quoted, atom_text}
+use Rattle.fd_language.specs.PostfixRanges.{nodes_of}
 use Rattle.range_code.specs.Slots.{in_slots}
 use Rattle.fd_language.specs.Range.{Range}
 use Rattle.wam_code.specs.declared.parts.Entry.{Entry}
@@ -10,7 +10,7 @@ use Rattle.code_listing.specs.Words.{line_bytes}
 use Rattle.code_listing.specs.Texts.{nodes_text, entry_text, span_text}
 use Rattle.code_listing.specs.Listing.{counted, places_text, listing}
 use Rattle.code_listing.specs.States.{states_of}
-use Rattle.code_listing.proofs.Joining.{six_groups}
+use Rattle.code_listing.proofs.JoinedTexts.{six_groups}
 use Rattle.code_listing.proofs.write.put_listing.Goals as goal
 
 pub returns : goal.returns

@@ -6,7 +6,7 @@ use Rattle.code_listing.specs.Words.{line_bytes}
 use Rattle.code_listing.specs.Texts.{place_text}
 use Rattle.code_listing.specs.Listing.{table_of, places_text}
 use Rattle.code_listing.specs.States.{state_of, states_of}
-use Rattle.code_listing.proofs.Joining.{places_step, places_count, counted_done}
+use Rattle.code_listing.proofs.JoinedTexts.{places_step, places_count, counted_done}
 use Rattle.code_listing.proofs.write.put_places.Goals as goal
 
 pub loop-index-preserved : goal.loop-index-preserved

@@ -5,7 +5,7 @@ use Rattle.wam_code.specs.declared.parts.QueryEntry.{QueryEntry}
 use Rattle.wam_code.specs.Area.{span_of}
 use Rattle.code_listing.specs.Words.{line_bytes}
 use Rattle.code_listing.specs.Texts.{span_text}
-use Rattle.code_listing.proofs.Joining.{lines_step, counted_done}
+use Rattle.code_listing.proofs.JoinedTexts.{lines_step, counted_done}
 use Rattle.code_listing.proofs.write.put_queries.Goals as goal
 
 abbrev line_at : QueryEntry → List ℕ
@@ -26,4 +26,5 @@ returns c =
     counted_done (codes "queries") c.args.text.now.items c.put_count.new.text.items c.loop-index.text.items (length qs) ts
     (sym (length-map qs span_of) ∙ sym (length-map (map span_of qs) span_text))
     c.in_ok-put_count.ensures
-    (c.loop-index.invariant ∙ ap (λ (l : List (List ℕ)). c.put_count.new.text.items ++ line_bytes l) (ap (map line_at) (take_all c.loop-index.index qs c.loop-index-test.false) ∙ sym (map-map span_text span_of qs)))
+    (c.loop-index.invariant ∙ ap (λ (l : List (List ℕ)). c.put_count.new.text.items ++ line_bytes l)
+    (ap (map line_at) (take_all c.loop-index.index qs c.loop-index-test.false) ∙ sym (map-map span_text span_of qs)))

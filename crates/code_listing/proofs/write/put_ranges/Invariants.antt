@@ -1,5 +1,5 @@
 use Rattle.std.proofs.Common.{◌≡◌, ◌++◌, take, map}
-use Rattle.fd_language.specs.Flat.{nodes_of}
+use Rattle.fd_language.specs.PostfixRanges.{nodes_of}
 use Rattle.range_code.specs.Slots.{in_slots}
 use Rattle.code_listing.specs.Words.{line_bytes}
 use Rattle.code_listing.specs.Texts.{nodes_text}

@@ -1,6 +1,6 @@
 use Rattle.std.proofs.Common.{◌≡◌, reverse, subst}
 use Rattle.code_machine.specs.Labels.{labels_below}
-use Rattle.code_machine.proofs.Taking.{cut_spends}
+use Rattle.code_machine.proofs.GoalSteps.{cut_spends}
 use Rattle.code_machine.proofs.goals.take_cut.Goals as goal
 
 pub returns : goal.returns

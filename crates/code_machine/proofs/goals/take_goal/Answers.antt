@@ -1,6 +1,8 @@
-use Rattle.std.proofs.Common.{reverse}
-use Rattle.code_states.proofs.Lemmas.{next_inside}
-use Rattle.code_machine.proofs.Taking.{goal_goes, goals_spend}
+use Rattle.std.proofs.Common.{reverse, subst}
+use Rattle.wam_code.specs.declared.instruction.Code.TheVariants.{PostRange}
+use Rattle.wam_code.specs.Area.{Holds}
+use Rattle.code_safety.proofs.Lemmas.{next_inside}
+use Rattle.code_machine.proofs.GoalSteps.{goal_goes, goals_spend}
 use Rattle.code_machine.proofs.goals.take_goal.Goals as goal
 
 pub returns-in-Builtin : goal.returns-in-Builtin
@@ -30,3 +32,10 @@ returns-in-Best g c =
     goals_spend c.args.code.now c.args.branch.now c.args.at c.args.areas.now (reverse c.args.labels.now.items) c.requires.labels
     (next_inside c.args.code.now c.args.branch.now c.args.at 0 c.args.areas.now c.requires.safe c.args.instruction c.requires.holds (goal_goes c.args.instruction c.requires.goal))
     c.take_best.new.branch c.take_best.result e.safe e.takes e.leads e.same
+
+pub post-requires : goal.post-requires
+post-requires g c = record {
+  safe = c.requires.safe;
+  holds = subst (λ i. Holds c.args.code.now c.args.at i) c.in-PostRange.is c.requires.holds;
+  there = (c.requires.safe.verified.there c.args.at (PostRange c.in-PostRange.range c.in-PostRange.count) (subst (λ i. Holds c.args.code.now c.args.at i) c.in-PostRange.is c.requires.holds)).0;
+}

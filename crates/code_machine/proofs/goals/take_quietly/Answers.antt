@@ -1,7 +1,7 @@
 use Rattle.std.proofs.Common.{reverse}
 use Rattle.wam_code.specs.declared.instruction.Code.TheVariants as step
-use Rattle.code_states.proofs.Lemmas.{next_inside}
-use Rattle.code_machine.proofs.Taking.{goal_goes, goals_spend}
+use Rattle.code_safety.proofs.Lemmas.{next_inside}
+use Rattle.code_machine.proofs.GoalSteps.{goal_goes, goals_spend}
 use Rattle.code_machine.proofs.goals.take_quietly.Goals as goal
 
 pub returns-clause-spends : goal.returns-clause-spends

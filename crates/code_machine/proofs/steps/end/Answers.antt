@@ -1,5 +1,5 @@
 use Rattle.std.proofs.Common.{reverse}
-use Rattle.code_machine.proofs.Stepping.{nothing_left}
+use Rattle.code_machine.proofs.StageSteps.{nothing_left}
 use Rattle.code_machine.proofs.steps.end.Goals as goal
 
 pub returns-clause-tells : goal.returns-clause-tells

@@ -1,6 +1,6 @@
 use Rattle.std.proofs.Common.{ℕ, ◌<◌, List}
 use Rattle.wam_code.specs.Area.{State, area_of}
-use Rattle.code_text.specs.Told.{TellsFaults}
+use Rattle.code_text.specs.FaultPlaces.{TellsFaults}
 use Rattle.code_text.specs.Owners.{AreCrossings}
 use Rattle.code_text.proofs.crossings.tell_all_crossings.Given as goal
 

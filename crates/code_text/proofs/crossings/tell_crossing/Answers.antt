@@ -1,8 +1,8 @@
 use Rattle.std.proofs.Common.{rules, ◌≡◌, true, false}
 use Rattle.wam_code.specs.Area.{area_of}
 use Rattle.code_text.specs.Owners.{IsCrossed}
-use Rattle.code_text.proofs.Stepping.{same_crossing, crossing_told, crossing_tells}
-use Rattle.code_text.proofs.Telling.{tell_same}
+use Rattle.code_text.proofs.CrossingFaults.{same_crossing, crossing_told, crossing_tells}
+use Rattle.code_text.proofs.FaultPlaces.{tell_same}
 use Rattle.code_text.proofs.crossings.tell_crossing.Goals as goal
 
 pub returns-then-not-is_same : goal.returns-then-not-is_same
@@ -14,9 +14,11 @@ returns-then-not-is_same c =
     let new = c.tell_owner-then-not-is_same.new.first.place in
     let differ : c.is_same.result ≡ false = search rules in
     record {
-      crossing = crossing_told a own c.args.at c.args.to c.owner_at-from.result c.owner_at-into.result c.owner_at-from.ensures c.owner_at-into.ensures c.is_same.result c.is_same.ensures old differ mid new c.tell_owner.ensures.told c.tell_owner-then-not-is_same.ensures.told
+      crossing = crossing_told a own c.args.at c.args.to c.owner_at-from.result c.owner_at-into.result c.owner_at-from.ensures c.owner_at-into.ensures
+          c.is_same.result c.is_same.ensures old differ mid new c.tell_owner.ensures.told c.tell_owner-then-not-is_same.ensures.told
           c.tell_owner-then-not-is_same.ensures.tells.kept;
-      tells = crossing_tells a own c.args.at c.args.to c.owner_at-from.result c.owner_at-into.result c.owner_at-from.ensures c.owner_at-into.ensures c.is_same.result c.is_same.ensures old differ mid new c.tell_owner.ensures.tells c.tell_owner-then-not-is_same.ensures.tells;
+      tells = crossing_tells a own c.args.at c.args.to c.owner_at-from.result c.owner_at-into.result c.owner_at-from.ensures c.owner_at-into.ensures
+          c.is_same.result c.is_same.ensures old differ mid new c.tell_owner.ensures.tells c.tell_owner-then-not-is_same.ensures.tells;
     }
 
 pub returns-else-not-is_same : goal.returns-else-not-is_same

@@ -2,7 +2,7 @@ use Rattle.std.proofs.Common.{◌≡◌, refl, ◌∙◌, length}
 use Rattle.std.proofs.lemmas.Option.{slice_get_read}
 use Rattle.wam_code.specs.Area.{Holds, area_of}
 use Rattle.wam_code.specs.VerifiedCode.{named}
-use Rattle.code_text.proofs.Stepping.{crossings_are, crossings_fail}
+use Rattle.code_text.proofs.CrossingFaults.{crossings_are, crossings_fail}
 use Rattle.code_text.proofs.crossings.tell_crossings.Goals as goal
 
 pub returns : goal.returns

@@ -2,7 +2,7 @@ use Rattle.std.proofs.Common.{◌≡◌, ◌+◌, true, false, IsTrue, sym, ◌�
 use Rattle.wam_code.specs.Area.{area_of}
 use Rattle.wam_code.specs.VerifiedCode.{goes_on}
 use Rattle.code_text.specs.Owners.{IsCrossed}
-use Rattle.code_text.proofs.Telling.{tell_same, tells_as}
+use Rattle.code_text.proofs.FaultPlaces.{tell_same, tells_as}
 use Rattle.code_text.proofs.crossings.tell_fallen.Goals as goal
 
 pub returns-then-goes_on : goal.returns-then-goes_on
@@ -13,7 +13,8 @@ returns-then-goes_on c =
     let goes : goes_on c.args.code ≡ true = sym c.goes_on.ensures ∙ c.if-goes_on.true in
     record {
       crossing = λ t. c.tell_crossing.ensures.crossing;
-      tells = tells_as (IsCrossed a own at (at + 1)) (λ p. IsTrue (goes_on c.args.code) × IsCrossed a own at (at + 1) p) c.args.first.now.place c.tell_crossing.new.first.place (λ p z. (goes, z)) c.tell_crossing.ensures.tells;
+      tells = tells_as (IsCrossed a own at (at + 1)) (λ p. IsTrue (goes_on c.args.code) × IsCrossed a own at (at + 1) p) c.args.first.now.place
+          c.tell_crossing.new.first.place (λ p z. (goes, z)) c.tell_crossing.ensures.tells;
     }
 
 pub returns-else-goes_on : goal.returns-else-goes_on

@@ -1,6 +1,6 @@
 use Rattle.std.proofs.Common.{rules}
 use Rattle.wam_code.specs.Area.{area_of}
-use Rattle.code_text.proofs.Stepping.{named_told, named_tells}
+use Rattle.code_text.proofs.CrossingFaults.{named_told, named_tells}
 use Rattle.code_text.proofs.crossings.tell_named.Goals as goal
 
 pub loop-index-preserved : goal.loop-index-preserved

@@ -1,7 +1,7 @@
 use Rattle.std.proofs.Common.{ℕ, IsTrue, true, ◌≡◌, take}
 use Rattle.fd_language.specs.Family.{has}
 use Rattle.wam_code.specs.Area.{area_of}
-use Rattle.code_text.specs.Told.{Tells}
+use Rattle.code_text.specs.FaultPlaces.{Tells}
 use Rattle.code_text.specs.Owners.{IsCrossing, IsCrossed}
 use Rattle.code_text.proofs.crossings.tell_named.Given as goal
 

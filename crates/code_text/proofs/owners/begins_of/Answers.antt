@@ -2,8 +2,8 @@ use Rattle.std.proofs.Common.{◌≡◌, None, length, subst, sym, ◌∙◌, ap
 use Rattle.std.proofs.lemmas.List.{length-map, length-replicate}
 use Rattle.wam_code.specs.Area.{area_of, span_of}
 use Rattle.code_text.specs.Owners.{AreBegins}
-use Rattle.code_text.proofs.Owning.{no_begins}
-use Rattle.code_text.proofs.Telling.{faults_same, faults_then}
+use Rattle.code_text.proofs.PlaceOwners.{no_begins}
+use Rattle.code_text.proofs.FaultPlaces.{faults_same, faults_then}
 use Rattle.code_text.proofs.owners.begins_of.Goals as goal
 
 pub loop-number-init : goal.loop-number-init

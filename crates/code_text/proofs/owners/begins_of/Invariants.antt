@@ -1,6 +1,6 @@
 use Rattle.std.proofs.Common.{◌≡◌, List, length}
 use Rattle.wam_code.specs.Area.{State, area_of}
-use Rattle.code_text.specs.Told.{TellsFaults}
+use Rattle.code_text.specs.FaultPlaces.{TellsFaults}
 use Rattle.code_text.specs.Owners.{AreBegins}
 use Rattle.code_text.proofs.owners.begins_of.Given as goal
 

@@ -1,5 +1,5 @@
 use Rattle.wam_code.specs.Area.{area_of, span_of}
-use Rattle.code_text.proofs.Owning.{goes_none, goes_unknown, goes_end, goes_far}
+use Rattle.code_text.proofs.PlaceOwners.{goes_none, goes_unknown, goes_end, goes_far}
 use Rattle.code_text.proofs.owners.going_on.Goals as goal
 
 pub returns-in-None : goal.returns-in-None

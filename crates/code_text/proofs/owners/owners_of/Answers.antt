@@ -1,8 +1,8 @@
 use Rattle.std.proofs.Common.{◌≡◌, ◌<◌, ◌+◌, ◌∷◌, [], ℕ, Some, List, length, subst, sym, ◌∙◌, ap, arith, rules, length-append}
 use Rattle.wam_code.specs.Area.{area_of}
 use Rattle.code_text.specs.Owners.{AreOwners, IsOwnersPlace}
-use Rattle.code_text.proofs.Owning.{no_owner, begins_kept, owners_step, before_step, owner_clash, IsBefore, IsFound}
-use Rattle.code_text.proofs.Telling.{faults_same, faults_then, faults_by}
+use Rattle.code_text.proofs.PlaceOwners.{no_owner, begins_kept, owners_step, before_step, owner_clash, IsBefore, IsFound}
+use Rattle.code_text.proofs.FaultPlaces.{faults_same, faults_then, faults_by}
 use Rattle.code_text.proofs.owners.owners_of.Goals as goal
 
 pub loop-at-init : goal.loop-at-init
@@ -43,5 +43,8 @@ loop-at-preserved c =
       size = omega (arith, inv.size, ap length c.in_ok-push.ensures.items, length-append own (x ∷ []));
       owners = subst (λ l. AreOwners a (at + 1) new l) (sym c.in_ok-push.ensures.items) step;
       last = subst (λ l. IsBefore l (at + 1) x) (sym c.in_ok-push.ensures.items) before;
-      tells = λ ss. faults_then a ss first told new (inv.tells ss) (faults_by a ss (λ p. ((n : ℕ) × (c.owner_at-begun.result ≡ Some n)) × IsOwnersPlace a stays p) told new c.owner_of-last.ensures.tells (λ p z never. owner_clash a told new begins own last stays x at inv.size there b inv.owners inv.last c.going_on-stays.ensures found ss p ((z.0.0, sym c.owner_at-begun.ensures ∙ z.0.1), z.1)));
+      tells = λ ss. faults_then a ss first told new (inv.tells ss)
+          (faults_by a ss (λ p. ((n : ℕ) × (c.owner_at-begun.result ≡ Some n)) × IsOwnersPlace a stays p) told new c.owner_of-last.ensures.tells
+          (λ p z never. owner_clash a told new begins own last stays x at inv.size there b inv.owners inv.last c.going_on-stays.ensures found ss p
+          ((z.0.0, sym c.owner_at-begun.ensures ∙ z.0.1), z.1)));
     }

@@ -1,8 +1,8 @@
 use Rattle.std.proofs.Common.{◌≡◌, List, length}
 use Rattle.wam_code.specs.Area.{State, area_of}
-use Rattle.code_text.specs.Told.{TellsFaults}
+use Rattle.code_text.specs.FaultPlaces.{TellsFaults}
 use Rattle.code_text.specs.Owners.{AreOwners}
-use Rattle.code_text.proofs.Owning.{IsBefore}
+use Rattle.code_text.proofs.PlaceOwners.{IsBefore}
 use Rattle.code_text.proofs.owners.owners_of.Given as goal
 
 abbrev pub invariant-loop-at : goal.invariant-loop-at

@@ -1,5 +1,5 @@
 use Rattle.std.proofs.Common.{rules}
-use Rattle.code_text.proofs.Owning.{has_query, no_query}
+use Rattle.code_text.proofs.PlaceOwners.{has_query, no_query}
 use Rattle.code_text.proofs.owners.query_at.Goals as goal
 
 pub returns-then-number-len : goal.returns-then-number-len

@@ -1,11 +1,14 @@
 use Rattle.std.proofs.Common.{◌≡◌}
 use Rattle.wam_code.specs.Area.{Span, HasQuery, area_of, span_of}
-use Rattle.code_text.proofs.Owning.{number_told, number_tells}
-use Rattle.code_text.proofs.Telling.{tell_same}
+use Rattle.code_text.proofs.PlaceOwners.{number_told, number_tells}
+use Rattle.code_text.proofs.FaultPlaces.{tell_same}
 use Rattle.code_text.proofs.owners.tell_number.Goals as goal
 
 pub returns-in-None : goal.returns-in-None
-returns-in-None c = record { told = λ q h. absurd (c.in-None.ensures q h); tells = tell_same (λ p. (q : Span) × HasQuery (area_of c.args.parts.now) c.args.number q × (p ≡ q.at)) c.args.first.now.place }
+returns-in-None c = record {
+  told = λ q h. absurd (c.in-None.ensures q h);
+  tells = tell_same (λ p. (q : Span) × HasQuery (area_of c.args.parts.now) c.args.number q × (p ≡ q.at)) c.args.first.now.place;
+}
 
 pub returns-in-Some : goal.returns-in-Some
 returns-in-Some c =

@@ -1,7 +1,7 @@
 use Rattle.wam_code.specs.Area.{area_of}
 use Rattle.code_text.specs.Owners.{IsOwnersPlace}
-use Rattle.code_text.proofs.Owning.{owner_none, owner_told, owner_tells}
-use Rattle.code_text.proofs.Telling.{tell_same}
+use Rattle.code_text.proofs.PlaceOwners.{owner_none, owner_told, owner_tells}
+use Rattle.code_text.proofs.FaultPlaces.{tell_same}
 use Rattle.code_text.proofs.owners.tell_owner.Goals as goal
 
 pub returns-in-None : goal.returns-in-None

@@ -1,5 +1,5 @@
 use Rattle.std.proofs.Common.{◌<◌, rules, arith}
-use Rattle.code_text.proofs.Alls.{each_done, each_miss}
+use Rattle.code_text.proofs.ListPrefixes.{each_done, each_miss}
 use Rattle.code_flow.proofs.Lemmas.{all_step}
 use Rattle.code_text.proofs.places.are_ahead.Goals as goal
 

@@ -1,6 +1,6 @@
 use Rattle.wam_code.specs.Area.{area_of}
 use Rattle.wam_code.specs.VerifiedCode.{goes_on}
-use Rattle.code_text.proofs.Placing.{before_is, falls_is, falls_none}
+use Rattle.code_text.proofs.PlaceConditions.{before_is, falls_is, falls_none}
 use Rattle.code_text.proofs.places.falls_from_before.Goals as goal
 
 pub returns-then-at-gt0 : goal.returns-then-at-gt0

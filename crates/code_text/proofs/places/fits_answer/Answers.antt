@@ -2,8 +2,8 @@ use Rattle.std.proofs.Common.{◌≡◌, refl, length}
 use Rattle.std.proofs.lemmas.Option.{slice_get_read}
 use Rattle.wam_code.specs.declared.instruction.Code.TheVariants.{AnswerNow}
 use Rattle.wam_code.specs.Area.{Holds, area_of}
-use Rattle.code_flow.specs.Failing.{IsLast}
-use Rattle.code_text.proofs.Placing.{answer_last, answer_not, failed}
+use Rattle.code_flow.specs.PlaceConditions.{IsLast}
+use Rattle.code_text.proofs.PlaceConditions.{answer_last, answer_not, failed}
 use Rattle.code_text.proofs.places.fits_answer.Goals as goal
 
 pub returns-then-is_answer : goal.returns-then-is_answer

@@ -1,7 +1,7 @@
 use Rattle.std.proofs.Common.{refl}
 use Rattle.wam_code.specs.Area.{area_of}
 use Rattle.wam_code.specs.VerifiedCode.{is_other, is_behind, HoldsOne}
-use Rattle.code_text.proofs.Placing.{before_other, before_behind, before_none, other_of_before, behind_of_before, failed}
+use Rattle.code_text.proofs.PlaceConditions.{before_other, before_behind, before_none, other_of_before, behind_of_before, failed}
 use Rattle.code_text.proofs.places.fits_before.Goals as goal
 
 pub returns-then-holds_other : goal.returns-then-holds_other

@@ -1,9 +1,9 @@
 use Rattle.std.proofs.Common.{rules, ◌≡◌, ◌∙◌, true, false, sym}
 use Rattle.fd_language.specs.Family.{has}
 use Rattle.wam_code.specs.Area.{area_of}
-use Rattle.code_text.specs.declared.reach.Namers.TheVariants.{Nobody}
+use Rattle.code_text.specs.declared.place_predecessors.Namers.TheVariants.{Nobody}
 use Rattle.code_text.specs.Places.{FitsBehind}
-use Rattle.code_text.proofs.Placing.{behind_fits, behind_back, not_so, failed}
+use Rattle.code_text.proofs.PlaceConditions.{behind_fits, behind_back, not_so, failed}
 use Rattle.range_code.proofs.Lemmas.{any_has}
 use Rattle.code_text.proofs.places.fits_behind.Goals as goal
 
@@ -38,5 +38,10 @@ returns c =
     let at = c.args.at in
     let stands : c.stands_behind.result ≡ true = search rules in
     let none : c.has_none.result ≡ true = search rules in
-    let plain : ¬ (has r.plain.keys at ≡ true) = λ t. (let e : false ≡ true = sym c.if-contains.false ∙ c.contains.ensures ∙ any_has r.plain.keys at ∙ t in cc (e)) in
-    (λ t. behind_fits a at c.requires.within r c.requires.reach (c.stands_behind.ensures.0 stands, (sym c.namers_of.ensures ∙ c.has_none.ensures.0 none, (plain, c.is_no_start.ensures.0 t))), λ f. c.is_no_start.ensures.1 (behind_back a at c.requires.within r c.requires.reach f).1.1.1)
+    let plain : ¬ (has r.plain.keys at ≡ true) = λ t. (let e : false ≡ true = sym c.if-contains.false ∙ c.contains.ensures ∙ any_has r.plain.keys at ∙ t in cc (e)) in (
+      λ t. behind_fits a at c.requires.within r c.requires.reach (
+        c.stands_behind.ensures.0 stands,
+        (sym c.namers_of.ensures ∙ c.has_none.ensures.0 none, (plain, c.is_no_start.ensures.0 t)),
+      ),
+      λ f. c.is_no_start.ensures.1 (behind_back a at c.requires.within r c.requires.reach f).1.1.1,
+    )

@@ -1,10 +1,10 @@
 use Rattle.std.proofs.Common.{rules, ℕ, ◌≡◌, ◌∙◌, true, false, sym}
 use Rattle.fd_language.specs.Family.{has}
 use Rattle.wam_code.specs.Area.{area_of}
-use Rattle.code_text.specs.declared.reach.Namers.TheVariants.{One}
+use Rattle.code_text.specs.declared.place_predecessors.Namers.TheVariants.{One}
 use Rattle.wam_code.specs.VerifiedCode.{Falls}
 use Rattle.code_text.specs.Places.{FitsOther}
-use Rattle.code_text.proofs.Placing.{other_fits, other_back, not_so, failed}
+use Rattle.code_text.proofs.PlaceConditions.{other_fits, other_back, not_so, failed}
 use Rattle.range_code.proofs.Lemmas.{any_has}
 use Rattle.code_text.proofs.places.fits_other.Goals as goal
 
@@ -38,5 +38,7 @@ returns c =
     let at = c.args.at in
     let one : c.has_one.result ≡ true = search rules in
     let plain : ¬ (has r.plain.keys at ≡ true) = λ t. (let e : false ≡ true = sym c.if-contains.false ∙ c.contains.ensures ∙ any_has r.plain.keys at ∙ t in cc (e)) in
-    let falls : ¬ ((from : ℕ) × Falls a from at) = λ x. (let e : false ≡ true = sym c.if-falls_from_before.false ∙ c.falls_from_before.ensures.1 x in cc (e)) in
-    (λ t. other_fits a at c.requires.within r c.requires.reach (sym c.namers_of.ensures ∙ c.has_one.ensures.0 one, (plain, (falls, c.is_no_start.ensures.0 t))), λ f. c.is_no_start.ensures.1 (other_back a at c.requires.within r c.requires.reach f).1.1.1)
+    let falls : ¬ ((from : ℕ) × Falls a from at) = λ x. (let e : false ≡ true = sym c.if-falls_from_before.false ∙ c.falls_from_before.ensures.1 x in cc (e)) in (
+      λ t. other_fits a at c.requires.within r c.requires.reach (sym c.namers_of.ensures ∙ c.has_one.ensures.0 one, (plain, (falls, c.is_no_start.ensures.0 t))),
+      λ f. c.is_no_start.ensures.1 (other_back a at c.requires.within r c.requires.reach f).1.1.1,
+    )

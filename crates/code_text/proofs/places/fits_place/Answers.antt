@@ -2,9 +2,9 @@ use Rattle.std.proofs.Common.{rules, ◌≡◌, false, true}
 use Rattle.wam_code.specs.declared.instruction.Code.TheVariants.{AnswerNow}
 use Rattle.wam_code.specs.Area.{Holds, area_of}
 use Rattle.code_listing.specs.States.{states_of}
-use Rattle.code_flow.specs.Failing.{FitsBefore, IsLast}
+use Rattle.code_flow.specs.PlaceConditions.{FitsBefore, IsLast}
 use Rattle.code_text.specs.Places.{FitsPlace}
-use Rattle.code_text.proofs.Placing.{not_so, failed}
+use Rattle.code_text.proofs.PlaceConditions.{not_so, failed}
 use Rattle.code_text.proofs.places.fits_place.Goals as goal
 
 pub returns-then-not-fits_before : goal.returns-then-not-fits_before

@@ -3,8 +3,8 @@ use Rattle.std.proofs.lemmas.Option.{slice_get_read}
 use Rattle.wam_code.specs.Area.{Holds, area_of}
 use Rattle.wam_code.specs.VerifiedCode.{is_other, HoldsOne}
 use Rattle.code_text.specs.Places.{HasChoices}
-use Rattle.code_text.specs.Reached.{other_of}
-use Rattle.code_text.proofs.Placing.{others_of, has_others, has_next, not_so, failed}
+use Rattle.code_text.specs.Predecessors.{other_of}
+use Rattle.code_text.proofs.PlaceConditions.{others_of, has_others, has_next, not_so, failed}
 use Rattle.code_text.proofs.places.has_choices.Goals as goal
 
 pub returns-then-not-has_other : goal.returns-then-not-has_other

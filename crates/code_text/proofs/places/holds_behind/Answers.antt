@@ -2,7 +2,7 @@ use Rattle.std.proofs.Common.{rules, ◌<◌, refl, length}
 use Rattle.std.proofs.lemmas.Option.{slice_get_read}
 use Rattle.wam_code.specs.Area.{Holds, area_of}
 use Rattle.wam_code.specs.VerifiedCode.{is_behind}
-use Rattle.code_text.proofs.Placing.{holds_by, holds_past}
+use Rattle.code_text.proofs.PlaceConditions.{holds_by, holds_past}
 use Rattle.code_text.proofs.places.holds_behind.Goals as goal
 
 pub returns-then-at-len : goal.returns-then-at-len

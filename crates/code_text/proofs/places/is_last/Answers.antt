@@ -1,7 +1,7 @@
 use Rattle.std.proofs.Common.{◌∙◌, ◌+◌}
 use Rattle.range_code.proofs.Lemmas.{any_has}
 use Rattle.wam_code.specs.Area.{area_of}
-use Rattle.code_text.proofs.Placing.{last_is}
+use Rattle.code_text.proofs.PlaceConditions.{last_is}
 use Rattle.code_text.proofs.places.is_last.Goals as goal
 
 pub returns : goal.returns

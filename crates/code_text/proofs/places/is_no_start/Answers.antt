@@ -1,6 +1,6 @@
 use Rattle.std.proofs.Common.{◌∙◌}
 use Rattle.wam_code.specs.Area.{area_of}
-use Rattle.code_text.proofs.Reaching.{no_start_is}
+use Rattle.code_text.proofs.Predecessors.{no_start_is}
 use Rattle.range_code.proofs.Lemmas.{any_has}
 use Rattle.code_text.proofs.places.is_no_start.Goals as goal
 

@@ -1,6 +1,6 @@
 use Rattle.wam_code.specs.Area.{area_of}
 use Rattle.wam_code.specs.VerifiedCode.{is_before}
-use Rattle.code_text.proofs.Placing.{before_is, before_first}
+use Rattle.code_text.proofs.PlaceConditions.{before_is, before_first}
 use Rattle.code_text.proofs.places.stands_behind.Goals as goal
 
 pub returns-then-at-gt0 : goal.returns-then-at-gt0

@@ -3,8 +3,8 @@ use Rattle.wam_code.specs.Area.{area_of}
 use Rattle.code_text.specs.Places.{FitsPlace}
 use Rattle.code_listing.specs.States.{states_of}
 use Rattle.code_text.proofs.Faults.{place_fault}
-use Rattle.code_text.proofs.Placing.{failed}
-use Rattle.code_text.proofs.Telling.{faults_same}
+use Rattle.code_text.proofs.PlaceConditions.{failed}
+use Rattle.code_text.proofs.FaultPlaces.{faults_same}
 use Rattle.code_text.proofs.places.tell_place.Goals as goal
 
 pub returns-in_err-is_right-clause-tells : goal.returns-in_err-is_right-clause-tells

@@ -2,7 +2,7 @@ use Rattle.std.proofs.Common.{ℕ, ◌<◌, ◌⊎◌}
 use Rattle.wam_code.specs.Area.{area_of}
 use Rattle.code_text.specs.Places.{FitsPlace}
 use Rattle.code_listing.specs.States.{states_of}
-use Rattle.code_text.specs.Told.{IsTold, TellsFaults}
+use Rattle.code_text.specs.FaultPlaces.{IsTold, TellsFaults}
 use Rattle.code_text.proofs.places.tell_places.Given as goal
 
 abbrev pub invariant-loop-at : goal.invariant-loop-at

@@ -9,10 +9,11 @@ use Rattle.term_pool.specs.Terms.{term_of}
 use Rattle.constraint_expand.specs.declared.members.Member.{Member}
 use Rattle.constraint_expand.specs.Lists.{member_of, AllPlaced}
 use Rattle.constraint_expand.specs.Nodes.{CanTurn}
-use Rattle.linear_forms.specs.Inside.{AreIntegers}
+use Rattle.linear_forms.specs.IntegerSums.{AreIntegers}
 use Rattle.constraint_expand.specs.Posts.{indexicals, Accepted}
 use Rattle.constraint_expand.specs.Pieces.{rows_ahead}
-use Rattle.constraint_expand.proofs.Counting.{counters_fit, Summing, sum_terms, sum_next, units_integers, units_turn, atmost_is, atmost_ends, rows_end, atmost_expands}
+use Rattle.constraint_expand.proofs.MemberCounters.{counters_fit, Summing, sum_terms, sum_next, units_integers, units_turn, atmost_is, atmost_ends, rows_end}
+use Rattle.constraint_expand.proofs.MemberCounters.{atmost_expands}
 use Rattle.constraint_expand.proofs.Widths.{sum_accepted}
 use Rattle.constraint_expand.proofs.counts.atmost.Goals as goal
 
@@ -207,5 +208,6 @@ returns c =
     let f = c.in_ok-members.ensures in
     let terms = sum_terms n ms p c.deref-2.result.now us c.deref-3.result.now s in
     let next = sum_next n ms p c.deref-2.result.now us c.deref-3.result.now s c.len.result (omega arith) in
-    atmost_expands m l v n z ms w e f g p s.placed_all c.deref-3.result.now terms (p.fresh + c.len.result) next (rows_ahead c.in_ok-sum.sum.rows ++ indexicals c.in_ok-sum.sum.rest.items) c.in_ok-sum.ensures.ranges c.in_ok-sum.sum.added c.in_ok-sum.ensures.fresh
+    atmost_expands m l v n z ms w e f g p s.placed_all c.deref-3.result.now terms (p.fresh + c.len.result) next
+    (rows_ahead c.in_ok-sum.sum.rows ++ indexicals c.in_ok-sum.sum.rest.items) c.in_ok-sum.ensures.ranges c.in_ok-sum.sum.added c.in_ok-sum.ensures.fresh
     c.counting.result c.counting.ensures.equated c.counting.ensures.ranges c.counting.ensures.fresh

@@ -1,5 +1,5 @@
 use Rattle.std.proofs.Common.{arith}
-use Rattle.constraint_expand.proofs.Counting.{sum_turns, sum_ends}
+use Rattle.constraint_expand.proofs.MemberCounters.{sum_turns, sum_ends}
 use Rattle.constraint_expand.proofs.counts.sum_of.Goals as goal
 
 pub loop-index-preserved : goal.loop-index-preserved

@@ -5,7 +5,7 @@ use Rattle.term_pool.specs.Terms.{term_of}
 use Rattle.constraint_expand.specs.declared.members.Member.{Member}
 use Rattle.constraint_expand.specs.Lists.{member_of, AllPlaced}
 use Rattle.constraint_expand.specs.Posts.{indexicals}
-use Rattle.constraint_expand.proofs.Different.{different_expands, different_ends}
+use Rattle.constraint_expand.proofs.DifferentVariables.{different_expands, different_ends}
 use Rattle.constraint_expand.proofs.differences.all_different.Goals as goal
 
 pub place_all-requires : goal.place_all-requires

@@ -2,7 +2,7 @@ use Rattle.std.proofs.Common.{List, [], ◌∷◌, ◌+◌, drop, get_or, ap, su
 use Rattle.std.proofs.lemmas.List.{drop_more}
 use Rattle.fd_language.specs.Range.{Indexical}
 use Rattle.fd_model.specs.ListRows.{differs, against}
-use Rattle.constraint_expand.proofs.Different.{Posting, posting_turns}
+use Rattle.constraint_expand.proofs.DifferentVariables.{Posting, posting_turns}
 use Rattle.constraint_expand.proofs.differences.post_against.Goals as goal
 
 pub loop-other-preserved : goal.loop-other-preserved

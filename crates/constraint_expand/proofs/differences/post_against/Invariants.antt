@@ -1,6 +1,6 @@
 use Rattle.std.proofs.Common.{drop}
 use Rattle.fd_model.specs.ListRows.{against}
-use Rattle.constraint_expand.proofs.Different.{Posting}
+use Rattle.constraint_expand.proofs.DifferentVariables.{Posting}
 use Rattle.constraint_expand.proofs.differences.post_against.Given as goal
 
 abbrev pub invariant-loop-other : goal.invariant-loop-other

@@ -2,7 +2,7 @@ use Rattle.std.proofs.Common.{sym, subst}
 use Rattle.term_pool.specs.Terms.{term_of}
 use Rattle.term_pool.proofs.Lemmas.{term_is_storable}
 use Rattle.constraint_expand.specs.Lists.{AreWords}
-use Rattle.constraint_expand.proofs.Walks.{walked_words}
+use Rattle.constraint_expand.proofs.ListWalks.{walked_words}
 use Rattle.constraint_expand.proofs.elements.element.Goals as goal
 
 pub element_ranges-requires : goal.element_ranges-requires

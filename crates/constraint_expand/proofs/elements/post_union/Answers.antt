@@ -16,14 +16,18 @@ post-requires-clause-spelled c =
     let zs = c.args.elements.now in
     let ns = c.in_ok-nodes-in-len1-up.nodes.items in
     let fits : FitsSigned w64 (get_or zs 0 (pos 0)) = search rules in
-    (spelled_back ns (union_of (given_from c.args.direction c.args.variable 1 zs)) (union_written c.args.direction c.args.variable zs ns _ c.in-len1-up.len_at_least (to_z-of_z w64 (get_or zs 0 (pos 0)) fits) c.in_ok-nodes-in-len1-up.ensures)).0
+    (spelled_back ns (union_of (given_from c.args.direction c.args.variable 1 zs))
+    (union_written c.args.direction c.args.variable zs ns _ c.in-len1-up.len_at_least (to_z-of_z w64 (get_or zs 0 (pos 0)) fits)
+    c.in_ok-nodes-in-len1-up.ensures)).0
 
 pub post-requires-clause-accepted : goal.post-requires-clause-accepted
 post-requires-clause-accepted c =
     let zs = c.args.elements.now in
     let ns = c.in_ok-nodes-in-len1-up.nodes.items in
     let fits : FitsSigned w64 (get_or zs 0 (pos 0)) = search rules in
-    let b = spelled_back ns (union_of (given_from c.args.direction c.args.variable 1 zs)) (union_written c.args.direction c.args.variable zs ns _ c.in-len1-up.len_at_least (to_z-of_z w64 (get_or zs 0 (pos 0)) fits) c.in_ok-nodes-in-len1-up.ensures) in
+    let b = spelled_back ns (union_of (given_from c.args.direction c.args.variable 1 zs))
+    (union_written c.args.direction c.args.variable zs ns _ c.in-len1-up.len_at_least (to_z-of_z w64 (get_or zs 0 (pos 0)) fits)
+    c.in_ok-nodes-in-len1-up.ensures) in
     subst (λ (r : Range). IsTrue (is_accepted INFINITY r)) (sym b.1) c.requires.0
 
 pub returns-in_ok-nodes-in-len1-up : goal.returns-in_ok-nodes-in-len1-up
@@ -31,5 +35,7 @@ returns-in_ok-nodes-in-len1-up c =
     let zs = c.args.elements.now in
     let ns = c.in_ok-nodes-in-len1-up.nodes.items in
     let fits : FitsSigned w64 (get_or zs 0 (pos 0)) = search rules in
-    let b = spelled_back ns (union_of (given_from c.args.direction c.args.variable 1 zs)) (union_written c.args.direction c.args.variable zs ns _ c.in-len1-up.len_at_least (to_z-of_z w64 (get_or zs 0 (pos 0)) fits) c.in_ok-nodes-in-len1-up.ensures) in
+    let b = spelled_back ns (union_of (given_from c.args.direction c.args.variable 1 zs))
+    (union_written c.args.direction c.args.variable zs ns _ c.in-len1-up.len_at_least (to_z-of_z w64 (get_or zs 0 (pos 0)) fits)
+    c.in_ok-nodes-in-len1-up.ensures) in
     subst (λ (r : Range). OnOk c.post.result (c.post.new.list.items ≡ c.args.list.now.items ++ (c.args.target, r) ∷ [])) b.1 c.post.ensures

@@ -2,7 +2,7 @@ use Rattle.std.proofs.Common.{◌+◌, ℤ, pos, ◌++◌, get_or, ap, ◌∙◌
 use Rattle.std.specs.Int.{w64}
 use Rattle.std.proofs.lemmas.Int.{to_z-of_z}
 use Rattle.std.proofs.lemmas.List.{drop_all}
-use Rattle.fd_language.specs.Flat.{nodes_of}
+use Rattle.fd_language.specs.PostfixRanges.{nodes_of}
 use Rattle.constraint_expand.specs.Unions.{given_at, given_from, joined_nodes}
 use Rattle.constraint_expand.proofs.Unions.{writing_turns, writing_ends}
 use Rattle.constraint_expand.proofs.elements.union_nodes.Goals as goal

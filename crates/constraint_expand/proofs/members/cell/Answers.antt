@@ -1,4 +1,4 @@
-use Rattle.constraint_expand.proofs.Walks.{several_parts}
+use Rattle.constraint_expand.proofs.ListWalks.{several_parts}
 use Rattle.constraint_expand.proofs.members.cell.Goals as goal
 
 pub returns-in-len3-up : goal.returns-in-len3-up

@@ -4,7 +4,7 @@ use Rattle.fd_model.specs.Members as def
 use Rattle.fd_model.specs.Members.{fresh_after}
 use Rattle.constraint_expand.specs.declared.members.Member.TheVariants.{Open}
 use Rattle.constraint_expand.specs.Lists.{member_of, Placing}
-use Rattle.constraint_expand.proofs.Placing.{place_fits, placing_turns}
+use Rattle.constraint_expand.proofs.MemberVariables.{place_fits, placing_turns}
 use Rattle.constraint_expand.proofs.members.place_all.Goals as goal
 
 pub place-requires : goal.place-requires
@@ -12,7 +12,8 @@ place-requires c =
     let ms = c.args.members.now in
     let i = c.loop-member.member-index in
     let next = ap (map member_of) (drop_more ms i (Open 0) c.loop-member-test.true) in
-    let fits = place_fits c.loop-member.placed.fresh (fresh_after c.args.fresh (map member_of ms)) (member_of (get_or ms i (Open 0))) (map member_of (drop (i + 1) ms)) (ap (fresh_after c.loop-member.placed.fresh) (sym next) ∙ c.loop-member.invariant.fresh) in
+    let fits = place_fits c.loop-member.placed.fresh (fresh_after c.args.fresh (map member_of ms)) (member_of (get_or ms i (Open 0)))
+    (map member_of (drop (i + 1) ms)) (ap (fresh_after c.loop-member.placed.fresh) (sym next) ∙ c.loop-member.invariant.fresh) in
     omega (arith, fits, c.requires)
 
 pub loop-member-preserved : goal.loop-member-preserved

@@ -97,4 +97,5 @@ returns-in_ok-nodes-2 c =
     let h = sign_above c.index.result.now.1 (product_at s i).1 fits c.if-coefficient-lt0.false (ap (λ (t : ℕ × ℤ). t.1) same) in
     let b = spelled_back c.in_ok-nodes-2.nodes.items (row_at k s i).range (c.in_ok-nodes-2.ensures ∙ straight_nodes k s c.args.turned.now i c.requires.sides h) in
     subst (λ (t : ℕ). OnOk c.post-else-coefficient-lt0.result (c.post-else-coefficient-lt0.new.list.items ≡ c.args.list.now.items ++ (t, (row_at k s i).range) ∷ [])) (ap (λ (t : ℕ × ℤ). t.0) same)
-    (subst (λ (r : Range). OnOk c.post-else-coefficient-lt0.result (c.post-else-coefficient-lt0.new.list.items ≡ c.args.list.now.items ++ (c.index.result.now.0, r) ∷ [])) b.1 c.post-else-coefficient-lt0.ensures)
+    (subst (λ (r : Range). OnOk c.post-else-coefficient-lt0.result (c.post-else-coefficient-lt0.new.list.items ≡ c.args.list.now.items
+    ++ (c.index.result.now.0, r) ∷ [])) b.1 c.post-else-coefficient-lt0.ensures)

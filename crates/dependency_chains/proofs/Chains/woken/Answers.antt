@@ -4,10 +4,10 @@ use Rattle.fd_language.specs.Family.{has}
 use Rattle.fd_language.specs.declared.range_node.Feature.TheVariants as feature
 use Rattle.dependency_chains.specs.declared.Link.{Link}
 use Rattle.dependency_chains.specs.AgentReads.{AgentRead}
-use Rattle.dependency_chains.specs.Waking.{wakes}
+use Rattle.dependency_chains.specs.WokenAgents.{wakes}
 use Rattle.dependency_chains.specs.Links.{AreLinked, agents_from, head_of}
-use Rattle.dependency_chains.proofs.Chaining.{latest_below}
-use Rattle.dependency_chains.proofs.Telling.{woken_are, gate_within}
+use Rattle.dependency_chains.proofs.ChainSteps.{latest_below}
+use Rattle.dependency_chains.proofs.WokenAgents.{woken_are, gate_within}
 use Rattle.dependency_chains.proofs.Chains.woken.Goals as goal
 
 pub returns : goal.returns

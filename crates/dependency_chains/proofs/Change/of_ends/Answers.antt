@@ -1,5 +1,5 @@
 use Rattle.std.proofs.Common.{refl}
-use Rattle.dependency_chains.proofs.Opening.{change_by_ends}
+use Rattle.dependency_chains.proofs.SetEnds.{change_by_ends}
 use Rattle.dependency_chains.proofs.Change.of_ends.Goals as goal
 
 pub returns : goal.returns

@@ -6,7 +6,9 @@ use Rattle.domain_ranges.proofs.Outcomes.{on_err}
 use Rattle.domain_ranges.proofs.Domain.complement.Goals as goal
 
 pub returns-in_err-list-clause-no_memory : goal.returns-in_err-list-clause-no_memory
-returns-in_err-list-clause-no_memory c = on_err c.from_residual.result _ (subst (λ ns. 2 < interval_count ns) (complement_set INFINITY c.spans.result.now c.args.self.now c.spans.ensures.spans c.spans.ensures.members) c.in_err-list.ensures.no_memory)
+returns-in_err-list-clause-no_memory c = on_err c.from_residual.result _
+    (subst (λ ns. 2 < interval_count ns) (complement_set INFINITY c.spans.result.now c.args.self.now c.spans.ensures.spans c.spans.ensures.members)
+    c.in_err-list.ensures.no_memory)
 
 pub returns-clause-set : goal.returns-clause-set
 returns-clause-set c = c.of_list.ensures ∙ c.in_ok-list.ensures.set ∙ complement_set INFINITY c.spans.result.now c.args.self.now c.spans.ensures.spans c.spans.ensures.members

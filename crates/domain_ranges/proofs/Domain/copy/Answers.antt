@@ -1,5 +1,5 @@
 use Rattle.std.proofs.Common.{◌∙◌}
-use Rattle.domain_ranges.proofs.Leaving.{ends_ordered, ends_all}
+use Rattle.domain_ranges.proofs.OtherMembers.{ends_ordered, ends_all}
 use Rattle.domain_ranges.proofs.Domain.copy.Goals as goal
 
 pub of_span-requires-clause-order : goal.of_span-requires-clause-order

@@ -6,4 +6,6 @@ use Rattle.domain_ranges.proofs.Outcomes.{on_err, more_than_two}
 use Rattle.domain_ranges.proofs.Domain.copy_apart.Goals as goal
 
 pub returns-in_err-list-clause-no_memory : goal.returns-in_err-list-clause-no_memory
-returns-in_err-list-clause-no_memory c = on_err c.from_residual.result _ (three_spans INFINITY c.spans.result.now c.args.self.now c.spans.ensures.spans c.spans.ensures.members (more_than_two _ (λ k. true≢false (sym (c.in_err-list.ensures.succeeds k)))))
+returns-in_err-list-clause-no_memory c = on_err c.from_residual.result _
+    (three_spans INFINITY c.spans.result.now c.args.self.now c.spans.ensures.spans c.spans.ensures.members
+    (more_than_two _ (λ k. true≢false (sym (c.in_err-list.ensures.succeeds k)))))

@@ -1,6 +1,6 @@
 use Rattle.std.proofs.Common.{rules, ◌∙◌, arith, ◌≤◌}
 use Rattle.fd_language.specs.declared.TheConstants.{INFINITY}
-use Rattle.domain_ranges.proofs.Leaving.{held_in, without_first, without_last, without_inner}
+use Rattle.domain_ranges.proofs.OtherMembers.{held_in, without_first, without_last, without_inner}
 use Rattle.domain_ranges.proofs.Domain.interval_without.Goals as goal
 
 pub of_span-requires-clause-high : goal.of_span-requires-clause-high

@@ -1,6 +1,6 @@
 use Rattle.std.proofs.Common.{◌∙◌, ap}
 use Rattle.fd_language.specs.Range.{is_none_left}
-use Rattle.domain_ranges.proofs.Leaving.{some_left}
+use Rattle.domain_ranges.proofs.OtherMembers.{some_left}
 use Rattle.domain_ranges.proofs.Domain.leave_out.Goals as goal
 
 pub returns-clause-some : goal.returns-clause-some

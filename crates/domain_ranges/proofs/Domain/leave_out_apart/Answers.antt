@@ -4,8 +4,8 @@ use Rattle.fd_language.specs.Range.{is_none_left}
 use Rattle.domain_ranges.specs.Spans.{interval_count}
 use Rattle.domain_ranges.proofs.Members.{has_within}
 use Rattle.domain_ranges.proofs.Outcomes.{on_err}
-use Rattle.domain_ranges.proofs.Excluding.{excluded}
-use Rattle.domain_ranges.proofs.Leaving.{some_left, rises}
+use Rattle.domain_ranges.proofs.ExcludedNumbers.{excluded}
+use Rattle.domain_ranges.proofs.OtherMembers.{some_left, rises}
 use Rattle.domain_ranges.proofs.Domain.leave_out_apart.Goals as goal
 
 pub leave_out-requires-clause-member : goal.leave_out-requires-clause-member
@@ -21,4 +21,6 @@ returns-clause-some c =
 
 pub returns-in_err-leave_out-clause-no_memory : goal.returns-in_err-leave_out-clause-no_memory
 returns-in_err-leave_out-clause-no_memory c =
-    on_err c.from_residual.result _ (subst (λ ns. 2 < interval_count ns) (excluded c.self.inside.list.items c.args.self.now (pos c.args.n) c.args.n c.self.invariant.spans c.self.view_is refl) c.in_err-leave_out.ensures.no_memory)
+    on_err c.from_residual.result _ (subst (λ ns. 2 < interval_count ns)
+    (excluded c.self.inside.list.items c.args.self.now (pos c.args.n) c.args.n c.self.invariant.spans c.self.view_is refl)
+    c.in_err-leave_out.ensures.no_memory)

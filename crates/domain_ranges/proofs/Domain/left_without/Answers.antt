@@ -4,7 +4,7 @@ use lib.IntN.{nat_abs}
 use Rattle.fd_language.specs.declared.TheConstants.{INFINITY}
 use Rattle.domain_ranges.specs.Spans.{interval_count}
 use Rattle.domain_ranges.proofs.Outcomes.{on_err}
-use Rattle.domain_ranges.proofs.Excluding.{wider, member_number, keeps_all, excluded, fewer_left}
+use Rattle.domain_ranges.proofs.ExcludedNumbers.{wider, member_number, keeps_all, excluded, fewer_left}
 use Rattle.domain_ranges.proofs.Domain.left_without.Goals as goal
 
 pub returns-then-not-contains-clause-narrowed : goal.returns-then-not-contains-clause-narrowed

@@ -12,4 +12,5 @@ pub returns-in-len1-up-clause-some : goal.returns-in-len1-up-clause-some
 returns-in-len1-up-clause-some c = (greatest_is INFINITY c.spans.result.now c.args.self.now c.spans.ensures.spans c.spans.ensures.members c.in-len1-up.len_at_least).0
 
 pub returns-in-len1-up-clause-member : goal.returns-in-len1-up-clause-member
-returns-in-len1-up-clause-member c = let both = greatest_is INFINITY c.spans.result.now c.args.self.now c.spans.ensures.spans c.spans.ensures.members c.in-len1-up.len_at_least in greatest_has c.args.self.now _ both.0 both.1
+returns-in-len1-up-clause-member c = let both = greatest_is INFINITY c.spans.result.now c.args.self.now c.spans.ensures.spans c.spans.ensures.members
+    c.in-len1-up.len_at_least in greatest_has c.args.self.now _ both.0 both.1

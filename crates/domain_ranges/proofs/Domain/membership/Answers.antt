@@ -6,10 +6,12 @@ use Rattle.fd_language.specs.declared.TheConstants.{INFINITY}
 use Rattle.fd_language.specs.Family.{has}
 use Rattle.fd_language.specs.Range.{least as least_of, greatest as greatest_of}
 use Rattle.domain_ranges.proofs.Members.{has_within, member_of}
-use Rattle.domain_ranges.proofs.Excluding.{no_member}
+use Rattle.domain_ranges.proofs.ExcludedNumbers.{no_member}
 use Rattle.domain_ranges.proofs.Integers.{wide_number, held_between}
-use Rattle.domain_ranges.proofs.Leaving.{rises, alone, several, interval_has}
-use Rattle.domain_ranges.proofs.Domain.membership.Goals.{then-n-least-via-then-n-least, then-n-least-via-else-n-least+then-n-greatest, else-not-is_interval-via-then-not-is_interval+else-not-contains, else-not-is_interval-via-else-not-is_interval}
+use Rattle.domain_ranges.proofs.OtherMembers.{rises, alone, several, interval_has}
+use Rattle.domain_ranges.proofs.Domain.membership.Goals.{then-n-least-via-then-n-least, then-n-least-via-else-n-least+then-n-greatest}
+use Rattle.domain_ranges.proofs.Domain.membership.Goals.{else-not-is_interval-via-then-not-is_interval+else-not-contains}
+use Rattle.domain_ranges.proofs.Domain.membership.Goals.{else-not-is_interval-via-else-not-is_interval}
 use Rattle.domain_ranges.proofs.Domain.membership.Goals as goal
 
 pub returns-then-n-least-clause-membership : goal.returns-then-n-least-clause-membership
@@ -42,7 +44,8 @@ returns-then-not-contains-clause-membership c =
     let e = wide_number c.self.inside.ends.0 (search rules) in
     let f = wide_number c.self.inside.ends.1 (search rules) in
     let held = held_between c.args.n c.self.inside.ends.0 c.self.inside.ends.1 a (simp (to_z-of_z, e) at c.if-n-least.false) (simp (to_z-of_z, f) at c.if-n-greatest.false) in
-    sym (member_of INFINITY c.spans.result.now c.args.self.now c.args.n (nat_abs (to_z w64 (of_z w64 c.args.n))) c.contains.result c.spans.ensures.spans c.spans.ensures.members c.contains.ensures held.0) ∙ c.if-not-contains.true
+    sym (member_of INFINITY c.spans.result.now c.args.self.now c.args.n (nat_abs (to_z w64 (of_z w64 c.args.n))) c.contains.result c.spans.ensures.spans
+    c.spans.ensures.members c.contains.ensures held.0) ∙ c.if-not-contains.true
 
 pub returns-then-least-greatest-clause-membership : goal.returns-then-least-greatest-clause-membership
 returns-then-least-greatest-clause-membership c =
@@ -51,10 +54,17 @@ returns-then-least-greatest-clause-membership c =
     let f = wide_number c.self.inside.ends.1 (search rules) in
     let held = held_between c.args.n c.self.inside.ends.0 c.self.inside.ends.1 a (simp (to_z-of_z, e) at c.if-n-least.false) (simp (to_z-of_z, f) at c.if-n-greatest.false) in
     let there : has c.args.self.now (nat_abs (to_z w64 (of_z w64 c.args.n))) ≡ true = elim c.else-not-is_interval.branch [
-      | else-not-is_interval-via-then-not-is_interval+else-not-contains w ↦ sym (has_within INFINITY w.spans.result.now c.args.self.now (nat_abs (to_z w64 (of_z w64 c.args.n))) w.spans.ensures.spans w.spans.ensures.members) ∙ (sym w.contains.ensures ∙ w.if-not-contains.false)
-      | else-not-is_interval-via-else-not-is_interval w ↦ interval_has c.self.inside.list.items c.args.self.now c.self.inside.ends c.self.invariant c.self.view_is (nat_abs (to_z w64 (of_z w64 c.args.n))) (c.is_interval.ensures.0 w.if-not-is_interval.false) held.1 held.2
-    ] in
-    (nat_abs (to_z w64 (of_z w64 c.args.n)), held.0, alone c.self.inside.list.items c.args.self.now c.self.inside.ends c.self.invariant c.self.view_is (nat_abs (to_z w64 (of_z w64 c.args.n))) there c.if-least-greatest.true)
+      | else-not-is_interval-via-then-not-is_interval+else-not-contains w ↦ sym
+          (has_within INFINITY w.spans.result.now c.args.self.now (nat_abs (to_z w64 (of_z w64 c.args.n))) w.spans.ensures.spans w.spans.ensures.members)
+          ∙ (sym w.contains.ensures ∙ w.if-not-contains.false)
+      | else-not-is_interval-via-else-not-is_interval w ↦ interval_has c.self.inside.list.items c.args.self.now c.self.inside.ends c.self.invariant
+          c.self.view_is (nat_abs (to_z w64 (of_z w64 c.args.n))) (c.is_interval.ensures.0 w.if-not-is_interval.false) held.1 held.2
+    ] in (
+      nat_abs (to_z w64 (of_z w64 c.args.n)),
+      held.0,
+      alone c.self.inside.list.items c.args.self.now c.self.inside.ends c.self.invariant c.self.view_is
+          (nat_abs (to_z w64 (of_z w64 c.args.n))) there c.if-least-greatest.true,
+    )
 
 pub returns-else-least-greatest-clause-membership : goal.returns-else-least-greatest-clause-membership
 returns-else-least-greatest-clause-membership c =
@@ -63,7 +73,10 @@ returns-else-least-greatest-clause-membership c =
     let f = wide_number c.self.inside.ends.1 (search rules) in
     let held = held_between c.args.n c.self.inside.ends.0 c.self.inside.ends.1 a (simp (to_z-of_z, e) at c.if-n-least.false) (simp (to_z-of_z, f) at c.if-n-greatest.false) in
     let there : has c.args.self.now (nat_abs (to_z w64 (of_z w64 c.args.n))) ≡ true = elim c.else-not-is_interval.branch [
-      | else-not-is_interval-via-then-not-is_interval+else-not-contains w ↦ sym (has_within INFINITY w.spans.result.now c.args.self.now (nat_abs (to_z w64 (of_z w64 c.args.n))) w.spans.ensures.spans w.spans.ensures.members) ∙ (sym w.contains.ensures ∙ w.if-not-contains.false)
-      | else-not-is_interval-via-else-not-is_interval w ↦ interval_has c.self.inside.list.items c.args.self.now c.self.inside.ends c.self.invariant c.self.view_is (nat_abs (to_z w64 (of_z w64 c.args.n))) (c.is_interval.ensures.0 w.if-not-is_interval.false) held.1 held.2
+      | else-not-is_interval-via-then-not-is_interval+else-not-contains w ↦ sym
+          (has_within INFINITY w.spans.result.now c.args.self.now (nat_abs (to_z w64 (of_z w64 c.args.n))) w.spans.ensures.spans w.spans.ensures.members)
+          ∙ (sym w.contains.ensures ∙ w.if-not-contains.false)
+      | else-not-is_interval-via-else-not-is_interval w ↦ interval_has c.self.inside.list.items c.args.self.now c.self.inside.ends c.self.invariant
+          c.self.view_is (nat_abs (to_z w64 (of_z w64 c.args.n))) (c.is_interval.ensures.0 w.if-not-is_interval.false) held.1 held.2
     ] in
     (held.0, there, several c.self.inside.list.items c.args.self.now c.self.inside.ends c.self.invariant c.self.view_is (nat_abs (to_z w64 (of_z w64 c.args.n))) there c.if-least-greatest.false)

@@ -3,8 +3,8 @@ use mir.Syntax.{w64, w128}
 use Rattle.fd_language.specs.Family.{has}
 use Rattle.fd_language.specs.Range.{is_none_left}
 use Rattle.domain_ranges.specs.Narrowing.{between}
-use Rattle.domain_ranges.proofs.Excluding.{wider}
-use Rattle.domain_ranges.proofs.Leaving.{interval_some, span_some}
+use Rattle.domain_ranges.proofs.ExcludedNumbers.{wider}
+use Rattle.domain_ranges.proofs.OtherMembers.{interval_some, span_some}
 use Rattle.domain_ranges.proofs.Domain.narrowed_between.Goals as goal
 
 pub returns-then-not-is_interval-clause-narrowed : goal.returns-then-not-is_interval-clause-narrowed

@@ -5,8 +5,8 @@ use Rattle.fd_language.specs.Range.{is_none_left}
 use Rattle.fd_language.specs.declared.TheConstants.{INFINITY}
 use Rattle.fd_language.proofs.Lemmas.{has_high}
 use Rattle.domain_ranges.specs.Narrowing.{all_but}
-use Rattle.domain_ranges.proofs.Excluding.{keeps_all, fewer_left}
-use Rattle.domain_ranges.proofs.Leaving.{none_but, some_left}
+use Rattle.domain_ranges.proofs.ExcludedNumbers.{keeps_all, fewer_left}
+use Rattle.domain_ranges.proofs.OtherMembers.{none_but, some_left}
 use Rattle.domain_ranges.proofs.Domain.narrowed_without.Goals as goal
 
 pub returns-in-Outside-clause-narrowed : goal.returns-in-Outside-clause-narrowed

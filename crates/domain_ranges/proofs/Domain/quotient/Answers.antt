@@ -6,7 +6,11 @@ use Rattle.domain_ranges.proofs.Outcomes.{on_err}
 use Rattle.domain_ranges.proofs.Domain.quotient.Goals as goal
 
 pub returns-in_err-list-clause-no_memory : goal.returns-in_err-list-clause-no_memory
-returns-in_err-list-clause-no_memory c = on_err c.from_residual.result _ (subst (λ ns. 2 < interval_count ns) (quotient_set INFINITY c.factor.result c.spans.result.now c.args.self.now c.args.c c.spans.ensures.spans c.spans.ensures.members c.requires (code_factor INFINITY c.args.c _ c.factor.result (to_z-of_z c.ranges.c) c.factor.ensures.same)) c.in_err-list.ensures.no_memory)
+returns-in_err-list-clause-no_memory c = on_err c.from_residual.result _
+    (subst (λ ns. 2 < interval_count ns) (quotient_set INFINITY c.factor.result c.spans.result.now c.args.self.now c.args.c c.spans.ensures.spans
+    c.spans.ensures.members c.requires (code_factor INFINITY c.args.c _ c.factor.result (to_z-of_z c.ranges.c) c.factor.ensures.same))
+    c.in_err-list.ensures.no_memory)
 
 pub returns-clause-set : goal.returns-clause-set
-returns-clause-set c = c.of_list.ensures ∙ c.in_ok-list.ensures.set ∙ quotient_set INFINITY c.factor.result c.spans.result.now c.args.self.now c.args.c c.spans.ensures.spans c.spans.ensures.members c.requires (code_factor INFINITY c.args.c _ c.factor.result (to_z-of_z c.ranges.c) c.factor.ensures.same)
+returns-clause-set c = c.of_list.ensures ∙ c.in_ok-list.ensures.set ∙ quotient_set INFINITY c.factor.result c.spans.result.now c.args.self.now c.args.c
+    c.spans.ensures.spans c.spans.ensures.members c.requires (code_factor INFINITY c.args.c _ c.factor.result (to_z-of_z c.ranges.c) c.factor.ensures.same)

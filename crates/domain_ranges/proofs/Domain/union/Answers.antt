@@ -6,7 +6,11 @@ use Rattle.domain_ranges.proofs.Outcomes.{on_err}
 use Rattle.domain_ranges.proofs.Domain.union.Goals as goal
 
 pub returns-in_err-list-clause-no_memory : goal.returns-in_err-list-clause-no_memory
-returns-in_err-list-clause-no_memory c = on_err c.from_residual.result _ (subst (λ ns. 2 < interval_count ns) (union_set INFINITY c.spans.result.now c.spans-2.result.now c.args.self.now c.args.other.now c.spans.ensures.spans c.spans-2.ensures.spans c.spans.ensures.members c.spans-2.ensures.members) c.in_err-list.ensures.no_memory)
+returns-in_err-list-clause-no_memory c = on_err c.from_residual.result _
+    (subst (λ ns. 2 < interval_count ns) (union_set INFINITY c.spans.result.now c.spans-2.result.now c.args.self.now c.args.other.now c.spans.ensures.spans
+    c.spans-2.ensures.spans c.spans.ensures.members c.spans-2.ensures.members) c.in_err-list.ensures.no_memory)
 
 pub returns-clause-set : goal.returns-clause-set
-returns-clause-set c = c.of_list.ensures ∙ c.in_ok-list.ensures.set ∙ union_set INFINITY c.spans.result.now c.spans-2.result.now c.args.self.now c.args.other.now c.spans.ensures.spans c.spans-2.ensures.spans c.spans.ensures.members c.spans-2.ensures.members
+returns-clause-set c = c.of_list.ensures ∙ c.in_ok-list.ensures.set
+    ∙ union_set INFINITY c.spans.result.now c.spans-2.result.now c.args.self.now c.args.other.now c.spans.ensures.spans c.spans-2.ensures.spans
+    c.spans.ensures.members c.spans-2.ensures.members

@@ -8,4 +8,5 @@ pub returns-then-low-high-clause-same : goal.returns-then-low-high-clause-same
 returns-then-low-high-clause-same c =
     let f : SFits w128 c.max-low.result = search rules in
     let g : SFits w128 c.min-high.result = search rules in
-    cut_held INFINITY c.args.lo c.args.hi c.max-low.result c.min-high.result _ _ _ _ (to_z-of_z f) (to_z-of_z g) (to_z-of_z c.ranges.lo) (to_z-of_z c.ranges.hi) c.max-low.ensures.value c.min-high.ensures.value c.max-low.ensures.other_bound c.if-low-high.true
+    cut_held INFINITY c.args.lo c.args.hi c.max-low.result c.min-high.result _ _ _ _ (to_z-of_z f) (to_z-of_z g) (to_z-of_z c.ranges.lo) (to_z-of_z c.ranges.hi)
+    c.max-low.ensures.value c.min-high.ensures.value c.max-low.ensures.other_bound c.if-low-high.true

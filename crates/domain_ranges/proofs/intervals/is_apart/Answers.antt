@@ -1,7 +1,7 @@
 use Rattle.std.proofs.Common.{arith, subst, sym, drop_of_length-le}
 use Rattle.fd_language.specs.declared.TheConstants.{INFINITY}
 use Rattle.domain_ranges.specs.Spans.{IsSpans}
-use Rattle.domain_ranges.proofs.Stacking.{apart_more, interval_high}
+use Rattle.domain_ranges.proofs.StackedSets.{apart_more, interval_high}
 use Rattle.domain_ranges.proofs.intervals.is_apart.Goals as goal
 
 pub loop-span-preserved : goal.loop-span-preserved

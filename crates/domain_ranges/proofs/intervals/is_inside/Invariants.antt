@@ -1,5 +1,5 @@
 use Rattle.std.proofs.Common.{◌≤◌, ◌+◌, ◌-◌, length, drop}
-use Rattle.domain_ranges.proofs.Inside.{Comparing}
+use Rattle.domain_ranges.proofs.Inclusion.{Comparing}
 use Rattle.domain_ranges.proofs.intervals.is_inside.Given as goal
 
 abbrev pub invariant-comparing : goal.invariant-comparing

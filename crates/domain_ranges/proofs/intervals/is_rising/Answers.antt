@@ -1,6 +1,6 @@
 use Rattle.std.proofs.Common.{subst, sym, drop_of_length-le}
 use Rattle.domain_ranges.specs.StackedSets.{AreRising}
-use Rattle.domain_ranges.proofs.Stacking.{rising_more}
+use Rattle.domain_ranges.proofs.StackedSets.{rising_more}
 use Rattle.domain_ranges.proofs.intervals.is_rising.Goals as goal
 
 pub loop-span-preserved : goal.loop-span-preserved

@@ -1,7 +1,7 @@
 use Rattle.std.proofs.Common.{◌≤◌, ◌+◌, ◌-◌, ◌||◌, length, drop}
 use Rattle.fd_language.specs.declared.TheConstants.{INFINITY}
 use Rattle.domain_ranges.specs.Spans.{within}
-use Rattle.domain_ranges.proofs.Joining.{Joining}
+use Rattle.domain_ranges.proofs.OpenInterval.{Joining}
 use Rattle.domain_ranges.proofs.Union.{in_either}
 use Rattle.domain_ranges.proofs.intervals.join_all.Given as goal
 

@@ -1,7 +1,7 @@
 use Rattle.std.proofs.Common.{◌≤◌, ◌+◌, ◌-◌, ◌&&◌, length, drop}
 use Rattle.fd_language.specs.declared.TheConstants.{INFINITY}
 use Rattle.domain_ranges.specs.Spans.{within}
-use Rattle.domain_ranges.proofs.Meeting.{Meeting}
+use Rattle.domain_ranges.proofs.Intersection.{Meeting}
 use Rattle.domain_ranges.proofs.intervals.meet_all.Given as goal
 
 abbrev pub invariant-meeting : goal.invariant-meeting

@@ -2,7 +2,7 @@ use Rattle.std.proofs.Common.{◌≡◌, ◌∙◌, ap, sym, arith, List, ◌-�
 use Rattle.std.proofs.lemmas.Bool.{true≢false}
 use Rattle.domain_ranges.specs.Spans.{Span}
 use Rattle.domain_ranges.proofs.Outcomes.{on_err, full_of_two}
-use Rattle.domain_ranges.proofs.Parting.{gone, first_gone, last_gone, two_left, inner_length}
+use Rattle.domain_ranges.proofs.SplitIntervals.{gone, first_gone, last_gone, two_left, inner_length}
 use Rattle.domain_ranges.proofs.intervals.part.Goals as goal
 
 pub returns-then-low-high-clause-parted : goal.returns-then-low-high-clause-parted

@@ -1,6 +1,6 @@
 use Rattle.std.proofs.Common.{◌≤◌, ◌+◌, ◌-◌, length, drop}
 use Rattle.fd_language.specs.declared.TheConstants.{INFINITY}
-use Rattle.domain_ranges.proofs.Scaling.{Scaling}
+use Rattle.domain_ranges.proofs.Multiples.{Scaling}
 use Rattle.domain_ranges.proofs.intervals.scale_all.Given as goal
 
 abbrev pub invariant-scaling : goal.invariant-scaling

@@ -1,6 +1,6 @@
 use Rattle.std.proofs.Common.{◌≤◌, drop}
 use Rattle.fd_language.specs.declared.TheConstants.{INFINITY}
-use Rattle.domain_ranges.proofs.Shifting.{Shifting}
+use Rattle.domain_ranges.proofs.Shifts.{Shifting}
 use Rattle.domain_ranges.proofs.intervals.shift_all.Given as goal
 
 abbrev pub invariant-loop-span : goal.invariant-loop-span

@@ -2,7 +2,7 @@ use Rattle.std.proofs.Common.{subst, sym, ap, ◌∙◌, ◌≤◌, ◌<◌, ◌
 use Rattle.std.proofs.lemmas.Bool.{ltb-true, ltb-false}
 use Rattle.fd_language.specs.declared.TheConstants.{INFINITY}
 use Rattle.domain_ranges.specs.Spans.{gap}
-use Rattle.domain_ranges.proofs.Cutting.{Cutting, kept_whole, parted, whole_many, first_many, last_many, cutting_next, cutting_set}
+use Rattle.domain_ranges.proofs.Removal.{Cutting, kept_whole, parted, whole_many, first_many, last_many, cutting_next, cutting_set}
 use Rattle.domain_ranges.proofs.Outcomes.{on_err}
 use Rattle.domain_ranges.proofs.intervals.without.Goals.{then-n-span, else-n-span, then-span-n+in_ok-push, else-span-n+in_ok-push_gap+in_ok-push_gap-2}
 use Rattle.domain_ranges.proofs.intervals.without.Goals as goal
@@ -25,7 +25,8 @@ returns-in_err-push_gap-clause-no_memory c =
       | else-n-span w ↦ ltb-false _ _ (sym w.value-is ∙ c.if-span-n.false)
     ] in
     on_err c.from_residual-in_err-push_gap.result _ (first_many INFINITY c.args.spans.now c.args.n c.loop-span.list.items x (drop (c.loop-span.span-index + 1) c.args.spans.now)
-    (cutting_next INFINITY c.args.spans.now c.args.n c.loop-span.list.items c.loop-span.span-index c.loop-span.invariant.state c.loop-span-test.true) c.in_err-push_gap.ensures.some high c.in_err-push_gap.ensures.no_memory)
+    (cutting_next INFINITY c.args.spans.now c.args.n c.loop-span.list.items c.loop-span.span-index c.loop-span.invariant.state c.loop-span-test.true)
+    c.in_err-push_gap.ensures.some high c.in_err-push_gap.ensures.no_memory)
 
 pub returns-in_err-push_gap-2-clause-no_memory : goal.returns-in_err-push_gap-2-clause-no_memory
 returns-in_err-push_gap-2-clause-no_memory c =
@@ -61,7 +62,8 @@ loop-span-preserved c =
               | then-n-span v ↦ absurd (let l = ltb-false _ _ (sym v.value-is ∙ w.if-span-n.false) in let g = v.if-n-span.true in omega arith)
               | else-n-span v ↦ (v.if-n-span.false, ltb-false _ _ (sym v.value-is ∙ w.if-span-n.false))
             ] in
-            subst (λ l. Cutting INFINITY c.args.spans.now c.args.n l rest) (sym (ap (λ l. l.items) w.list-is ∙ (w.in_ok-push_gap-2.ensures.ok ∙ ap (λ l. l ++ gap (c.args.n + 1) (x.1 + 1)) w.in_ok-push_gap.ensures.ok)))
+            subst (λ l. Cutting INFINITY c.args.spans.now c.args.n l rest)
+            (sym (ap (λ l. l.items) w.list-is ∙ (w.in_ok-push_gap-2.ensures.ok ∙ ap (λ l. l ++ gap (c.args.n + 1) (x.1 + 1)) w.in_ok-push_gap.ensures.ok)))
             (parted INFINITY c.args.spans.now c.args.n c.loop-span.list.items x rest here inside.0 inside.1)
       ];
     }

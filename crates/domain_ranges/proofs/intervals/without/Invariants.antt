@@ -1,6 +1,6 @@
 use Rattle.std.proofs.Common.{◌≤◌, drop}
 use Rattle.fd_language.specs.declared.TheConstants.{INFINITY}
-use Rattle.domain_ranges.proofs.Cutting.{Cutting}
+use Rattle.domain_ranges.proofs.Removal.{Cutting}
 use Rattle.domain_ranges.proofs.intervals.without.Given as goal
 
 abbrev pub invariant-loop-span : goal.invariant-loop-span

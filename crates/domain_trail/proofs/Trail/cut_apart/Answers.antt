@@ -2,7 +2,7 @@ use Rattle.std.proofs.Common.{ℕ, List, ap, subst, SFits, to_z-of_z}
 use mir.Syntax.{w64, w128}
 use Rattle.domain_ranges.specs.Narrowing.{between, IsNarrowed}
 use Rattle.domain_ranges.proofs.Lemmas.{wider}
-use Rattle.domain_trail.proofs.Cutting.{set_of_cell}
+use Rattle.domain_trail.proofs.Cuts.{set_of_cell}
 use Rattle.domain_trail.proofs.Trail.cut_apart.Goals as goal
 
 pub take_left-requires-clause-left : goal.take_left-requires-clause-left

@@ -4,7 +4,7 @@ use Rattle.fd_language.specs.Family.{has, IsSubset}
 use Rattle.fd_language.specs.Range.{is_none_left}
 use Rattle.domain_ranges.specs.Narrowing.{all_but, AreEnds}
 use Rattle.domain_ranges.proofs.Lemmas.{keeps_all, none_but}
-use Rattle.domain_trail.proofs.Cutting.{set_of_cell, set_there, number_cut}
+use Rattle.domain_trail.proofs.Cuts.{set_of_cell, set_there, number_cut}
 use Rattle.domain_trail.proofs.Trail.cut_out.Goals as goal
 
 pub ends-after-requires : goal.ends-after-requires
@@ -34,6 +34,7 @@ returns-in_ok-leave_out-in-Among-clause-cut c =
     let there = set_there c.args.self.now c.leave_out.new.self c.args.k _ c.in_ok-leave_out-in-Among.ensures.without.0 c.requires.var in
     let now = set_of_cell c.self-in-Among.inside.cells.items c.leave_out.new.self c.args.k c.index-in-Among.result.now (ap (λ s. s.current) c.self-in-Among.view_is) there.0 c.index-in-Among.ensures in
     let m = simp to_z-of_z at c.in-Among.ensures.membership in
-    number_cut c.index.result.now.domain c.args.number c.args.k c.in-Among.n c.args.self.now c.leave_out.new.self c.ends-before.result c.ends-after.result is m c.in-Among.ensures.rising c.in_ok-leave_out-in-Among.ensures.without.0
+    number_cut c.index.result.now.domain c.args.number c.args.k c.in-Among.n c.args.self.now c.leave_out.new.self c.ends-before.result c.ends-after.result is m
+    c.in-Among.ensures.rising c.in_ok-leave_out-in-Among.ensures.without.0
     (subst (AreEnds c.ends-before.result) is c.ends-before.ensures)
     (subst (AreEnds c.ends-after.result) (now ∙ there.1) c.ends-after.ensures)

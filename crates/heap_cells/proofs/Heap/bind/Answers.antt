@@ -7,12 +7,12 @@ use Rattle.heap_cells.specs.declared.Saved.{Saved}
 use Rattle.heap_cells.specs.Cells.{Cells, Heaps, bound, with_slot}
 use Rattle.heap_cells.specs.HeapFields.{cells_of, heaps_of, held, AreSound}
 use Rattle.heap_cells.specs.Terms.{Naming, term_of, one}
-use Rattle.heap_cells.specs.Valid.{IsHeap}
+use Rattle.heap_cells.specs.HeapInvariant.{IsHeap}
 use Rattle.heap_cells.proofs.Fields.{valid_now, now_is, slots_there}
-use Rattle.heap_cells.proofs.Binding.{bind_valid, bind_terms}
-use Rattle.heap_cells.proofs.Changing.{view_after}
-use Rattle.heap_cells.proofs.Loose.{held_more, view_more}
-use Rattle.heap_cells.proofs.Sound.{bound_sound}
+use Rattle.heap_cells.proofs.Bindings.{bind_valid, bind_terms}
+use Rattle.heap_cells.proofs.VariableChanges.{view_after}
+use Rattle.heap_cells.proofs.LooseVariables.{held_more, view_more}
+use Rattle.heap_cells.proofs.LooseInvariant.{bound_sound}
 use Rattle.heap_cells.proofs.Heap.bind.Goals as goal
 use Rattle.heap_cells.proofs.Heap.bind.Goals.{After-hold}
 
@@ -40,7 +40,8 @@ returns-clause-bound c =
     let r : Result ℕ ℕ = Ok 0 in
     ap (λ (l : List Variable). heaps_of l f.args.items f.structures.items c.change.new.trail.items f.marks.items) c.hold.ensures
     ∙ view_more f.args.items f.structures.items c.change.new.trail.items (held vs c.args.to) vs (held_more vs c.args.to) f.marks.items
-    ∙ view_after r f c.args.self.now c.self.view_is c.self.invariant.stored c.args.var c.bound_to.result (bound c.args.to) c.bound_to.ensures vs c.change.new.trail.items c.in_ok-change.ensures.changed c.in_ok-change.ensures.trailed tt (valid c)
+    ∙ view_after r f c.args.self.now c.self.view_is c.self.invariant.stored c.args.var c.bound_to.result (bound c.args.to) c.bound_to.ensures vs
+    c.change.new.trail.items c.in_ok-change.ensures.changed c.in_ok-change.ensures.trailed tt (valid c)
 
 now_bound : (c : After-hold) → cells_of c.hold.new.variables.items c.self.inside.args.items c.self.inside.structures.items ≡ with_slot c.args.self.now.now c.args.var (bound c.args.to)
 now_bound c = ap (λ (h : Heaps). h.now) (returns-clause-bound c)

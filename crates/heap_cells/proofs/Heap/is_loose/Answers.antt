@@ -3,7 +3,7 @@ use Rattle.std.proofs.lemmas.List.{get_or_default}
 use Rattle.heap_cells.specs.declared.Variable.TheVariants as variable
 use Rattle.heap_cells.specs.HeapFields.{IsUnheld}
 use Rattle.heap_cells.proofs.Fields.{now_is, slots_there}
-use Rattle.heap_cells.proofs.Loose.{unheld_absent}
+use Rattle.heap_cells.proofs.LooseVariables.{unheld_absent}
 use Rattle.heap_cells.proofs.Heap.is_loose.Goals as goal
 
 pub returns-in-Loose-clause-absent : goal.returns-in-Loose-clause-absent

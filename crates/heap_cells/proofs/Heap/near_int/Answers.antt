@@ -11,4 +11,5 @@ returns-in-Int-index-clause-same c =
     let z = c.in-Int-index.z in
     let fits : FitsSigned w64 c.in-Int-index.z = search rules in
     subst (λ y. Same c.args.self.now.now c.args.c (cell.Int y)) (sym (to_z-of_z w64 z fits))
-    (one_binding c.self.inside c.args.self.now c.self.view_is c.self.invariant.stored c.args.c c.in-Ref.i c.index.result.now (cell.Int z) c.in-Ref.is c.requires c.index.ensures (ap slot_of c.in-Int-index.is))
+    (one_binding c.self.inside c.args.self.now c.self.view_is c.self.invariant.stored c.args.c c.in-Ref.i c.index.result.now (cell.Int z) c.in-Ref.is c.requires
+    c.index.ensures (ap slot_of c.in-Int-index.is))

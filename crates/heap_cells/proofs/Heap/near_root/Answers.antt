@@ -6,7 +6,7 @@ use Rattle.heap_cells.specs.Terms.{Same, term_of}
 use Rattle.heap_cells.specs.SeenCells.{IsRoot, binding_or, one_step}
 use Rattle.heap_cells.proofs.Fields.{slot_is, slots_there, valid_now}
 use Rattle.heap_cells.proofs.Chains.{no_more, one_binding}
-use Rattle.heap_cells.proofs.Looking.{binding_at, bound_alike, stays_put, unbound_step, unbound_here}
+use Rattle.heap_cells.proofs.SeenCells.{binding_at, bound_alike, stays_put, unbound_step, unbound_here}
 use Rattle.heap_cells.proofs.Heap.near_root.Goals as goal
 
 pub returns-in_default : goal.returns-in_default
@@ -30,21 +30,26 @@ pub returns-in-Some-clause-same : goal.returns-in-Some-clause-same
 returns-in-Some-clause-same c = go c.no_variable.result (c.no_variable.ensures.root c.args.self.now.now)
   where
     go : (o : Option Cell) → IfSome o (λ r. (r ≡ c.in-Some.next) × IsRoot c.args.self.now.now r) → IfSome o (Same c.args.self.now.now c.args.c)
-    go (Some r) k = one_binding c.self.inside c.args.self.now c.self.view_is c.self.invariant.stored c.args.c c.in-Ref.i c.index.result.now r c.in-Ref.is c.requires c.index.ensures (c.in-Some.ensures ∙ ap bound (sym k.0))
+    go (Some r) k = one_binding c.self.inside c.args.self.now c.self.view_is c.self.invariant.stored c.args.c c.in-Ref.i c.index.result.now r c.in-Ref.is
+        c.requires c.index.ensures (c.in-Some.ensures ∙ ap bound (sym k.0))
     go None k = tt
 
 pub returns-in-Some-clause-own : goal.returns-in-Some-clause-own
 returns-in-Some-clause-own c = go c.no_variable.result (c.no_variable.ensures.root c.args.self.now.now)
   where
     go : (o : Option Cell) → IfSome o (λ r. (r ≡ c.in-Some.next) × IsRoot c.args.self.now.now r) → IfSome o (IsOf c.args.self.now.now)
-    go (Some r) k = (valid_now c.self.inside c.args.self.now c.self.view_is c.self.invariant.stored).slots c.in-Ref.i r (binding_at c.self.inside c.args.self.now c.self.view_is c.args.c c.in-Ref.i c.index.result.now c.in-Some.next c.in-Ref.is c.requires c.index.ensures c.in-Some.ensures ∙ ap bound (sym k.0))
+    go (Some r) k = (valid_now c.self.inside c.args.self.now c.self.view_is c.self.invariant.stored).slots c.in-Ref.i r
+        (binding_at c.self.inside c.args.self.now c.self.view_is c.args.c c.in-Ref.i c.index.result.now c.in-Some.next c.in-Ref.is c.requires c.index.ensures
+        c.in-Some.ensures ∙ ap bound (sym k.0))
     go None k = tt
 
 pub returns-in-Some-clause-near : goal.returns-in-Some-clause-near
 returns-in-Some-clause-near c = go c.no_variable.result (c.no_variable.ensures.root c.args.self.now.now)
   where
     go : (o : Option Cell) → IfSome o (λ r. (r ≡ c.in-Some.next) × IsRoot c.args.self.now.now r) → IfSome o (λ r. r ≡ one_step c.args.self.now.now c.args.c)
-    go (Some r) k = k.0 ∙ sym (ap (one_step c.args.self.now.now) c.in-Ref.is ∙ ap (λ s. binding_or s (cell.Ref c.in-Ref.i)) (binding_at c.self.inside c.args.self.now c.self.view_is c.args.c c.in-Ref.i c.index.result.now c.in-Some.next c.in-Ref.is c.requires c.index.ensures c.in-Some.ensures))
+    go (Some r) k = k.0 ∙ sym (ap (one_step c.args.self.now.now) c.in-Ref.is
+        ∙ ap (λ s. binding_or s (cell.Ref c.in-Ref.i)) (binding_at c.self.inside c.args.self.now c.self.view_is c.args.c c.in-Ref.i c.index.result.now
+        c.in-Some.next c.in-Ref.is c.requires c.index.ensures c.in-Some.ensures))
     go None k = tt
 
 pub returns-in-Some-clause-none : goal.returns-in-Some-clause-none

@@ -3,7 +3,7 @@ use Rattle.heap_cells.specs.declared.Cell.TheVariants as cell
 use Rattle.heap_cells.specs.Cells.{slot_at}
 use Rattle.heap_cells.specs.HeapFields.{slot_of}
 use Rattle.heap_cells.proofs.Fields.{slot_is, slots_there}
-use Rattle.heap_cells.proofs.Looking.{never_open, not_free, number_of}
+use Rattle.heap_cells.proofs.SeenCells.{never_open, not_free, number_of}
 use Rattle.heap_cells.proofs.Heap.open_root.Goals as goal
 
 pub returns-in_default-index : goal.returns-in_default-index
@@ -14,7 +14,9 @@ returns-in_default-index c =
     let e : slot_at h.now c.in-Ref.i ≡ slot_of c.index.result.now = slot_is c.self.inside h c.self.view_is c.in-Ref.i c.index.result.now c.index.result.now (omega (arith, r.own)) c.index.ensures in
     record {
       «open» = tt;
-      none = λ _. never_open h.now r.valid c.args.c (cell.Ref c.in-Ref.i) r.same r.root (λ i is empty. not_free c.index.result.now c.in_default-index.not-Open c.in_default-index.not-Loose (sym e ∙ ap (slot_at h.now) (number_of c.in-Ref.i i is) ∙ empty));
+      none = λ _. never_open h.now r.valid c.args.c (cell.Ref c.in-Ref.i) r.same r.root
+          (λ i is empty. not_free c.index.result.now c.in_default-index.not-Open c.in_default-index.not-Loose
+          (sym e ∙ ap (slot_at h.now) (number_of c.in-Ref.i i is) ∙ empty));
       valid = r.valid;
     }
 

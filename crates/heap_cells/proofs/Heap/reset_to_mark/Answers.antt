@@ -6,7 +6,7 @@ use Rattle.heap_cells.specs.declared.Saved.{Saved}
 use Rattle.heap_cells.specs.Cells.{Heaps}
 use Rattle.heap_cells.specs.HeapFields.{restored, heaps_of, AreSound}
 use Rattle.heap_cells.proofs.Resetting.{newest_is, reset_sound, reset_back, reset_below}
-use Rattle.heap_cells.proofs.Undoing.{trail_long, by_fields}
+use Rattle.heap_cells.proofs.HeapUndo.{trail_long, by_fields}
 use Rattle.heap_cells.proofs.Heap.reset_to_mark.Goals as goal
 
 pub restore-requires : goal.restore-requires
@@ -21,7 +21,9 @@ marks_are c = newest_is c.deref.result.now c.self.inside.marks.items c.in-Some.m
 
 -- what holds of the fields of the heap below holds of the fields that are left
 by_left : (c : goal.After-truncate-in-Some-2) (F : List Variable → List Cell → List Structure → List Saved → Type 0)
-    → F (take c.in-Some.m.variables (restored (drop c.in-Some.m.trail c.self.inside.trail.items) c.self.inside.variables.items)) (take c.in-Some.m.args c.self.inside.args.items) (take c.in-Some.m.structures c.self.inside.structures.items) (take c.in-Some.m.trail c.self.inside.trail.items)
+    → F (take c.in-Some.m.variables (restored (drop c.in-Some.m.trail c.self.inside.trail.items) c.self.inside.variables.items))
+    (take c.in-Some.m.args c.self.inside.args.items) (take c.in-Some.m.structures c.self.inside.structures.items)
+    (take c.in-Some.m.trail c.self.inside.trail.items)
     → F c.truncate.new.self.items c.truncate-in-Some.new.self.items c.truncate-in-Some-2.new.self.items c.restore.new.trail.items
 by_left c F =
     let f = c.self.inside in

@@ -1,6 +1,6 @@
 use Rattle.std.proofs.Common.{ℕ, ◌<◌, get_or}
 use Rattle.wam_code.specs.declared.instruction.Code.{Code}
-use Rattle.listing_reader.specs.Fits.{IsSmallCode}
+use Rattle.listing_reader.specs.NumberBounds.{IsSmallCode}
 use Rattle.held_code.proofs.code.hold_code.Given as goal
 
 abbrev pub invariant-loop-code : goal.invariant-loop-code

@@ -1,6 +1,6 @@
 use Rattle.std.proofs.Common.{ℕ, ◌<◌, get_or}
 use Rattle.wam_code.specs.declared.parts.Entry.{Entry}
-use Rattle.listing_reader.specs.Fits.{IsSmallEntry}
+use Rattle.listing_reader.specs.NumberBounds.{IsSmallEntry}
 use Rattle.held_code.proofs.code.hold_entries.Given as goal
 
 abbrev pub invariant-loop-entry : goal.invariant-loop-entry

@@ -1,6 +1,6 @@
 use Rattle.std.proofs.Common.{ℕ, ◌<◌, get_or}
 use Rattle.wam_code.specs.declared.instruction.Key.{Key}
-use Rattle.listing_reader.specs.Fits.{IsSmallKey, IsNumber}
+use Rattle.listing_reader.specs.NumberBounds.{IsSmallKey, IsNumber}
 use Rattle.held_code.proofs.code.hold_table.Given as goal
 
 abbrev pub invariant-loop-row : goal.invariant-loop-row

@@ -1,6 +1,6 @@
 use Rattle.std.proofs.Common.{All, arith}
 use Rattle.std.proofs.lemmas.List.Elements.{All-map}
-use Rattle.listing_reader.specs.Fits.{IsSmallKey, IsNumber}
+use Rattle.listing_reader.specs.NumberBounds.{IsSmallKey, IsNumber}
 use Rattle.held_code.proofs.code.hold_tables.Goals as goal
 
 pub returns : goal.returns

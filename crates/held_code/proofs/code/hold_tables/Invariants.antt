@@ -1,5 +1,5 @@
 use Rattle.std.proofs.Common.{ℕ, ◌<◌, get_or, All}
-use Rattle.listing_reader.specs.Fits.{IsSmallKey, IsNumber}
+use Rattle.listing_reader.specs.NumberBounds.{IsSmallKey, IsNumber}
 use Rattle.held_code.proofs.code.hold_tables.Given as goal
 
 abbrev pub invariant-loop-index : goal.invariant-loop-index

@@ -1,11 +1,11 @@
 use Rattle.std.proofs.Common.{◌<◌, All, map, arith, IsTrue, length, subst}
 use Rattle.std.proofs.lemmas.List.Elements.{All-map}
 use Rattle.fd_language.specs.declared.TheConstants.{INFINITY}
-use Rattle.fd_language.specs.Flat.{nodes_of}
+use Rattle.fd_language.specs.PostfixRanges.{nodes_of}
 use Rattle.fd_language.specs.RangeVerdict.{is_accepted}
 use Rattle.range_code.specs.Slots.{in_slots}
-use Rattle.listing_reader.specs.Fits.{HasSize}
-use Rattle.held_code.proofs.EachOne.{one_more}
+use Rattle.listing_reader.specs.NumberBounds.{HasSize}
+use Rattle.held_code.proofs.ListItems.{one_more}
 use Rattle.held_code.proofs.ranges.hold_ranges.Goals as goal
 
 pub loop-index-preserved : goal.loop-index-preserved
@@ -15,8 +15,10 @@ loop-index-preserved c =
     let within : i < length ranges = omega arith in
     let x = c.index-ranges-index.result in
     record {
-      nodes = one_more (λ r. All HasSize (nodes_of (in_slots r.value))) ranges i x within c.index-ranges-index.is c.loop-index.invariant.nodes (subst (λ r. All HasSize (nodes_of (in_slots r))) c.deref.ensures c.hold_range.ensures.nodes);
-      accepted = one_more (λ r. IsTrue (is_accepted INFINITY r.value)) ranges i x within c.index-ranges-index.is c.loop-index.invariant.accepted (subst (λ r. IsTrue (is_accepted INFINITY r)) c.deref.ensures c.hold_range.ensures.accepted);
+      nodes = one_more (λ r. All HasSize (nodes_of (in_slots r.value))) ranges i x within c.index-ranges-index.is c.loop-index.invariant.nodes
+          (subst (λ r. All HasSize (nodes_of (in_slots r))) c.deref.ensures c.hold_range.ensures.nodes);
+      accepted = one_more (λ r. IsTrue (is_accepted INFINITY r.value)) ranges i x within c.index-ranges-index.is c.loop-index.invariant.accepted
+          (subst (λ r. IsTrue (is_accepted INFINITY r)) c.deref.ensures c.hold_range.ensures.accepted);
     }
 
 pub returns-clause-nodes : goal.returns-clause-nodes

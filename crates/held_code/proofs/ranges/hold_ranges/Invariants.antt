@@ -1,9 +1,9 @@
 use Rattle.std.proofs.Common.{ℕ, ◌<◌, get_or, All, IsTrue}
 use Rattle.fd_language.specs.declared.TheConstants.{INFINITY}
-use Rattle.fd_language.specs.Flat.{nodes_of}
+use Rattle.fd_language.specs.PostfixRanges.{nodes_of}
 use Rattle.fd_language.specs.RangeVerdict.{is_accepted}
 use Rattle.range_code.specs.Slots.{in_slots}
-use Rattle.listing_reader.specs.Fits.{HasSize}
+use Rattle.listing_reader.specs.NumberBounds.{HasSize}
 use Rattle.held_code.proofs.ranges.hold_ranges.Given as goal
 
 abbrev pub invariant-loop-index : goal.invariant-loop-index

@@ -1,5 +1,5 @@
 use Rattle.std.proofs.Common.{ℕ, ◌<◌, get_or}
-use Rattle.listing_reader.specs.Fits.{IsNumber}
+use Rattle.listing_reader.specs.NumberBounds.{IsNumber}
 use Rattle.held_code.proofs.states.hold_registers.Given as goal
 
 abbrev pub invariant-loop-number : goal.invariant-loop-number

@@ -1,7 +1,7 @@
 use Rattle.std.proofs.Common.{arith}
 use Rattle.std.proofs.lemmas.List.Elements.{All-map}
 use Rattle.code_listing.specs.States.{state_of}
-use Rattle.listing_reader.specs.Fits.{IsSmallState}
+use Rattle.listing_reader.specs.NumberBounds.{IsSmallState}
 use Rattle.held_code.proofs.states.hold_states.Goals as goal
 
 pub returns : goal.returns

@@ -8,7 +8,8 @@ use Rattle.linear_forms.proofs.sums.add_terms.Goals as goal
 
 pub loop-variable-init : goal.loop-variable-init
 loop-variable-init c = subst (λ (es : List (ℕ × Share)). Adding c.args.terms.now.entries c.args.other.now.entries c.args.terms.now.entries es)
-    (sym (c.into_iter-variable-iterator.ensures.into_iter_gives ∙ c.iter-variable-items.ensures.rest)) (adding_starts c.args.terms.now.entries c.args.other.now.entries c.iter-variable-items.ensures.unique)
+    (sym (c.into_iter-variable-iterator.ensures.into_iter_gives ∙ c.iter-variable-items.ensures.rest))
+    (adding_starts c.args.terms.now.entries c.args.other.now.entries c.iter-variable-items.ensures.unique)
 
 pub returns-in_default-clause-added : goal.returns-in_default-clause-added
 returns-in_default-clause-added c =

@@ -2,7 +2,7 @@ use Rattle.std.proofs.Common.{ap, ◌∙◌, sym, ◌*ℤ◌}
 use Rattle.std.specs.Int.{w64}
 use Rattle.std.proofs.lemmas.Int.{to_z-of_z}
 use Rattle.fd_model.specs.Linear.{in_integers}
-use Rattle.linear_forms.proofs.Alone.{integer_kept, integer_over}
+use Rattle.linear_forms.proofs.SingleTerms.{integer_kept, integer_over}
 use Rattle.linear_forms.proofs.Words.{passed_product, passed_sign, sign_fits}
 use Rattle.linear_forms.proofs.sums.constant_alone.Goals as goal
 

@@ -1,4 +1,4 @@
-use Rattle.linear_forms.proofs.Joining.{sum_front, sum_back}
+use Rattle.linear_forms.proofs.SumArithmetic.{sum_front, sum_back}
 use Rattle.linear_forms.proofs.sums.plus.Goals as goal
 
 pub returns-then-len : goal.returns-then-len

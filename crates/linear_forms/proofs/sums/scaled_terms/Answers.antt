@@ -15,14 +15,16 @@ factor_of k = to_z w64 (of_z w64 k)
 
 pub loop-variable-init : goal.loop-variable-init
 loop-variable-init c =
-    subst (λ (es : List (ℕ × Share)). Scaling (factor_of c.args.factor) c.args.terms.now.entries c.in_ok-scaled.scaled.entries es) (sym (c.into_iter-variable-iterator.ensures.into_iter_gives ∙ c.iter-variable-items.ensures.rest))
+    subst (λ (es : List (ℕ × Share)). Scaling (factor_of c.args.factor) c.args.terms.now.entries c.in_ok-scaled.scaled.entries es)
+    (sym (c.into_iter-variable-iterator.ensures.into_iter_gives ∙ c.iter-variable-items.ensures.rest))
     (scaling_starts (factor_of c.args.factor) c.args.terms.now.entries c.in_ok-scaled.scaled.entries c.iter-variable-items.ensures.unique c.in_ok-scaled.ensures.empty c.in_ok-scaled.ensures.unique)
 
 pub returns-in_default : goal.returns-in_default
 returns-in_default c =
     let e : ℕ × Share = (c.in-Some.variable.now, c.in-Some.share.now) in
     let left = rest_more deref_pair c.loop-variable.variable-iterator c.next.new.self c.next.result (c.in-Some.variable, c.in-Some.share) c.in-Some.is c.next.ensures.steps in
-    subst (λ (k : ℤ). ScalesOver k c.args.terms.now.entries) (to_z-of_z w64 c.args.factor c.ranges.factor) (scaled_over (factor_of c.args.factor) c.args.terms.now.entries c.loop-variable.scaled.entries c.next.new.self e
+    subst (λ (k : ℤ). ScalesOver k c.args.terms.now.entries) (to_z-of_z w64 c.args.factor c.ranges.factor)
+    (scaled_over (factor_of c.args.factor) c.args.terms.now.entries c.loop-variable.scaled.entries c.next.new.self e
     (subst (λ (es : List (ℕ × Share)). Scaling (factor_of c.args.factor) c.args.terms.now.entries c.loop-variable.scaled.entries es) left c.loop-variable.invariant) c.in_default.ensures)
 
 pub loop-variable-preserved : goal.loop-variable-preserved
@@ -36,5 +38,6 @@ loop-variable-preserved c =
 pub returns : goal.returns
 returns c =
     let left = rest_all deref_pair c.loop-variable.variable-iterator c.next.new.self c.next.result c.in-None.is c.next.ensures.steps in
-    subst (λ (k : ℤ). Scales k c.args.terms.now.entries c.loop-variable.scaled.entries) (to_z-of_z w64 c.args.factor c.ranges.factor) (scaling_ends (factor_of c.args.factor) c.args.terms.now.entries c.loop-variable.scaled.entries
+    subst (λ (k : ℤ). Scales k c.args.terms.now.entries c.loop-variable.scaled.entries) (to_z-of_z w64 c.args.factor c.ranges.factor)
+    (scaling_ends (factor_of c.args.factor) c.args.terms.now.entries c.loop-variable.scaled.entries
     (subst (λ (es : List (ℕ × Share)). Scaling (factor_of c.args.factor) c.args.terms.now.entries c.loop-variable.scaled.entries es) left c.loop-variable.invariant))

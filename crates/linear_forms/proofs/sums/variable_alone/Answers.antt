@@ -1,6 +1,6 @@
 use Rattle.std.proofs.Common.{refl, ◌∙◌, nat_eq}
 use Rattle.indexmap.specs.IndexMap.{insert_entry}
-use Rattle.linear_forms.proofs.Alone.{variable_kept}
+use Rattle.linear_forms.proofs.SingleTerms.{variable_kept}
 use Rattle.linear_forms.proofs.Words.{passed_sign}
 use Rattle.linear_forms.proofs.sums.variable_alone.Goals as goal
 

@@ -15,7 +15,9 @@ use Rattle.linear_forms.proofs.Stacks.{only_sum, no_sum}
 use Rattle.linear_forms.proofs.walk.collect_difference.Goals as goal
 
 pub loop-task-init : goal.loop-task-init
-loop-task-init c = starts c.args.pool.now c.args.left c.args.right (record { sums = c.new.result; met = 0 }) c.extend_from_slice.new.self.items (c.in_ok-extend_from_slice.ensures.items ∙ ap (λ (ts : List Task). ts ++ task.Add ∷ task.Collect c.args.right true ∷ task.Collect c.args.left false ∷ []) c.new-ahead.ensures.items) c.new.ensures.items refl c.requires.left c.requires.right
+loop-task-init c = starts c.args.pool.now c.args.left c.args.right (record { sums = c.new.result; met = 0 }) c.extend_from_slice.new.self.items
+    (c.in_ok-extend_from_slice.ensures.items ∙ ap (λ (ts : List Task). ts ++ task.Add ∷ task.Collect c.args.right true ∷ task.Collect c.args.left false ∷ [])
+    c.new-ahead.ensures.items) c.new.ensures.items refl c.requires.left c.requires.right
 
 pub loop-task-smaller : goal.loop-task-smaller
 loop-task-smaller c =

@@ -7,7 +7,8 @@ use Rattle.wam_code.specs.Keys.{IsBelow, Rises}
 use Rattle.listing_loader.proofs.counts.rises.Goals as goal
 
 -- the rows that the loop compares are neighbours
-neighbours : (table : Table) (i : ℕ) (d e : Key × ℕ) → IsBelow (get_or table (i - 1) d).0 (get_or table i e).0 → (k : ℕ) (x y : Key × ℕ) → suc k ≡ i → slice_get table k ≡ Some x → slice_get table (suc k) ≡ Some y → IsBelow x.0 y.0
+neighbours : (table : Table) (i : ℕ) (d e : Key × ℕ) → IsBelow (get_or table (i - 1) d).0 (get_or table i e).0 → (k : ℕ) (x y : Key × ℕ) → suc k ≡ i
+    → slice_get table k ≡ Some x → slice_get table (suc k) ≡ Some y → IsBelow x.0 y.0
 neighbours table i d e b k x y is fx fy =
     let p : i - 1 ≡ k = omega (arith, is) in
     let ex : get_or table (i - 1) d ≡ x = ap (λ n. get_or table n d) p ∙ get_or_from_slice_get table k x d fx in
@@ -17,7 +18,8 @@ neighbours table i d e b k x y is fx fy =
 below_next : (table : Table) (i : ℕ) (d e : Key × ℕ) → 1 ≤ i → i < length table → Rises table → IsBelow (get_or table (i - 1) d).0 (get_or table i e).0
 below_next table i d e low high r =
     let is : suc (i - 1) ≡ i = omega (arith, low) in
-    r (i - 1) (get_or table (i - 1) d) (get_or table i e) (slice_get-get_or table (i - 1) d (omega (arith, high))) (subst (λ n. slice_get table n ≡ Some (get_or table i e)) (sym is) (slice_get-get_or table i e high))
+    r (i - 1) (get_or table (i - 1) d) (get_or table i e) (slice_get-get_or table (i - 1) d (omega (arith, high)))
+    (subst (λ n. slice_get table n ≡ Some (get_or table i e)) (sym is) (slice_get-get_or table i e high))
 
 pub loop-i-preserved : goal.loop-i-preserved
 loop-i-preserved c = λ k x y low fx fy.

@@ -1,4 +1,4 @@
-use Rattle.listing_loader.proofs.Refusing.{one_answer}
+use Rattle.listing_loader.proofs.UniqueFaults.{one_answer}
 use Rattle.listing_loader.proofs.laws.one_answer.Goals as goal
 
 pub returns : goal.returns

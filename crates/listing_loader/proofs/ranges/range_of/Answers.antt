@@ -1,5 +1,5 @@
 use Rattle.std.proofs.Common.{◌∙◌}
-use Rattle.listing_loader.proofs.Posting.{of_nodes}
+use Rattle.listing_loader.proofs.ReadyRanges.{of_nodes}
 use Rattle.listing_loader.proofs.ranges.range_of.Goals as goal
 
 pub returns-in-Some : goal.returns-in-Some

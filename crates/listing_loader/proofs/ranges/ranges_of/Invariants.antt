@@ -1,6 +1,6 @@
 use Rattle.std.proofs.Common.{◌≡◌, ℕ, ◌<◌, List, map, take, Some, slice_get}
 use Rattle.fd_language.specs.declared.range_node.RangeNode.{RangeNode}
-use Rattle.fd_language.specs.Flat.{spelled_range}
+use Rattle.fd_language.specs.PostfixRanges.{spelled_range}
 use Rattle.listing_reader.specs.Sheets.{sheet_in}
 use Rattle.listing_loader.specs.Marks.{IsGoodRange}
 use Rattle.listing_loader.proofs.ranges.ranges_of.Given as goal

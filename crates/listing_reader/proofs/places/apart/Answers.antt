@@ -8,10 +8,10 @@ use Rattle.code_listing.specs.States.{state_of, states_of}
 use Rattle.listing_reader.specs.declared.places.Place.{Place}
 use Rattle.listing_reader.specs.declared.places.Parts.{Parts}
 use Rattle.listing_reader.specs.Lists.{Placed}
-use Rattle.listing_reader.specs.Numbering.{codes_of, numbered, states_in, tables_of, tables_with}
+use Rattle.listing_reader.specs.TableNumbers.{codes_of, numbered, states_in, tables_of, tables_with}
 use Rattle.listing_reader.specs.Places.{AreParts, place_in}
-use Rattle.listing_reader.proofs.Alike.{map_join}
-use Rattle.listing_reader.proofs.Numberings.{codes_next, states_next, tables_next}
+use Rattle.listing_reader.proofs.LinePrefixes.{map_join}
+use Rattle.listing_reader.proofs.TableNumbers.{codes_next, states_next, tables_next}
 use Rattle.listing_reader.proofs.places.apart.Goals as goal
 
 pub loop-place-preserved : goal.loop-place-preserved
@@ -21,14 +21,17 @@ loop-place-preserved c =
     let inv = c.loop-place.invariant in
     let more : map place_in (c.loop-place.yielded ++ p ∷ []) ≡ ps ++ place_in p ∷ [] = map_join place_in c.loop-place.yielded (p ∷ []) in
     record {
-      states = ap states_of c.in_ok-push.ensures.items ∙ map_join state_of c.loop-place.states.items (p.state ∷ []) ∙ states_next ps (place_in p) (states_of c.loop-place.states.items) inv.states ∙ ap states_in (sym more);
-      code = c.in_ok-push-2.ensures.items ∙ codes_next (λ t. t.items) ps (place_in p) c.loop-place.code.items c.loop-place.tables.items c.in_ok-instruction.instruction inv.code inv.tables c.in_ok-instruction.ensures.code ∙ ap (codes_of 0) (sym more);
+      states = ap states_of c.in_ok-push.ensures.items ∙ map_join state_of c.loop-place.states.items (p.state ∷ [])
+          ∙ states_next ps (place_in p) (states_of c.loop-place.states.items) inv.states ∙ ap states_in (sym more);
+      code = c.in_ok-push-2.ensures.items ∙ codes_next (λ t. t.items) ps (place_in p) c.loop-place.code.items c.loop-place.tables.items
+          c.in_ok-instruction.instruction inv.code inv.tables c.in_ok-instruction.ensures.code ∙ ap (codes_of 0) (sym more);
       tables = c.in_ok-instruction.ensures.tables ∙ tables_next ps (place_in p) (map (λ t. t.items) c.loop-place.tables.items) inv.tables ∙ ap tables_of (sym more);
     }
 
 pub returns : goal.returns
 returns c =
-    let all = YieldsList-end (YieldsList-from_vec {s = c.into_iter-place-iterator.result} c.args.places.items (search rules) (search rules)) c.loop-place.yielded c.loop-place.place-iterator c.loop-place.yielded_by c.next.result c.next.new.self c.in-None.is c.next.ensures.steps in
+    let all = YieldsList-end (YieldsList-from_vec {s = c.into_iter-place-iterator.result} c.args.places.items (search rules) (search rules))
+    c.loop-place.yielded c.loop-place.place-iterator c.loop-place.yielded_by c.next.result c.next.new.self c.in-None.is c.next.ensures.steps in
     let whole : c.loop-place.yielded ≡ c.args.places.items = sym (map-id c.loop-place.yielded) ∙ all.0 in
     let inv = c.loop-place.invariant in
     record {

@@ -1,6 +1,6 @@
 use Rattle.std.proofs.Common.{◌≡◌, map}
 use Rattle.code_listing.specs.States.{states_of}
-use Rattle.listing_reader.specs.Numbering.{codes_of, states_in, tables_of}
+use Rattle.listing_reader.specs.TableNumbers.{codes_of, states_in, tables_of}
 use Rattle.listing_reader.specs.Places.{place_in}
 use Rattle.listing_reader.proofs.places.apart.Given as goal
 

@@ -1,17 +1,19 @@
-use Rattle.std.proofs.Common.{rules, ◌≡◌, ◌∙◌, ◌⊎◌, inl, inr, ◌+◌, ◌-◌, ◌<◌, ◌≤◌, suc, Bor, Global, Vec, List, [], ◌++◌, ℕ, All, ap, codes, drop, length, map, refl, string_bytes, subst, sym, take, arith}
+use Rattle.std.proofs.Common.{rules, ◌≡◌, ◌∙◌, ◌⊎◌, inl, inr, ◌+◌, ◌-◌, ◌<◌, ◌≤◌, suc, Bor, Global, Vec, List, [], ◌++◌, ℕ, All, ap, codes, drop, length, map}
+use Rattle.std.proofs.Common.{refl, string_bytes, subst, sym, take, arith}
 use Rattle.std.specs.Str.{IsUtf8}
 use Rattle.std.proofs.lemmas.List.{length-map}
-use Rattle.fd_language.specs.Writing.{Quoted, atom_text}
+use Rattle.fd_language.specs.TermTexts.{Quoted, atom_text}
 use Rattle.fd_language.specs.declared.range_node.RangeNode.{RangeNode}
 use Rattle.wam_code.specs.Area.{span_of}
 use Rattle.code_listing.specs.Listing.{counted}
 use Rattle.code_listing.specs.Texts.{entry_text, nodes_text, span_text}
-use Rattle.listing_reader.specs.Fits.{HasSize, IsSmallEntry, IsSmallSpan}
+use Rattle.listing_reader.specs.NumberBounds.{HasSize, IsSmallEntry, IsSmallSpan}
 use Rattle.listing_reader.specs.Lists.{FitsPlace, placed_text}
 use Rattle.listing_reader.specs.Places.{place_in}
 use Rattle.listing_reader.specs.Sections.{FromAtoms, FromEntries, FromQueries, FromRanges, IsPlaces, TellsEntries, TellsPlaces, TellsQueries, TellsRanges}
-use Rattle.listing_reader.specs.Told.{TellsBehind, places_in}
-use Rattle.listing_reader.proofs.SectionLoops.{empty_entries, empty_places, empty_queries, empty_ranges, left_behind, left_end, left_first, left_head, left_last, left_then, section_long, told_end, told_then}
+use Rattle.listing_reader.specs.LineContents.{TellsBehind, places_in}
+use Rattle.listing_reader.proofs.SectionLoops.{empty_entries, empty_places, empty_queries, empty_ranges, left_behind, left_end, left_first, left_head}
+use Rattle.listing_reader.proofs.SectionLoops.{left_last, left_then, section_long, told_end, told_then}
 use Rattle.listing_reader.proofs.read.from_atoms.Goals as goal
 
 abbrev now : Bor (List ℕ) → List ℕ
@@ -19,17 +21,23 @@ now w = w.now
 
 pub returns-in_err-atoms-clause-fault : goal.returns-in_err-atoms-clause-fault
 returns-in_err-atoms-clause-fault c =
-    let h = left_first (codes "atoms") IsUtf8 (atom_text Quoted) FromRanges (counted (codes "ranges") [] ++ (counted (codes "entries") [] ++ (counted (codes "queries") [] ++ counted (codes "code") []))) empty_ranges (map now c.args.lines.now) c.args.rest.now c.args.at c.in_err-atoms.field-0.0 c.in_err-atoms.ensures.fault in search rules
+    let h = left_first (codes "atoms") IsUtf8 (atom_text Quoted) FromRanges
+    (counted (codes "ranges") [] ++ (counted (codes "entries") [] ++ (counted (codes "queries") [] ++ counted (codes "code") []))) empty_ranges
+    (map now c.args.lines.now) c.args.rest.now c.args.at c.in_err-atoms.field-0.0 c.in_err-atoms.ensures.fault in search rules
 
 pub returns-in_err-behind-clause-fault : goal.returns-in_err-behind-clause-fault
 returns-in_err-behind-clause-fault c =
     let l : c.len-size.result ≡ length c.in_ok-atoms.atoms.items = search rules in
     let size : c.len-size.result + 1 ≡ suc (length (map string_bytes c.in_ok-atoms.atoms.items)) = (let m = length-map c.in_ok-atoms.atoms.items string_bytes in omega (arith, m, l)) in
-    let h = left_then now (codes "atoms") IsUtf8 (atom_text Quoted) c.args.lines.now (map string_bytes c.in_ok-atoms.atoms.items) c.in_ok-atoms.ensures.told FromRanges c.args.rest.now (c.len-size.result + 1) c.args.at size c.in_err-behind.field-0.0 c.in_err-behind.ensures.fault in search rules
+    let h = left_then now (codes "atoms") IsUtf8 (atom_text Quoted) c.args.lines.now (map string_bytes c.in_ok-atoms.atoms.items) c.in_ok-atoms.ensures.told
+    FromRanges c.args.rest.now (c.len-size.result + 1) c.args.at size c.in_err-behind.field-0.0 c.in_err-behind.ensures.fault in search rules
 
 pub returns-clause-told : goal.returns-clause-told
 returns-clause-told c =
     let l : c.len-size.result ≡ length c.in_ok-atoms.atoms.items = search rules in
     let size : c.len-size.result + 1 ≡ suc (length (map string_bytes c.in_ok-atoms.atoms.items)) = (let m = length-map c.in_ok-atoms.atoms.items string_bytes in omega (arith, m, l)) in
-    let t = c.in_ok-behind.ensures.told in
-    (told_then now (codes "atoms") IsUtf8 (atom_text Quoted) c.args.lines.now (map string_bytes c.in_ok-atoms.atoms.items) c.in_ok-atoms.ensures.told (TellsBehind c.in_ok-behind.behind) (c.len-size.result + 1) size t.0, t.1)
+    let t = c.in_ok-behind.ensures.told in (
+      told_then now (codes "atoms") IsUtf8 (atom_text Quoted) c.args.lines.now (map string_bytes c.in_ok-atoms.atoms.items) c.in_ok-atoms.ensures.told
+          (TellsBehind c.in_ok-behind.behind) (c.len-size.result + 1) size t.0,
+      t.1,
+    )

@@ -1,4 +1,4 @@
-use Rattle.listing_reader.proofs.Chain.{one_sheet}
+use Rattle.listing_reader.proofs.SheetLines.{one_sheet}
 use Rattle.listing_reader.proofs.read.one_sheet.Goals as goal
 
 pub returns : goal.returns

@@ -12,7 +12,8 @@ pub loop-kind-preserved : goal.loop-kind-preserved
 loop-kind-preserved c =
     let differs : bytes_eq c.constraint_text.result.now c.args.word.now ≡ false = search rules in
     let low : c.loop-kind.kind-index < 13 = omega arith in
-    none_more constraint_spelled all_constraints c.args.word.now c.loop-kind.kind-index _ low c.loop-kind.invariant (ap (λ (t : List ℕ). bytes_eq t c.args.word.now) (sym c.constraint_text.ensures) ∙ differs)
+    none_more constraint_spelled all_constraints c.args.word.now c.loop-kind.kind-index _ low c.loop-kind.invariant
+    (ap (λ (t : List ℕ). bytes_eq t c.args.word.now) (sym c.constraint_text.ensures) ∙ differs)
 
 pub returns : goal.returns
 returns c =

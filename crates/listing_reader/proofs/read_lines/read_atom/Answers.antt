@@ -1,6 +1,6 @@
 use Rattle.std.proofs.Common.{rules, ◌≡◌, false, string_bytes, subst}
 use Rattle.std.specs.Str.{IsUtf8, bytes_eq}
-use Rattle.fd_language.specs.Writing.{Quoted, atom_text}
+use Rattle.fd_language.specs.TermTexts.{Quoted, atom_text}
 use Rattle.listing_reader.specs.Atoms.{written_name}
 use Rattle.listing_reader.proofs.AtomLines.{atom_none, text_utf8}
 use Rattle.listing_reader.proofs.Loops.{match_none, match_some}

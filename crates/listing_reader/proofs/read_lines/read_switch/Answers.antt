@@ -1,6 +1,6 @@
 use Rattle.std.proofs.Common.{◌≡◌, All, Bor, List, ℕ, map, refl}
 use Rattle.code_listing.specs.Texts.{row_word}
-use Rattle.listing_reader.specs.declared.forms.Form.TheVariants as form
+use Rattle.listing_reader.specs.declared.forms.Operation.TheVariants as form
 use Rattle.listing_reader.specs.Lists.{FitsRow, rows_words}
 use Rattle.listing_reader.proofs.Instructions.{switch_none, switch_some}
 use Rattle.listing_reader.proofs.Loops.{reads_none, reads_some}

@@ -1,9 +1,9 @@
 use Rattle.std.proofs.Common.{rules, true, false, ◌≡◌, ◌∙◌, ◌++◌, [], ◌∷◌, All, Bor, List, ℕ, ap, append_assoc, drop, length, map, refl, subst, sym, arith}
 use Rattle.std.proofs.lemmas.List.{append-nil}
 use Rattle.fd_language.specs.declared.range_node.RangeNode.{RangeNode}
-use Rattle.listing_reader.specs.Fits.{HasSize}
+use Rattle.listing_reader.specs.NumberBounds.{HasSize}
 use Rattle.listing_reader.specs.Nodes.{node_words, nodes_words}
-use Rattle.listing_reader.proofs.Alike.{all_join, all_more, all_none}
+use Rattle.listing_reader.proofs.LinePrefixes.{all_join, all_more, all_none}
 use Rattle.listing_reader.proofs.Loops.{from_not, from_not_false, none_rest, rest_is, rest_shorter, some_rest}
 use Rattle.listing_reader.proofs.NodeWords.{CanFollow, follow_next, follow_none, nodes_more}
 use Rattle.listing_reader.proofs.read_nodes.read_nodes.Goals as goal

@@ -1,6 +1,6 @@
 use Rattle.std.proofs.Common.{◌≡◌, ◌++◌, All, List, length, map}
 use Rattle.fd_language.specs.declared.range_node.RangeNode.{RangeNode}
-use Rattle.listing_reader.specs.Fits.{HasSize}
+use Rattle.listing_reader.specs.NumberBounds.{HasSize}
 use Rattle.listing_reader.specs.Nodes.{nodes_words}
 use Rattle.listing_reader.proofs.NodeWords.{CanFollow}
 use Rattle.listing_reader.proofs.read_nodes.read_nodes.Given as goal

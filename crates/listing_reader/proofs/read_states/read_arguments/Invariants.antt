@@ -1,6 +1,6 @@
 use Rattle.std.proofs.Common.{◌≡◌, All, map, take}
 use Rattle.code_listing.specs.Texts.{argument_word}
-use Rattle.listing_reader.specs.Fits.{IsNumber}
+use Rattle.listing_reader.specs.NumberBounds.{IsNumber}
 use Rattle.listing_reader.proofs.read_states.read_arguments.Given as goal
 
 abbrev pub invariant-loop-word : goal.invariant-loop-word

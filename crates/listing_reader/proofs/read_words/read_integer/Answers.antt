@@ -1,7 +1,7 @@
 use Rattle.std.proofs.Common.{rules, ◌≡◌, false}
 use Rattle.std.specs.Fmt.{signed_decimal}
 use Rattle.std.specs.Str.{bytes_eq}
-use Rattle.listing_reader.proofs.Parsing.{no_signed_text, no_integer, no_signed_spelling}
+use Rattle.listing_reader.proofs.NumberWords.{no_signed_text, no_integer, no_signed_spelling}
 use Rattle.listing_reader.proofs.read_words.read_integer.Goals as goal
 
 pub returns-in_default : goal.returns-in_default

@@ -1,6 +1,6 @@
 use Rattle.std.proofs.Common.{rules, ◌≡◌, false, decimal}
 use Rattle.std.specs.Str.{bytes_eq}
-use Rattle.listing_reader.proofs.Parsing.{no_text, no_number, no_spelling}
+use Rattle.listing_reader.proofs.NumberWords.{no_text, no_number, no_spelling}
 use Rattle.listing_reader.proofs.read_words.read_number.Goals as goal
 
 pub returns-in_default : goal.returns-in_default

@@ -1,11 +1,11 @@
 use Rattle.std.proofs.Common.{◌≡◌, ◌∷◌, ◌++◌, All, codes, length, map, string_bytes}
 use Rattle.std.specs.Str.{IsUtf8}
-use Rattle.fd_language.specs.Writing.{Quoted, atom_text}
+use Rattle.fd_language.specs.TermTexts.{Quoted, atom_text}
 use Rattle.fd_language.specs.declared.range_node.RangeNode.{RangeNode}
 use Rattle.wam_code.specs.declared.parts.Entry.{Entry}
 use Rattle.wam_code.specs.Area.{span_of}
 use Rattle.code_listing.specs.Texts.{entry_text, nodes_text, span_text}
-use Rattle.listing_reader.specs.Fits.{HasSize, IsSmallEntry, IsSmallSpan}
+use Rattle.listing_reader.specs.NumberBounds.{HasSize, IsSmallEntry, IsSmallSpan}
 use Rattle.listing_reader.specs.Lines.{header}
 use Rattle.listing_reader.specs.Lists.{FitsPlace, placed_text}
 use Rattle.listing_reader.specs.Places.{place_in}

@@ -15,7 +15,8 @@ loop-at-preserved c =
     let rest = c.loop-at.rest.now in
     let at = c.in-Some.at in
     record {
-      parts = part_more (λ (w : Bor (List ℕ)). w.now) c.args.separator c.args.text.now rest (take (length rest - (at + 1)) (drop (at + 1) rest)) (take at rest) c.loop-at.found.items c.push.new.self.items _ c.in_ok-push.ensures.items refl
+      parts = part_more (λ (w : Bor (List ℕ)). w.now) c.args.separator c.args.text.now rest (take (length rest - (at + 1)) (drop (at + 1) rest)) (take at rest)
+          c.loop-at.found.items c.push.new.self.items _ c.in_ok-push.ensures.items refl
           (split_here c.args.separator rest at m.0.high m.0.before m.1) c.loop-at.invariant.parts;
       shorter = (let a = tail_short (length rest - (at + 1)) (at + 1) rest in let b = c.loop-at.invariant.shorter in omega (arith, a, b));
     }

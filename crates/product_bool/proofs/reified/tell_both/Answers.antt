@@ -1,7 +1,7 @@
 use Rattle.std.specs.Int.{w64}
 use Rattle.std.proofs.lemmas.Int.{to_z-of_z}
-use Rattle.linear_forms.specs.Form.{form_of}
-use Rattle.product_bool.proofs.Telling.{turned_normal, turned_far}
+use Rattle.linear_forms.specs.LinearForm.{form_of}
+use Rattle.product_bool.proofs.TellingSums.{turned_normal, turned_far}
 use Rattle.product_bool.proofs.reified.tell_both.Goals as goal
 
 pub tell-requires-2-clause-normal : goal.tell-requires-2-clause-normal

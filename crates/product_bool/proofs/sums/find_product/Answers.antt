@@ -1,4 +1,4 @@
-use Rattle.product_bool.proofs.Telling.{apart_from, apart_turns}
+use Rattle.product_bool.proofs.TellingSums.{apart_from, apart_turns}
 use Rattle.product_bool.proofs.sums.find_product.Goals as goal
 
 pub loop-index-preserved : goal.loop-index-preserved

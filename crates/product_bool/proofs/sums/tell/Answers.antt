@@ -2,10 +2,10 @@ use Rattle.std.proofs.Common.{ap, subst, ◌∙◌, sym, negsuc, to_z, of_z}
 use Rattle.std.specs.Int.{w64}
 use Rattle.std.proofs.lemmas.Int.{to_z-of_z}
 use Rattle.fd_model.specs.Linear.{in_integers, scaled}
-use Rattle.linear_forms.specs.Form.{form_of}
+use Rattle.linear_forms.specs.LinearForm.{form_of}
 use Rattle.linear_forms.proofs.Lemmas.{integer_fits, passed, passed_negation}
 use Rattle.product_bool.specs.Sums.{Adds}
-use Rattle.product_bool.proofs.Adding.{same_sum, one_less, sums_told}
+use Rattle.product_bool.proofs.SumSizes.{same_sum, one_less, sums_told}
 use Rattle.product_bool.proofs.sums.tell.Goals as goal
 
 pub returns : goal.returns
@@ -19,4 +19,7 @@ returns c =
     sums_told c.args.teller c.args.far _ l c.args.sums.now.items c.push.new.self.items c.push-2.new.self.items
     (record { terms = c.in-Some.terms; constant = to_z w64 (of_z w64 c.in-Some-sum.most) })
     (record { terms = c.in_ok-turned.turned; constant = to_z w64 (of_z w64 c.in-Some-sum-2.least) })
-    c.requires.normal c.requires.far far (subst (λ us. Adds us c.args.teller (to_z w64 (of_z w64 c.args.far)) c.in-Some.terms.items) c.deref.ensures.value (rw c.in-Some.is at c.in_ok-terms.ensures)) (passed _ c.in-Some-sum.most (c.in-Some-sum.ensures.0 ∙ most, m)) m (c.in_ok-turned.ensures ∙ ap (scaled (negsuc 0)) c.deref-2.ensures.value) (passed _ c.in-Some-sum-2.least (c.in-Some-sum-2.ensures.0 ∙ least, n)) n c.in_ok-push.ensures.items c.in_ok-push-2.ensures.items
+    c.requires.normal c.requires.far far (subst (λ us. Adds us c.args.teller (to_z w64 (of_z w64 c.args.far)) c.in-Some.terms.items) c.deref.ensures.value
+    (rw c.in-Some.is at c.in_ok-terms.ensures)) (passed _ c.in-Some-sum.most (c.in-Some-sum.ensures.0 ∙ most, m)) m
+    (c.in_ok-turned.ensures ∙ ap (scaled (negsuc 0)) c.deref-2.ensures.value) (passed _ c.in-Some-sum-2.least (c.in-Some-sum-2.ensures.0 ∙ least, n)) n
+    c.in_ok-push.ensures.items c.in_ok-push-2.ensures.items

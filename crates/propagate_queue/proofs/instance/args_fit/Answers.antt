@@ -14,4 +14,7 @@ pub returns-then-needs-args : goal.returns-then-needs-args
 returns-then-needs-args c = ((λ h. absurd (true≢false (sym h))), λ a. absurd (c.if-needs-args.true (args_length c.args.vars c.args.needs.now c.args.args.now a)))
 
 pub returns-then-not-arg_fits : goal.returns-then-not-arg_fits
-returns-then-not-arg_fits c = ((λ h. absurd (true≢false (sym h))), λ a. c.if-not-arg_fits.ensures.1 (arg_at c.args.vars c.fitting.i c.args.needs.now c.args.args.now None (Var 0) a c.fitting-test.true))
+returns-then-not-arg_fits c = (
+  (λ h. absurd (true≢false (sym h))),
+  λ a. c.if-not-arg_fits.ensures.1 (arg_at c.args.vars c.fitting.i c.args.needs.now c.args.args.now None (Var 0) a c.fitting-test.true),
+)

@@ -3,8 +3,8 @@ use Rattle.range_code.specs.Frames.{family_of}
 use Rattle.propagate_queue.specs.Postings.{ranges_of}
 use Rattle.fd_model.specs.Weights.{weights}
 use Rattle.propagate_queue.specs.Queues.{AreQueued, flagged}
-use Rattle.propagate_queue.specs.Running.{IsRunning}
-use Rattle.propagate_queue.proofs.Settling.{total}
+use Rattle.propagate_queue.specs.PropagationInvariant.{IsRunning}
+use Rattle.propagate_queue.proofs.PropagationInvariant.{total}
 use Rattle.propagate_queue.proofs.propagation.propagate.Given as goal
 
 abbrev pub invariant-activating : goal.invariant-activating

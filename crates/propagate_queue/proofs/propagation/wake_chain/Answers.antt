@@ -1,6 +1,6 @@
 use Rattle.std.proofs.Common.{◌<◌, ◌∙◌, true, arith, length}
 use Rattle.std.proofs.lemmas.List.{length-set}
-use Rattle.propagate_queue.proofs.Queueing.{has_room, was_put, woke, awake, in_rest, in_first}
+use Rattle.propagate_queue.proofs.Queues.{has_room, was_put, woke, awake, in_rest, in_first}
 use Rattle.propagate_queue.proofs.propagation.wake_chain.Goals as goal
 
 pub bounds-queued-agent : goal.bounds-queued-agent
@@ -18,7 +18,9 @@ waking-preserved-then-not-queued-agent g c =
     let within : a < length flags = c.waking.invariant.known a (in_first a c.next.new.self c.waking.chain c.in-Some.ensures) in
     record {
       known = λ k h. omega (arith, length-set flags a true, c.waking.invariant.known k (in_rest a k c.next.new.self c.waking.chain c.in-Some.ensures h));
-      queued = was_put flags (g.A.Agenda.agents c.waking.agenda) (g.A.Agenda.agents c.put.new.self) (g.A.Agenda.spare c.waking.agenda) (g.A.Agenda.spare c.put.new.self) a c.waking.invariant.queued within c.if-not-queued-agent.true c.put.ensures.added c.put.ensures.len c.put.ensures.room;
+      queued = was_put flags (g.A.Agenda.agents c.waking.agenda) (g.A.Agenda.agents c.put.new.self) (g.A.Agenda.spare c.waking.agenda)
+          (g.A.Agenda.spare c.put.new.self) a c.waking.invariant.queued within c.if-not-queued-agent.true c.put.ensures.added c.put.ensures.len
+          c.put.ensures.room;
       flags = λ k. woke flags a k c.next.new.self c.waking.chain within c.in-Some.ensures ∙ c.waking.invariant.flags k;
     }
 

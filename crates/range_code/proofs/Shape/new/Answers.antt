@@ -1,8 +1,8 @@
 use Rattle.std.proofs.Common.{◌∙◌, ap, map, refl}
-use Rattle.fd_language.specs.Flat.{nodes_of}
+use Rattle.fd_language.specs.PostfixRanges.{nodes_of}
 use Rattle.fd_language.specs.Needs.{needs}
 use Rattle.range_code.specs.ParameterNeeds.{need_in}
-use Rattle.range_code.proofs.Compiling.{shaped}
+use Rattle.range_code.proofs.CompiledRanges.{shaped}
 use Rattle.range_code.proofs.Shape.new.Goals as goal
 
 pub returns : goal.returns

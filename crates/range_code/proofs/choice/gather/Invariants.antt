@@ -1,5 +1,5 @@
 use Rattle.std.proofs.Common.{◌≡◌}
-use Rattle.range_code.proofs.Choosing.{Gathering}
+use Rattle.range_code.proofs.ChosenMembers.{Gathering}
 use Rattle.range_code.proofs.choice.gather.Given as goal
 
 abbrev pub invariant-loop-pair : goal.invariant-loop-pair

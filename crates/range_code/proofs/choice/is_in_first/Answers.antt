@@ -1,4 +1,4 @@
-use Rattle.range_code.proofs.Choosing.{in_first}
+use Rattle.range_code.proofs.ChosenMembers.{in_first}
 use Rattle.range_code.proofs.choice.is_in_first.Goals as goal
 
 pub returns-in-len1-up : goal.returns-in-len1-up

@@ -1,5 +1,5 @@
 use Rattle.std.proofs.Common.{arith}
-use Rattle.range_code.proofs.Choosing.{only_above, only_below}
+use Rattle.range_code.proofs.ChosenMembers.{only_above, only_below}
 use Rattle.range_code.proofs.choice.is_key.Goals as goal
 
 pub returns-then-only-key : goal.returns-then-only-key

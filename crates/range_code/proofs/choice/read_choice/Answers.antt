@@ -9,7 +9,8 @@ parts-init c = choosing_first c.args.nodes.now c.in-Some.rest.now c.in-Some.firs
     (subst (λ l. IsPairAdded c.in-Some.first l c.add_pair.new.pairs.items) c.new-pairs.ensures.items c.in_ok-add_pair.ensures)
 
 pub parts-preserved : goal.parts-preserved
-parts-preserved c = choosing_more c.args.nodes.now c.parts.rest.now c.in-Some-next_joined.behind.now c.in-Some.first.slot c.in-Some-next_joined.part c.parts.pairs.items c.add_pair-in-Some-next_joined.new.pairs.items c.parts.invariant c.in-Some-next_joined.ensures.part
+parts-preserved c = choosing_more c.args.nodes.now c.parts.rest.now c.in-Some-next_joined.behind.now c.in-Some.first.slot c.in-Some-next_joined.part
+    c.parts.pairs.items c.add_pair-in-Some-next_joined.new.pairs.items c.parts.invariant c.in-Some-next_joined.ensures.part
     (search rules) c.in_ok-add_pair-2.ensures
 
 pub returns : goal.returns

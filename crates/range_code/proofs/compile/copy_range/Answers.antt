@@ -1,4 +1,4 @@
-use Rattle.range_code.proofs.Compiling.{copied}
+use Rattle.range_code.proofs.CompiledRanges.{copied}
 use Rattle.range_code.proofs.compile.copy_range.Goals as goal
 
 pub returns : goal.returns

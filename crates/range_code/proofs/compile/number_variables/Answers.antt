@@ -1,4 +1,4 @@
-use Rattle.range_code.proofs.Compiling.{numbered_more}
+use Rattle.range_code.proofs.CompiledRanges.{numbered_more}
 use Rattle.range_code.proofs.compile.number_variables.Goals as goal
 
 pub loop-node-preserved : goal.loop-node-preserved

@@ -1,5 +1,5 @@
 use Rattle.std.proofs.Common.{nat_eq, sym, ◌∙◌}
-use Rattle.range_code.proofs.Compiling.{none_passes}
+use Rattle.range_code.proofs.CompiledRanges.{none_passes}
 use Rattle.range_code.proofs.compile.slot.Goals as goal
 
 pub returns-in-None : goal.returns-in-None

@@ -10,7 +10,7 @@ use Rattle.range_code.specs.Frames.{slot_set, slot_integer}
 use Rattle.range_code.specs.Nodes.{IsReadable}
 use Rattle.range_code.specs.Steps.{outside}
 use Rattle.range_code.specs.StepNodes.{all_steps}
-use Rattle.range_code.proofs.Counting.{some_height}
+use Rattle.range_code.proofs.Heights.{some_height}
 use Rattle.range_code.proofs.Forms.{narrows_same, spells_itself}
 use Rattle.range_code.proofs.evaluate.evaluate_narrowing.Goals as goal
 
@@ -23,7 +23,9 @@ value-low-requires-clause-division g c = let k = rw (c.in-Without.is) at c.requi
 pub value-low-requires-clause-seen : goal.value-low-requires-clause-seen
 value-low-requires-clause-seen g c =
     let k = rw (c.in-Without.is) at c.requires.form in
-    k.low.seen (length (g.V.View.sets c.args.view.now)) c.args.args.now (subst (All (IsReadable (length (g.V.View.sets c.args.view.now)) c.args.args.now)) (spells_itself (all_steps c.args.steps.now) c.requires.spelled) c.requires.readable)
+    k.low.seen (length (g.V.View.sets c.args.view.now)) c.args.args.now
+    (subst (All (IsReadable (length (g.V.View.sets c.args.view.now)) c.args.args.now)) (spells_itself (all_steps c.args.steps.now) c.requires.spelled)
+    c.requires.readable)
 
 pub value-requires-clause-width : goal.value-requires-clause-width
 value-requires-clause-width g c = let k = rw (c.in-Without.is) at c.requires.form in k.high.width
@@ -34,7 +36,9 @@ value-requires-clause-division g c = let k = rw (c.in-Without.is) at c.requires.
 pub value-requires-clause-seen : goal.value-requires-clause-seen
 value-requires-clause-seen g c =
     let k = rw (c.in-Without.is) at c.requires.form in
-    k.high.seen (length (g.V.View.sets c.args.view.now)) c.args.args.now (subst (All (IsReadable (length (g.V.View.sets c.args.view.now)) c.args.args.now)) (spells_itself (all_steps c.args.steps.now) c.requires.spelled) c.requires.readable)
+    k.high.seen (length (g.V.View.sets c.args.view.now)) c.args.args.now
+    (subst (All (IsReadable (length (g.V.View.sets c.args.view.now)) c.args.args.now)) (spells_itself (all_steps c.args.steps.now) c.requires.spelled)
+    c.requires.readable)
 
 pub returns-in-Without-clause-narrowed : goal.returns-in-Without-clause-narrowed
 returns-in-Without-clause-narrowed g c =
@@ -48,13 +52,16 @@ returns-in-Without-clause-narrowed g c =
 pub slot_domain-keys-requires : goal.slot_domain-keys-requires
 slot_domain-keys-requires g c =
     let k = rw (c.in-Chosen.is) at c.requires.form in
-    k.seen (length (g.V.View.sets c.args.view.now)) c.args.args.now (subst (All (IsReadable (length (g.V.View.sets c.args.view.now)) c.args.args.now)) (spells_itself (all_steps c.args.steps.now) c.requires.spelled) c.requires.readable)
+    k.seen (length (g.V.View.sets c.args.view.now)) c.args.args.now
+    (subst (All (IsReadable (length (g.V.View.sets c.args.view.now)) c.args.args.now)) (spells_itself (all_steps c.args.steps.now) c.requires.spelled)
+    c.requires.readable)
 
 pub returns-in-Chosen-clause-narrowed : goal.returns-in-Chosen-clause-narrowed
 returns-in-Chosen-clause-narrowed g c =
     let k = rw (c.in-Chosen.is) at c.requires.form in
     narrows_same c.narrow_to_chosen.result c.args.target.now (filter (is_chosen c.slot_domain-keys.result.now c.deref.result.now) (universe INFINITY)) _
-    (two (λ keys pairs. filter (is_chosen keys pairs) (universe INFINITY)) c.slot_domain-keys.ensures c.deref.ensures.value ∙ sym (k.set (slot_set (g.V.View.sets c.args.view.now) c.args.args.now) (slot_integer c.args.args.now))) c.narrow_to_chosen.ensures.narrowed
+    (two (λ keys pairs. filter (is_chosen keys pairs) (universe INFINITY)) c.slot_domain-keys.ensures c.deref.ensures.value
+    ∙ sym (k.set (slot_set (g.V.View.sets c.args.view.now) c.args.args.now) (slot_integer c.args.args.now))) c.narrow_to_chosen.ensures.narrowed
 
 pub narrow_to_chosen-requires-clause-room : goal.narrow_to_chosen-requires-clause-room
 narrow_to_chosen-requires-clause-room g c = let h = some_height (all_steps c.args.steps.now) c.requires.spelled in omega (arith, h, c.requires.sets)

@@ -9,8 +9,10 @@ overflow_add-result c =
     let f : SFits w64 c.args.sum = c.ranges.sum in
     let h : SFits w64 c.args.product.weight = search rules in
     let e : to_z w64 c.args.end ≡ pos c.args.end = to_z_pos w64 c.args.end (omega (arith, c.requires.limit)) in
-    let p : SFits w64 (c.args.product.weight *ℤ pos c.args.end) = fits_small (c.args.product.weight *ℤ pos c.args.end) (omega (arith, product_small c.args.product.weight c.args.end c.requires.limit, c.requires.width)) in
-    let s : SFits w64 (c.args.sum +ℤ c.args.product.weight *ℤ pos c.args.end) = fits_small (c.args.sum +ℤ c.args.product.weight *ℤ pos c.args.end) (sum_small c.args.sum c.args.product.weight c.args.end c.requires.width c.requires.limit) in
+    let p : SFits w64 (c.args.product.weight *ℤ pos c.args.end) = fits_small (c.args.product.weight *ℤ pos c.args.end)
+    (omega (arith, product_small c.args.product.weight c.args.end c.requires.limit, c.requires.width)) in
+    let s : SFits w64 (c.args.sum +ℤ c.args.product.weight *ℤ pos c.args.end) = fits_small (c.args.sum +ℤ c.args.product.weight *ℤ pos c.args.end)
+    (sum_small c.args.sum c.args.product.weight c.args.end c.requires.width c.requires.limit) in
     simp (to_z-of_z, e) s
 
 pub returns : goal.returns
@@ -18,6 +20,8 @@ returns c =
     let f : SFits w64 c.args.sum = c.ranges.sum in
     let h : SFits w64 c.args.product.weight = search rules in
     let e : to_z w64 c.args.end ≡ pos c.args.end = to_z_pos w64 c.args.end (omega (arith, c.requires.limit)) in
-    let p : SFits w64 (c.args.product.weight *ℤ pos c.args.end) = fits_small (c.args.product.weight *ℤ pos c.args.end) (omega (arith, product_small c.args.product.weight c.args.end c.requires.limit, c.requires.width)) in
-    let s : SFits w64 (c.args.sum +ℤ c.args.product.weight *ℤ pos c.args.end) = fits_small (c.args.sum +ℤ c.args.product.weight *ℤ pos c.args.end) (sum_small c.args.sum c.args.product.weight c.args.end c.requires.width c.requires.limit) in
+    let p : SFits w64 (c.args.product.weight *ℤ pos c.args.end) = fits_small (c.args.product.weight *ℤ pos c.args.end)
+    (omega (arith, product_small c.args.product.weight c.args.end c.requires.limit, c.requires.width)) in
+    let s : SFits w64 (c.args.sum +ℤ c.args.product.weight *ℤ pos c.args.end) = fits_small (c.args.sum +ℤ c.args.product.weight *ℤ pos c.args.end)
+    (sum_small c.args.sum c.args.product.weight c.args.end c.requires.width c.requires.limit) in
     simp (to_z-of_z, e)

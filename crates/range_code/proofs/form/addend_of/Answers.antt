@@ -6,5 +6,6 @@ use Rattle.range_code.proofs.Forms.{part_alone}
 use Rattle.range_code.proofs.form.addend_of.Goals as goal
 
 pub returns : goal.returns
-returns c = IfSome_then c.signed.result {P = IsSigned c.args.last (record { weight = pos 1; leaf = c.in_ok-leaf.leaf })} {Q = λ a. (rest : List RangeNode) → IsPart (c.args.first ∷ c.args.last ∷ rest) a rest} c.signed.ensures
+returns c = IfSome_then c.signed.result {P = IsSigned c.args.last (record { weight = pos 1; leaf = c.in_ok-leaf.leaf })} {Q = λ a. (rest : List RangeNode)
+    → IsPart (c.args.first ∷ c.args.last ∷ rest) a rest} c.signed.ensures
     (λ a s rest. part_alone c.args.first c.args.last rest c.in_ok-leaf.leaf a c.in_ok-leaf.ensures s)

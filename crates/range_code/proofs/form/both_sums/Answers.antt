@@ -24,7 +24,8 @@ add_product-low_sum-requires-clause-width g c =
     let ms : List Product = c.deref-product-items.result.now in
     let ks : List Product = c.args.high.now.products.items in
     let opposite : AreOpposite ms ks = subst (λ l. AreOpposite l ks) (sym c.deref-product-items.ensures.value) c.requires.opposite in
-    low_fits S ms ks c.loop-product.product-index (to_z w64 c.loop-product.low_sum-bits) (to_z w64 c.loop-product.high_sum-bits) (total_of S c.args.low.now) (total_of S c.args.high.now) opposite c.loop-product.invariant default c.loop-product-test.true
+    low_fits S ms ks c.loop-product.product-index (to_z w64 c.loop-product.low_sum-bits) (to_z w64 c.loop-product.high_sum-bits) (total_of S c.args.low.now)
+    (total_of S c.args.high.now) opposite c.loop-product.invariant default c.loop-product-test.true
 
 pub add_product-high_sum-requires-clause-width : goal.add_product-high_sum-requires-clause-width
 add_product-high_sum-requires-clause-width g c =
@@ -32,7 +33,8 @@ add_product-high_sum-requires-clause-width g c =
     let ms : List Product = c.deref-product-items.result.now in
     let ks : List Product = c.args.high.now.products.items in
     let opposite : AreOpposite ms ks = subst (λ l. AreOpposite l ks) (sym c.deref-product-items.ensures.value) c.requires.opposite in
-    high_fits S ms ks c.loop-product.product-index (to_z w64 c.loop-product.low_sum-bits) (to_z w64 c.loop-product.high_sum-bits) (total_of S c.args.low.now) (total_of S c.args.high.now) opposite c.loop-product.invariant default c.loop-product-test.true
+    high_fits S ms ks c.loop-product.product-index (to_z w64 c.loop-product.low_sum-bits) (to_z w64 c.loop-product.high_sum-bits) (total_of S c.args.low.now)
+    (total_of S c.args.high.now) opposite c.loop-product.invariant default c.loop-product-test.true
 
 pub loop-product-preserved : goal.loop-product-preserved
 loop-product-preserved g c =
@@ -42,7 +44,8 @@ loop-product-preserved g c =
     let opposite : AreOpposite ms ks = subst (λ l. AreOpposite l ks) (sym c.deref-product-items.ensures.value) c.requires.opposite in
     let x : SFits w64 c.add_product-low_sum.result = search rules in
     let y : SFits w64 c.add_product-high_sum.result = search rules in
-    simp to_z-of_z (summed S ms ks c.loop-product.product-index (to_z w64 c.loop-product.low_sum-bits) (to_z w64 c.loop-product.high_sum-bits) (total_of S c.args.low.now) (total_of S c.args.high.now) opposite c.loop-product.invariant default c.loop-product-test.true
+    simp to_z-of_z (summed S ms ks c.loop-product.product-index (to_z w64 c.loop-product.low_sum-bits) (to_z w64 c.loop-product.high_sum-bits)
+    (total_of S c.args.low.now) (total_of S c.args.high.now) opposite c.loop-product.invariant default c.loop-product-test.true
     c.both_ends-ends.result.0 c.both_ends-ends.result.1 c.add_product-low_sum.result c.add_product-high_sum.result
     (at_end _ c.slot_domain.result.now _ _ c.both_ends-ends.ensures.one c.slot_domain.ensures) (at_end _ c.slot_domain.result.now _ _ c.both_ends-ends.ensures.other c.slot_domain.ensures)
     c.both_ends-ends.ensures.one_limit c.both_ends-ends.ensures.other_limit c.add_product-low_sum.ensures c.add_product-high_sum.ensures)
@@ -53,7 +56,8 @@ returns-clause-low g c =
     let ms : List Product = c.deref-product-items.result.now in
     let ks : List Product = c.args.high.now.products.items in
     let opposite : AreOpposite ms ks = subst (λ l. AreOpposite l ks) (sym c.deref-product-items.ensures.value) c.requires.opposite in
-    low_done S ms ks c.loop-product.product-index (to_z w64 c.loop-product.low_sum-bits) (to_z w64 c.loop-product.high_sum-bits) (total_of S c.args.low.now) (total_of S c.args.high.now) opposite c.loop-product.invariant c.loop-product-test.false
+    low_done S ms ks c.loop-product.product-index (to_z w64 c.loop-product.low_sum-bits) (to_z w64 c.loop-product.high_sum-bits) (total_of S c.args.low.now)
+    (total_of S c.args.high.now) opposite c.loop-product.invariant c.loop-product-test.false
 
 pub returns-clause-high : goal.returns-clause-high
 returns-clause-high g c =
@@ -61,7 +65,8 @@ returns-clause-high g c =
     let ms : List Product = c.deref-product-items.result.now in
     let ks : List Product = c.args.high.now.products.items in
     let opposite : AreOpposite ms ks = subst (λ l. AreOpposite l ks) (sym c.deref-product-items.ensures.value) c.requires.opposite in
-    high_done S ms ks c.loop-product.product-index (to_z w64 c.loop-product.low_sum-bits) (to_z w64 c.loop-product.high_sum-bits) (total_of S c.args.low.now) (total_of S c.args.high.now) opposite c.loop-product.invariant c.loop-product-test.false
+    high_done S ms ks c.loop-product.product-index (to_z w64 c.loop-product.low_sum-bits) (to_z w64 c.loop-product.high_sum-bits) (total_of S c.args.low.now)
+    (total_of S c.args.high.now) opposite c.loop-product.invariant c.loop-product-test.false
 
 pub returns-clause-low_limit : goal.returns-clause-low_limit
 returns-clause-low_limit g c =
@@ -69,7 +74,8 @@ returns-clause-low_limit g c =
     let ms : List Product = c.deref-product-items.result.now in
     let ks : List Product = c.args.high.now.products.items in
     let opposite : AreOpposite ms ks = subst (λ l. AreOpposite l ks) (sym c.deref-product-items.ensures.value) c.requires.opposite in
-    low_small S ms ks c.loop-product.product-index (to_z w64 c.loop-product.low_sum-bits) (to_z w64 c.loop-product.high_sum-bits) (total_of S c.args.low.now) (total_of S c.args.high.now) opposite c.loop-product.invariant c.loop-product-test.false
+    low_small S ms ks c.loop-product.product-index (to_z w64 c.loop-product.low_sum-bits) (to_z w64 c.loop-product.high_sum-bits) (total_of S c.args.low.now)
+    (total_of S c.args.high.now) opposite c.loop-product.invariant c.loop-product-test.false
 
 pub returns-clause-high_limit : goal.returns-clause-high_limit
 returns-clause-high_limit g c =
@@ -77,4 +83,5 @@ returns-clause-high_limit g c =
     let ms : List Product = c.deref-product-items.result.now in
     let ks : List Product = c.args.high.now.products.items in
     let opposite : AreOpposite ms ks = subst (λ l. AreOpposite l ks) (sym c.deref-product-items.ensures.value) c.requires.opposite in
-    high_small S ms ks c.loop-product.product-index (to_z w64 c.loop-product.low_sum-bits) (to_z w64 c.loop-product.high_sum-bits) (total_of S c.args.low.now) (total_of S c.args.high.now) opposite c.loop-product.invariant c.loop-product-test.false
+    high_small S ms ks c.loop-product.product-index (to_z w64 c.loop-product.low_sum-bits) (to_z w64 c.loop-product.high_sum-bits) (total_of S c.args.low.now)
+    (total_of S c.args.high.now) opposite c.loop-product.invariant c.loop-product-test.false

@@ -19,7 +19,8 @@ returns-in-len1-clause-form c r e =
     let d = rw (c.in-Some-2.is) at c.in_ok-high.ensures.bound in
     let v = rw (c.in-Some-2.is) at c.in_ok-high.ensures.width in
     let one : length c.in-Some-2.rest.now ≡ 1 = omega arith in
-    c.between_form.ensures.form r (interval_form c.args.nodes.now r e c.in-Some.rest.now _ c.in-Some.low c.in-Some-2.high b (subst (IsBound c.in-Some.rest.now c.in-Some-2.high) (only_one c.in-Some-2.rest.now (node.Int (pos 0)) one) d)
+    c.between_form.ensures.form r (interval_form c.args.nodes.now r e c.in-Some.rest.now _ c.in-Some.low c.in-Some-2.high b
+    (subst (IsBound c.in-Some.rest.now c.in-Some-2.high) (only_one c.in-Some-2.rest.now (node.Int (pos 0)) one) d)
     (c.is_span.ensures c.if-is_span.true) w v)
 
 pub returns-in-len2-rest-clause-form : goal.returns-in-len2-rest-clause-form
@@ -29,7 +30,8 @@ returns-in-len2-rest-clause-form c r e =
     let d = rw (c.in-Some-2.is) at c.in_ok-high.ensures.bound in
     let v = rw (c.in-Some-2.is) at c.in_ok-high.ensures.width in
     let two : length c.in-Some-2.rest.now ≡ 2 = omega arith in
-    c.outside_form.ensures.form r (complement_form c.args.nodes.now r e c.in-Some.rest.now _ _ c.in-Some.low c.in-Some-2.high b (subst (IsBound c.in-Some.rest.now c.in-Some-2.high) (only_two c.in-Some-2.rest.now (node.Int (pos 0)) two) d)
+    c.outside_form.ensures.form r (complement_form c.args.nodes.now r e c.in-Some.rest.now _ _ c.in-Some.low c.in-Some-2.high b
+    (subst (IsBound c.in-Some.rest.now c.in-Some-2.high) (only_two c.in-Some-2.rest.now (node.Int (pos 0)) two) d)
     (c.is_span-then-rest-lt3-2.ensures c.if-is_span-2.true) (c.is_complement-then-is_span-2.ensures c.if-is_complement-2.true) w v)
 
 pub returns-in-len2-rest-clause-shifted : goal.returns-in-len2-rest-clause-shifted

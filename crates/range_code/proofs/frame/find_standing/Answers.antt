@@ -2,7 +2,7 @@ use Rattle.std.proofs.Common.{◌≡◌, ap, sym, ◌∙◌, subst, take, length
 use Rattle.std.specs.List.{All}
 use Rattle.std.proofs.Math.Seq.{take-length}
 use Rattle.range_code.specs.Frames.{slot_set}
-use Rattle.range_code.specs.Standing.{tested, TestRises, IsTestSeen}
+use Rattle.range_code.specs.Standings.{tested, TestRises, IsTestSeen}
 use Rattle.range_code.proofs.frame.find_standing.Goals as goal
 
 pub slot_domain-requires : goal.slot_domain-requires

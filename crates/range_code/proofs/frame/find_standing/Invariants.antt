@@ -1,7 +1,7 @@
 use Rattle.std.proofs.Common.{◌≡◌, take, drop}
 use Rattle.std.specs.List.{All}
 use Rattle.range_code.specs.Frames.{slot_set}
-use Rattle.range_code.specs.Standing.{tested, TestRises}
+use Rattle.range_code.specs.Standings.{tested, TestRises}
 use Rattle.range_code.proofs.frame.find_standing.Given as goal
 
 abbrev pub invariant-loop-test : goal.invariant-loop-test

@@ -1,5 +1,5 @@
 use Rattle.fd_language.specs.declared.TheConstants.{INFINITY}
-use Rattle.range_code.proofs.Opening.{differ}
+use Rattle.range_code.proofs.SetEnds.{differ}
 use Rattle.range_code.proofs.frame.is_open.Goals as goal
 
 pub returns : goal.returns

@@ -7,10 +7,16 @@ use Rattle.range_terms.specs.declared.forms.Position.{Position}
 use Rattle.range_terms.proofs.forms.compound_form.Goals as goal
 
 pub returns-in-Range : goal.returns-in-Range
-returns-in-Range c = λ N p. subst (λ (l : Position). IsForm N c.args.pool.now (wanted N l (comp c.args.name.now p (parts_by (placed_of c.args.pool.now) c.args.parts.now))) p c.args.parts.now c.range_form.result) (sym c.in-Range.is) (c.range_form.ensures N p)
+returns-in-Range c = λ N p. subst (λ (l : Position). IsForm N c.args.pool.now
+    (wanted N l (comp c.args.name.now p (parts_by (placed_of c.args.pool.now) c.args.parts.now))) p c.args.parts.now c.range_form.result) (sym c.in-Range.is)
+    (c.range_form.ensures N p)
 
 pub returns-in-Term : goal.returns-in-Term
-returns-in-Term c = λ N p. subst (λ (l : Position). IsForm N c.args.pool.now (wanted N l (comp c.args.name.now p (parts_by (placed_of c.args.pool.now) c.args.parts.now))) p c.args.parts.now c.term_form.result) (sym c.in-Term.is) (c.term_form.ensures N p)
+returns-in-Term c = λ N p. subst (λ (l : Position). IsForm N c.args.pool.now
+    (wanted N l (comp c.args.name.now p (parts_by (placed_of c.args.pool.now) c.args.parts.now))) p c.args.parts.now c.term_form.result) (sym c.in-Term.is)
+    (c.term_form.ensures N p)
 
 pub returns-in-Constant : goal.returns-in-Constant
-returns-in-Constant c = λ N p. subst (λ (l : Position). IsForm N c.args.pool.now (wanted N l (comp c.args.name.now p (parts_by (placed_of c.args.pool.now) c.args.parts.now))) p c.args.parts.now c.constant_form.result) (sym c.in-Constant.is) (c.constant_form.ensures N p)
+returns-in-Constant c = λ N p. subst (λ (l : Position). IsForm N c.args.pool.now
+    (wanted N l (comp c.args.name.now p (parts_by (placed_of c.args.pool.now) c.args.parts.now))) p c.args.parts.now c.constant_form.result)
+    (sym c.in-Constant.is) (c.constant_form.ensures N p)

@@ -2,7 +2,7 @@ use Rattle.std.proofs.Common.{◌≡◌, sym, subst, ap, ◌∙◌, List, [], �
 use Rattle.std.specs.Prelude.{codes, ℤ, pos, FitsSigned}
 use Rattle.std.specs.Int.{w64}
 use Rattle.std.proofs.lemmas.Int.{to_z-of_z}
-use Rattle.term_pool.specs.Valid.{IsStorable}
+use Rattle.term_pool.specs.PoolInvariant.{IsStorable}
 use Rattle.term_pool.proofs.Lemmas.{term_is_storable}
 use Rattle.fd_language.specs.declared.range_node.RangeNode.TheVariants as node
 use Rattle.std.specs.Str.{bytes_eq}
@@ -13,7 +13,7 @@ use Rattle.term_pool.specs.Contents.{Contents, atom_name}
 use Rattle.term_pool.specs.PlacedTerms.{placed_of, parts_by}
 use Rattle.range_terms.specs.TermNodes.{Wanted, wanted}
 use Rattle.range_terms.specs.Forms.{IsForm, IsNumber}
-use Rattle.range_terms.specs.declared.forms.Form.TheVariants as form
+use Rattle.range_terms.specs.declared.forms.RangeForm.TheVariants as form
 use Rattle.range_terms.proofs.Steps.{at_shape}
 use Rattle.range_terms.proofs.Positions.{a_parameter, an_integer, the_infinity, no_atom}
 use Rattle.range_terms.proofs.forms.form_of.Goals as goal
@@ -29,7 +29,9 @@ returns-in-Int c = λ s p shape place.
     let l = c.args.operand.position in
     let fits : FitsSigned w64 c.in-Int.integer = subst IsStorable c.in-Int.ensures.term (term_is_storable c.args.pool.now c.in-Int.ensures.valid c.args.operand.term c.requires) in
     at_shape c.args.infinity c.args.pool.now c.in-Int.ensures.valid c.args.operand s (pool.int c.in-Int.integer) p c.number_form-in-Int.result c.in-Int.ensures.shape shape place
-    (subst (λ (z : ℤ). ((k : ℕ) (x : Contents) (w : Wanted) (q : ℕ) → IsNumber l (node.Int z) q w → IsForm k x w q [] c.number_form-in-Int.result) → IsForm c.args.infinity c.args.pool.now (wanted c.args.infinity l (int c.in-Int.integer p)) p [] c.number_form-in-Int.result) (sym (to_z-of_z w64 c.in-Int.integer fits))
+    (subst (λ (z : ℤ). ((k : ℕ) (x : Contents) (w : Wanted) (q : ℕ) → IsNumber l (node.Int z) q w → IsForm k x w q [] c.number_form-in-Int.result)
+    → IsForm c.args.infinity c.args.pool.now (wanted c.args.infinity l (int c.in-Int.integer p)) p [] c.number_form-in-Int.result)
+    (sym (to_z-of_z w64 c.in-Int.integer fits))
     (λ f. f c.args.infinity c.args.pool.now (wanted c.args.infinity l (int c.in-Int.integer p)) p (an_integer c.args.infinity l c.in-Int.integer p)) c.number_form-in-Int.ensures)
 
 pub returns-then-eq : goal.returns-then-eq
@@ -39,7 +41,9 @@ returns-then-eq c = λ s p shape place.
     let fits : to_z w64 (of_z w64 c.from.result) ≡ pos c.args.infinity = search rules in
     at_shape c.args.infinity c.args.pool.now c.in-Atom.ensures.valid c.args.operand s (pool.atom c.in-Atom.atom) p c.number_form-then-eq.result c.in-Atom.ensures.shape shape place
     (c.number_form-then-eq.ensures c.args.infinity c.args.pool.now (wanted c.args.infinity l (atom name p)) p
-    (subst (λ (z : ℤ). IsNumber l (node.Int z) p (wanted c.args.infinity l (atom name p))) (sym fits) (the_infinity c.args.infinity l name p (ap (λ (n : List ℕ). bytes_eq n (codes "infinity")) (sym c.name_of.ensures.name) ∙ sym c.eq.ensures ∙ c.if-eq.true))))
+    (subst (λ (z : ℤ). IsNumber l (node.Int z) p (wanted c.args.infinity l (atom name p))) (sym fits)
+    (the_infinity c.args.infinity l name p (ap (λ (n : List ℕ). bytes_eq n (codes "infinity")) (sym c.name_of.ensures.name) ∙ sym c.eq.ensures
+    ∙ c.if-eq.true))))
 
 pub returns-else-eq : goal.returns-else-eq
 returns-else-eq c = λ s p shape place.
@@ -53,4 +57,5 @@ returns-in-Comp c = λ s p shape place.
     let l = c.args.operand.position in
     let now = c.args.pool.now in
     at_shape c.args.infinity now c.in-Comp.ensures.valid c.args.operand s (pool.comp c.in-Comp.atom c.in-Comp.parts.now) p c.compound_form.result c.in-Comp.ensures.shape shape place
-    (subst (λ (n : Name). IsForm c.args.infinity now (wanted c.args.infinity l (comp n p (parts_by (placed_of now) c.in-Comp.parts.now))) p c.in-Comp.parts.now c.compound_form.result) c.name_of-in-Comp.ensures.name (c.compound_form.ensures c.args.infinity p))
+    (subst (λ (n : Name). IsForm c.args.infinity now (wanted c.args.infinity l (comp n p (parts_by (placed_of now) c.in-Comp.parts.now))) p c.in-Comp.parts.now
+    c.compound_form.result) c.name_of-in-Comp.ensures.name (c.compound_form.ensures c.args.infinity p))

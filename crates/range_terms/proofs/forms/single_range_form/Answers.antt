@@ -15,7 +15,9 @@ returns-then-eq-2 c = λ N p. (refl, single_outside N c.args.name.now (placed_of
 pub returns-then-eq-3 : goal.returns-then-eq-3
 returns-then-eq-3 c = λ N p.
     subst (λ (w : Wanted). IsForm N c.args.pool.now w p (c.args.only ∷ []) c.domain_form.result)
-    (sym (single_dom N c.args.name.now (placed_of c.args.pool.now c.args.only) p (sym c.eq.ensures ∙ c.if-eq.false) (sym c.eq-else-eq.ensures ∙ c.if-eq-2.false) (sym c.eq-else-eq-2.ensures ∙ c.if-eq-3.true))) (c.domain_form.ensures N p)
+    (sym (single_dom N c.args.name.now (placed_of c.args.pool.now c.args.only) p (sym c.eq.ensures ∙ c.if-eq.false) (sym c.eq-else-eq.ensures ∙ c.if-eq-2.false)
+    (sym c.eq-else-eq-2.ensures ∙ c.if-eq-3.true))) (c.domain_form.ensures N p)
 
 pub returns-else-eq-3 : goal.returns-else-eq-3
-returns-else-eq-3 c = λ N p. no_single N c.args.name.now (placed_of c.args.pool.now c.args.only) p (sym c.eq.ensures ∙ c.if-eq.false) (sym c.eq-else-eq.ensures ∙ c.if-eq-2.false) (sym c.eq-else-eq-2.ensures ∙ c.if-eq-3.false)
+returns-else-eq-3 c = λ N p. no_single N c.args.name.now (placed_of c.args.pool.now c.args.only) p (sym c.eq.ensures ∙ c.if-eq.false)
+    (sym c.eq-else-eq.ensures ∙ c.if-eq-2.false) (sym c.eq-else-eq-2.ensures ∙ c.if-eq-3.false)

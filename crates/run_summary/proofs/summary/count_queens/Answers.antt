@@ -4,7 +4,7 @@ use Rattle.fd_model.specs.Generator.{queens_text}
 use Rattle.fd_model.specs.Verdict.{IsVerdict, accepted, refused, max_text}
 use Rattle.answer_text.specs.Reasons.{reason_text}
 use Rattle.clause_check.specs.Programs.{program_in}
-use Rattle.text_verdict.specs.declared.judge.Verdict.{Verdict}
+use Rattle.text_verdict.specs.declared.judgement.Verdict.{Verdict}
 use Rattle.text_verdict.specs.Verdicts.{verdict_of}
 use Rattle.run_summary.proofs.GeneratedTexts.{queens_short, queens_program}
 use Rattle.run_summary.proofs.Tallies.{run_of_first, verdict_program, found_one, found_refused}

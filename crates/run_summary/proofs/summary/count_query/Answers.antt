@@ -17,5 +17,6 @@ returns-clause-whole g c = λ es r h.
     let area : Area = c.in_ok-code.code in
     let shared : c.in_ok-new.field-0.value ≡ area = search rules in
     let made = c.in_ok-machine.ensures in
-    let may = subst (λ (a : Area). MayRun a 0 (program_in p) (query_in p (query_at p 0))) (sym (made.code.0 ∙ shared)) (may_run area p c.known.ensures c.in_ok-code.ensures.stands 0 c.requires.query) in
+    let may = subst (λ (a : Area). MayRun a 0 (program_in p) (query_in p (query_at p 0))) (sym (made.code.0 ∙ shared))
+    (may_run area p c.known.ensures c.in_ok-code.ensures.stands 0 c.requires.query) in
     c.count_events.ensures.whole es r (made.stands (program_in p) (query_in p (query_at p 0)) may es r h)

@@ -1,4 +1,4 @@
-use Rattle.term_instructions.proofs.Unify.{only_unify}
+use Rattle.term_instructions.proofs.UnifyInstructions.{only_unify}
 use Rattle.term_instructions.proofs.arguments.argument_at.Goals as goal
 
 pub unreachable-requires : goal.unreachable-requires

@@ -1,10 +1,10 @@
 use Rattle.std.proofs.Common.{subst, sym, refl}
 use Rattle.wam_code.specs.declared.instruction.Code.TheVariants.{GetConstant}
-use Rattle.code_states.specs.Safety.{IsSafeThen}
-use Rattle.code_states.specs.Standing.{KeepsStanding}
-use Rattle.code_states.specs.Work.{LeadsOn}
-use Rattle.code_states.specs.declared.went.Went.{Went}
-use Rattle.code_states.proofs.Lemmas.{within_code, get_constant_stands}
+use Rattle.code_safety.specs.Safety.{IsSafeThen}
+use Rattle.code_safety.specs.RepresentedBranch.{KeepsStanding}
+use Rattle.code_safety.specs.Work.{LeadsOn}
+use Rattle.code_safety.specs.declared.instruction_outcomes.Went.{Went}
+use Rattle.code_safety.proofs.Lemmas.{within_code, get_constant_stands}
 use Rattle.term_instructions.proofs.Steps.{led_by, get_constant_needs, get_constant_own, get_constant_safe}
 use Rattle.term_instructions.proofs.gets.get_constant.Goals as goal
 use Rattle.heap_cells.specs.declared.Cell.TheVariants as cell
@@ -27,12 +27,14 @@ next_if-requires g c = within_code c.args.code.now c.args.at (GetConstant c.args
 pub returns-clause-safe : goal.returns-clause-safe
 returns-clause-safe g c =
     subst (λ (w : Went). IsSafeThen c.args.code.now c.equate.new.branch c.args.areas.now w) (sym c.next_if.ensures)
-    (get_constant_safe c.args.code.now c.args.branch.now c.args.at c.args.areas.now c.requires.safe c.args.c c.args.a c.requires.holds c.equate.new.branch c.register-argument.result (cell.Atom c.args.c) c.in_ok-equal.equal c.in_ok-equal.ensures.equates c.in_ok-equal.ensures.same)
+    (get_constant_safe c.args.code.now c.args.branch.now c.args.at c.args.areas.now c.requires.safe c.args.c c.args.a c.requires.holds c.equate.new.branch
+    c.register-argument.result (cell.Atom c.args.c) c.in_ok-equal.equal c.in_ok-equal.ensures.equates c.in_ok-equal.ensures.same)
 
 pub returns-clause-stands : goal.returns-clause-stands
 returns-clause-stands g c =
     subst (λ (w : Went). KeepsStanding c.args.code.now c.args.branch.now c.args.at c.args.areas.now c.equate.new.branch c.args.areas.now w) (sym c.next_if.ensures)
-    (get_constant_stands c.args.code.now c.args.branch.now c.args.at c.args.areas.now c.requires.safe c.args.c c.args.a c.requires.holds c.register-argument.result c.register-argument.ensures c.equate.new.branch c.in_ok-equal.equal c.in_ok-equal.ensures.equates)
+    (get_constant_stands c.args.code.now c.args.branch.now c.args.at c.args.areas.now c.requires.safe c.args.c c.args.a c.requires.holds
+    c.register-argument.result c.register-argument.ensures c.equate.new.branch c.in_ok-equal.equal c.in_ok-equal.ensures.equates)
 
 pub returns-clause-leads : goal.returns-clause-leads
 returns-clause-leads g c =

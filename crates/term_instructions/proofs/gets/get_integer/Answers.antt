@@ -1,12 +1,12 @@
 use Rattle.std.proofs.Common.{FitsSigned, subst, sym, rules, w64, refl}
 use Rattle.std.proofs.lemmas.Int.{to_z-of_z}
-use Rattle.code_states.specs.Equating.{Equates}
+use Rattle.code_safety.specs.CellEquations.{Equates}
 use Rattle.wam_code.specs.declared.instruction.Code.TheVariants.{GetInteger}
-use Rattle.code_states.specs.Safety.{IsSafeThen}
-use Rattle.code_states.specs.Standing.{KeepsStanding}
-use Rattle.code_states.specs.Work.{LeadsOn}
-use Rattle.code_states.specs.declared.went.Went.{Went}
-use Rattle.code_states.proofs.Lemmas.{within_code, get_integer_stands}
+use Rattle.code_safety.specs.Safety.{IsSafeThen}
+use Rattle.code_safety.specs.RepresentedBranch.{KeepsStanding}
+use Rattle.code_safety.specs.Work.{LeadsOn}
+use Rattle.code_safety.specs.declared.instruction_outcomes.Went.{Went}
+use Rattle.code_safety.proofs.Lemmas.{within_code, get_integer_stands}
 use Rattle.term_instructions.proofs.Steps.{led_by, get_integer_needs, get_integer_safe}
 use Rattle.term_instructions.proofs.gets.get_integer.Goals as goal
 use Rattle.heap_cells.specs.declared.Cell.TheVariants as cell
@@ -31,14 +31,16 @@ returns-clause-safe g c =
     let fits : FitsSigned w64 c.args.z = search rules in
     let equates = subst (λ z. Equates c.args.branch.now c.register-argument.result (cell.Int z) c.equate.new.branch c.in_ok-equal.equal) (to_z-of_z w64 c.args.z fits) c.in_ok-equal.ensures.equates in
     subst (λ (w : Went). IsSafeThen c.args.code.now c.equate.new.branch c.args.areas.now w) (sym c.next_if.ensures)
-    (get_integer_safe c.args.code.now c.args.branch.now c.args.at c.args.areas.now c.requires.safe c.args.z c.args.a c.requires.holds c.equate.new.branch c.register-argument.result (cell.Int c.args.z) c.in_ok-equal.equal equates c.in_ok-equal.ensures.same)
+    (get_integer_safe c.args.code.now c.args.branch.now c.args.at c.args.areas.now c.requires.safe c.args.z c.args.a c.requires.holds c.equate.new.branch
+    c.register-argument.result (cell.Int c.args.z) c.in_ok-equal.equal equates c.in_ok-equal.ensures.same)
 
 pub returns-clause-stands : goal.returns-clause-stands
 returns-clause-stands g c =
     let fits : FitsSigned w64 c.args.z = search rules in
     let equates = subst (λ z. Equates c.args.branch.now c.register-argument.result (cell.Int z) c.equate.new.branch c.in_ok-equal.equal) (to_z-of_z w64 c.args.z fits) c.in_ok-equal.ensures.equates in
     subst (λ (w : Went). KeepsStanding c.args.code.now c.args.branch.now c.args.at c.args.areas.now c.equate.new.branch c.args.areas.now w) (sym c.next_if.ensures)
-    (get_integer_stands c.args.code.now c.args.branch.now c.args.at c.args.areas.now c.requires.safe c.args.z c.args.a c.requires.holds c.register-argument.result c.register-argument.ensures c.equate.new.branch c.in_ok-equal.equal equates)
+    (get_integer_stands c.args.code.now c.args.branch.now c.args.at c.args.areas.now c.requires.safe c.args.z c.args.a c.requires.holds
+    c.register-argument.result c.register-argument.ensures c.equate.new.branch c.in_ok-equal.equal equates)
 
 pub returns-clause-leads : goal.returns-clause-leads
 returns-clause-leads g c =

@@ -1,9 +1,9 @@
 use Rattle.std.proofs.Common.{subst, sym, refl}
 use Rattle.wam_code.specs.declared.instruction.Code.TheVariants.{PutConstant}
-use Rattle.code_states.specs.Safety.{IsSafeThen}
-use Rattle.code_states.specs.Standing.{KeepsStanding}
-use Rattle.code_states.specs.declared.went.Went.TheVariants.{On}
-use Rattle.code_states.proofs.Lemmas.{within_code, put_constant_stands}
+use Rattle.code_safety.specs.Safety.{IsSafeThen}
+use Rattle.code_safety.specs.RepresentedBranch.{KeepsStanding}
+use Rattle.code_safety.specs.declared.instruction_outcomes.Went.TheVariants.{On}
+use Rattle.code_safety.proofs.Lemmas.{within_code, put_constant_stands}
 use Rattle.term_instructions.proofs.Steps.{led_on, put_constant_safe}
 use Rattle.term_instructions.proofs.puts.put_constant.Goals as goal
 

@@ -2,13 +2,13 @@ use Rattle.std.proofs.Common.{FitsSigned, subst, sym, rules, w64, refl}
 use Rattle.std.proofs.lemmas.Int.{to_z-of_z}
 use Rattle.heap_cells.specs.declared.Cell.TheVariants as cell
 use Rattle.wam_code.specs.declared.instruction.Register.TheVariants.{X}
-use Rattle.code_steps.specs.Registers.{IsWritten}
-use Rattle.code_states.specs.Machine.{registers_of}
+use Rattle.code_meaning.specs.Registers.{IsWritten}
+use Rattle.code_safety.specs.Machine.{registers_of}
 use Rattle.wam_code.specs.declared.instruction.Code.TheVariants.{PutInteger}
-use Rattle.code_states.specs.Safety.{IsSafeThen}
-use Rattle.code_states.specs.Standing.{KeepsStanding}
-use Rattle.code_states.specs.declared.went.Went.TheVariants.{On}
-use Rattle.code_states.proofs.Lemmas.{within_code, put_integer_stands}
+use Rattle.code_safety.specs.Safety.{IsSafeThen}
+use Rattle.code_safety.specs.RepresentedBranch.{KeepsStanding}
+use Rattle.code_safety.specs.declared.instruction_outcomes.Went.TheVariants.{On}
+use Rattle.code_safety.proofs.Lemmas.{within_code, put_integer_stands}
 use Rattle.term_instructions.proofs.Steps.{led_on, put_integer_safe}
 use Rattle.term_instructions.proofs.puts.put_integer.Goals as goal
 

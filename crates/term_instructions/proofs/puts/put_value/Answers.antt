@@ -1,9 +1,9 @@
 use Rattle.std.proofs.Common.{subst, sym, refl}
 use Rattle.wam_code.specs.declared.instruction.Code.TheVariants.{PutValue}
-use Rattle.code_states.specs.Safety.{IsSafeThen}
-use Rattle.code_states.specs.Standing.{KeepsStanding}
-use Rattle.code_states.specs.declared.went.Went.TheVariants.{On}
-use Rattle.code_states.proofs.Lemmas.{within_code, put_value_stands}
+use Rattle.code_safety.specs.Safety.{IsSafeThen}
+use Rattle.code_safety.specs.RepresentedBranch.{KeepsStanding}
+use Rattle.code_safety.specs.declared.instruction_outcomes.Went.TheVariants.{On}
+use Rattle.code_safety.proofs.Lemmas.{within_code, put_value_stands}
 use Rattle.term_instructions.proofs.Steps.{led_on, put_value_needs, put_value_safe}
 use Rattle.term_instructions.proofs.puts.put_value.Goals as goal
 
@@ -17,7 +17,8 @@ pub returns-clause-safe : goal.returns-clause-safe
 returns-clause-safe g c =
     let w = c.in_ok-write.ensures in
     subst (λ to. IsSafeThen c.args.code.now c.args.branch.now c.write.new.areas (On to)) (sym c.behind.ensures)
-    (put_value_safe c.args.code.now c.args.branch.now c.args.at c.args.areas.now c.requires.safe c.args.r c.args.a c.requires.holds c.write.new.areas c.read-cell.result c.read-cell.ensures w.written w.same w.slots)
+    (put_value_safe c.args.code.now c.args.branch.now c.args.at c.args.areas.now c.requires.safe c.args.r c.args.a c.requires.holds c.write.new.areas
+    c.read-cell.result c.read-cell.ensures w.written w.same w.slots)
 
 pub returns-clause-stands : goal.returns-clause-stands
 returns-clause-stands g c =

@@ -2,10 +2,10 @@ use Rattle.std.proofs.Common.{ap, subst, sym, ◌∙◌, refl}
 use Rattle.branch_state.specs.States as branch
 use Rattle.branch_state.specs.States.{with_heap}
 use Rattle.wam_code.specs.declared.instruction.Code.TheVariants.{PutVariable}
-use Rattle.code_states.specs.Safety.{IsSafeThen}
-use Rattle.code_states.specs.Standing.{KeepsStanding}
-use Rattle.code_states.specs.declared.went.Went.TheVariants.{On}
-use Rattle.code_states.proofs.Lemmas.{within_code, put_variable_stands, behind_both, below_heap}
+use Rattle.code_safety.specs.Safety.{IsSafeThen}
+use Rattle.code_safety.specs.RepresentedBranch.{KeepsStanding}
+use Rattle.code_safety.specs.declared.instruction_outcomes.Went.TheVariants.{On}
+use Rattle.code_safety.proofs.Lemmas.{within_code, put_variable_stands, behind_both, below_heap}
 use Rattle.term_instructions.proofs.Steps.{led_on, put_variable_needs, put_variable_safe}
 use Rattle.term_instructions.proofs.puts.put_variable.Goals as goal
 
@@ -24,7 +24,8 @@ returns-clause-safe g c =
     let w = c.in_ok-write.ensures in
     let w' = c.in_ok-write-2.ensures in
     subst (λ to. IsSafeThen c.args.code.now c.new_var.new.self c.write-2.new.areas (On to)) (sym c.behind.ensures)
-    (put_variable_safe c.args.code.now c.args.branch.now c.args.at c.args.areas.now c.requires.safe c.args.r c.args.a c.requires.holds c.new_var.new.self v.added v.sound c.in_ok-cell.cell v.id c.write.new.areas c.write-2.new.areas w.written w.same w.slots w'.written w'.same w'.slots)
+    (put_variable_safe c.args.code.now c.args.branch.now c.args.at c.args.areas.now c.requires.safe c.args.r c.args.a c.requires.holds c.new_var.new.self
+    v.added v.sound c.in_ok-cell.cell v.id c.write.new.areas c.write-2.new.areas w.written w.same w.slots w'.written w'.same w'.slots)
 
 pub returns-clause-stands : goal.returns-clause-stands
 returns-clause-stands g c =
@@ -32,7 +33,8 @@ returns-clause-stands g c =
     let w = c.in_ok-write.ensures in
     let w' = c.in_ok-write-2.ensures in
     subst (λ to. KeepsStanding c.args.code.now c.args.branch.now c.args.at c.args.areas.now c.new_var.new.self c.write-2.new.areas (On to)) (sym c.behind.ensures)
-    (put_variable_stands c.args.code.now c.args.branch.now c.args.at c.args.areas.now c.requires.safe c.args.r c.args.a c.requires.holds c.new_var.new.self v.added c.in_ok-cell.cell v.id c.write.new.areas c.write-2.new.areas w.written w.same w'.written w'.same)
+    (put_variable_stands c.args.code.now c.args.branch.now c.args.at c.args.areas.now c.requires.safe c.args.r c.args.a c.requires.holds c.new_var.new.self
+    v.added c.in_ok-cell.cell v.id c.write.new.areas c.write-2.new.areas w.written w.same w'.written w'.same)
 
 pub returns-clause-behind : goal.returns-clause-behind
 returns-clause-behind g c = behind_both c.args.areas.now c.write.new.areas c.write-2.new.areas c.in_ok-write.ensures.same c.in_ok-write-2.ensures.same

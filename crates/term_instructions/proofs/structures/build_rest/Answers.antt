@@ -1,6 +1,6 @@
 use Rattle.std.proofs.Common.{◌∙◌, length, All, sym, ap, subst, arith}
 use Rattle.branch_state.specs.States.{IsCell}
-use Rattle.term_instructions.proofs.Bound.{built_on}
+use Rattle.term_instructions.proofs.BoundStructures.{built_on}
 use Rattle.term_instructions.proofs.structures.build_rest.Goals as goal
 
 pub bind_gathered-requires : goal.bind_gathered-requires

@@ -15,5 +15,6 @@ put_gathered-requires g c =
 pub returns : goal.returns
 returns g c =
     puts_on c.args.code.now c.args.functor.0 c.args.functor.1 c.args.a c.args.branch.now c.args.at c.args.areas.now c.args.cells.now.items
-    c.gather_arguments.new.branch c.in_ok-next.next c.gather_arguments.new.areas c.gather_arguments.new.cells.items c.in_ok-next.ensures.gathered c.in_ok-next.ensures.all c.deref.result.now c.deref.ensures.value
+    c.gather_arguments.new.branch c.in_ok-next.next c.gather_arguments.new.areas c.gather_arguments.new.cells.items c.in_ok-next.ensures.gathered
+    c.in_ok-next.ensures.all c.deref.result.now c.deref.ensures.value
     c.put_gathered.new.branch c.put_gathered.new.areas c.put_gathered.result c.put_gathered.ensures

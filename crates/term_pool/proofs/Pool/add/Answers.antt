@@ -3,14 +3,17 @@ use Rattle.term_pool.specs.declared.TermId.{TermId}
 use Rattle.term_pool.specs.declared.Placed.{Placed}
 use Rattle.term_pool.specs.Contents.{Shape, Entry, Contents}
 use Rattle.term_pool.specs.Terms.{term_of, Extends}
-use Rattle.term_pool.specs.Valid.{IsPool, IsWithin, HasMachineNumbers, shape_of}
+use Rattle.term_pool.specs.PoolInvariant.{IsPool, IsWithin, HasMachineNumbers, shape_of}
 use Rattle.term_pool.specs.PoolFields.{entries_of, entry_of, AreStored, stored_shape}
 use Rattle.term_pool.proofs.Laws.{terms_kept, extends_push}
 use Rattle.term_pool.proofs.Growth.{stored_grown, stored_push, grown_entries, entries_push, length-entries_of, same_extends, term_added, on_err}
 use Rattle.term_pool.proofs.Pool.add.Goals as goal
 
 -- where the parts could not be kept
-same_without_parts : (c : goal.After-from_residual) → record { names = map string_bytes c.self.inside.atoms.keys; entries = entries_of c.store.new.parts.items c.self.inside.nodes.items } ≡ c.args.self.now
+same_without_parts : (c : goal.After-from_residual) → record {
+  names = map string_bytes c.self.inside.atoms.keys;
+  entries = entries_of c.store.new.parts.items c.self.inside.nodes.items;
+} ≡ c.args.self.now
 same_without_parts c =
     let names = map string_bytes c.self.inside.atoms.keys in
     ap (λ (es : List Entry). let p : Contents = record { names = names; entries = es } in p)
@@ -33,7 +36,8 @@ pub returns-in_err-node-clause-valid : goal.returns-in_err-node-clause-valid
 returns-in_err-node-clause-valid c = (invariant_of-self c).pool
 
 -- where the node could not be kept
-same_without_node : (c : goal.After-from_residual-in_err-push) → record { names = map string_bytes c.self.inside.atoms.keys; entries = entries_of c.store.new.parts.items c.push.new.self.items } ≡ c.args.self.now
+same_without_node : (c : goal.After-from_residual-in_err-push)
+    → record { names = map string_bytes c.self.inside.atoms.keys; entries = entries_of c.store.new.parts.items c.push.new.self.items } ≡ c.args.self.now
 same_without_node c =
     let names = map string_bytes c.self.inside.atoms.keys in
     ap (λ (es : List Entry). let p : Contents = record { names = names; entries = es } in p)

@@ -1,6 +1,6 @@
 use Rattle.std.proofs.Common.{rules, ap, sym, subst}
 use Rattle.term_pool.specs.Contents.{Contents}
-use Rattle.term_pool.specs.Valid.{IsPool}
+use Rattle.term_pool.specs.PoolInvariant.{IsPool}
 use Rattle.term_pool.proofs.Growth.{first_pool, first_stored}
 use Rattle.term_pool.proofs.Pool.new.Goals as goal
 

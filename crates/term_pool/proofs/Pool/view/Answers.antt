@@ -2,7 +2,7 @@ use Rattle.std.proofs.Common.{◌≡◌, ◌∙◌, List, Some, length, arith, s
 use Rattle.std.proofs.lemmas.Option.{slice_get_read}
 use Rattle.term_pool.specs.declared.TermId.{TermId}
 use Rattle.term_pool.specs.Contents.{Contents, Shape, shape_at}
-use Rattle.term_pool.specs.Valid.{IsPool, shape_of}
+use Rattle.term_pool.specs.PoolInvariant.{IsPool, shape_of}
 use Rattle.term_pool.specs.PoolFields.{stored_shape}
 use Rattle.term_pool.proofs.Laws.{term_of_shape, shape_within}
 use Rattle.term_pool.proofs.Growth.{stored_at, length-entries_of}

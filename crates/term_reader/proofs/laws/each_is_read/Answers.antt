@@ -1,4 +1,4 @@
-use Rattle.term_reader.proofs.Readable as readable
+use Rattle.term_reader.proofs.TextOutcomes as readable
 use Rattle.term_reader.proofs.laws.each_is_read.Goals as goal
 
 pub returns : goal.returns

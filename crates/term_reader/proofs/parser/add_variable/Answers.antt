@@ -3,4 +3,5 @@ use Rattle.term_reader.proofs.PlacedLaws.{added}
 use Rattle.term_reader.proofs.parser.add_variable.Goals as goal
 
 pub returns : goal.returns
-returns c = added c.add.result c.args.pool.now c.add.new.self (record { shape = pool.var c.args.number; place = c.args.place }) c.requires tt c.add.ensures.added c.add.ensures.extends c.add.ensures.valid c.add.ensures.id
+returns c = added c.add.result c.args.pool.now c.add.new.self (record { shape = pool.var c.args.number; place = c.args.place }) c.requires tt
+    c.add.ensures.added c.add.ensures.extends c.add.ensures.valid c.add.ensures.id

@@ -34,5 +34,6 @@ returns-clause-steps c q =
     let o = c.in-Some.operation in
     let e = rw (c.in-Some.is, c.deref.ensures.value) at c.last_operation.ensures in
     let h : gives_way c.args.below (right_limit (nameless o.operator)) ≡ true = ap (gives_way c.args.below) (sym c.right_limit.ensures) ∙ sym c.gives_way.ensures ∙ c.if-not-gives_way.false in
-    steps_as (steps_operation c.args.below c.args.pool.now c.add_operation.new.pool c.args.items.now.items o o.left c.args.operand c.in_ok-term.term q e h c.requires.pool c.requires.ids c.in_ok-term.ensures)
+    steps_as (steps_operation c.args.below c.args.pool.now c.add_operation.new.pool c.args.items.now.items o o.left c.args.operand c.in_ok-term.term q e h
+    c.requires.pool c.requires.ids c.in_ok-term.ensures)
     (c.pop.ensures.rest ∙ ap (λ (n : ℕ). take (n - 1) c.args.items.now.items) c.args.items.now.ok.0)

@@ -1,5 +1,5 @@
 use Rattle.std.proofs.Common.{◌≡◌, ◌∙◌, ◌++◌, ℕ, List, Bool, cond, sym, ap}
-use Rattle.fd_language.specs.Writing.{quoted_name}
+use Rattle.fd_language.specs.TermTexts.{quoted_name}
 use Rattle.term_writer.specs.Pieces.{joined}
 use Rattle.term_writer.specs.Views.{mode_of, name_text}
 use Rattle.term_writer.proofs.Joins.{join_quoted}

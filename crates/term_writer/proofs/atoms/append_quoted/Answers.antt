@@ -1,6 +1,6 @@
 use Rattle.std.proofs.Common.{◌≡◌, ◌∙◌, ℕ, ◌+◌, List, [], ◌∷◌, ◌++◌, drop, sym, ap, arith, append_assoc, append-nil}
 use Rattle.std.proofs.lemmas.List.{at_drop_more, at_drop_all}
-use Rattle.fd_language.specs.Writing.{quoted_bytes}
+use Rattle.fd_language.specs.TermTexts.{quoted_bytes}
 use Rattle.term_writer.proofs.atoms.append_quoted.Goals as goal
 
 pub loop-byte-init : goal.loop-byte-init

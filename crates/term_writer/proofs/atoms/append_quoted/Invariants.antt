@@ -1,5 +1,5 @@
 use Rattle.std.proofs.Common.{◌≡◌, ◌++◌, ◌∷◌, [], drop}
-use Rattle.fd_language.specs.Writing.{quoted_bytes}
+use Rattle.fd_language.specs.TermTexts.{quoted_bytes}
 use Rattle.term_writer.proofs.atoms.append_quoted.Given as goal
 
 abbrev pub invariant-loop-byte : goal.invariant-loop-byte

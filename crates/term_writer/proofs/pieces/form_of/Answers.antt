@@ -11,7 +11,8 @@ returns-else-eq c = call_one c.args.name.now c.args.parts.now (sym c.eq.ensures 
 
 pub returns-in-len2 : goal.returns-in-len2
 returns-in-len2 c =
-    subst (λ (ts : List TermId). IsForm c.args.name.now ts c.pair_form.result) (sym (two_parts c.args.parts.now (record { number = 0 }) (record { number = 0 }) c.in-len2.len_at_least c.in-len2.len_below)) c.pair_form.ensures
+    subst (λ (ts : List TermId). IsForm c.args.name.now ts c.pair_form.result)
+    (sym (two_parts c.args.parts.now (record { number = 0 }) (record { number = 0 }) c.in-len2.len_at_least c.in-len2.len_below)) c.pair_form.ensures
 
 pub returns-in-empty : goal.returns-in-empty
 returns-in-empty c = call_none c.args.name.now c.args.parts.now c.in-empty.len_below

@@ -2,7 +2,7 @@ use Rattle.std.proofs.Common.{◌≡◌, ◌∙◌, ℕ, List, ap, subst, sym}
 use Rattle.std.specs.Prelude.{All}
 use Rattle.std.proofs.lemmas.List.Elements.{All-nil}
 use Rattle.std.proofs.lemmas.Result.{on_ok_weaker}
-use Rattle.fd_language.specs.Writing.{term_text}
+use Rattle.fd_language.specs.TermTexts.{term_text}
 use Rattle.term_pool.specs.Terms.{term_of}
 use Rattle.term_writer.specs.Pieces.{joined, finished, IsOf}
 use Rattle.term_writer.specs.Views.{mode_of, text_in, text_of}

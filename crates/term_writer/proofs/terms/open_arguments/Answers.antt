@@ -2,7 +2,7 @@ use Rattle.std.proofs.Common.{◌≡◌, ◌∙◌, ◌<◌, ◌-◌, take, ◌+
 use Rattle.std.specs.Prelude.{All}
 use Rattle.std.proofs.lemmas.List.{take_rest}
 use Rattle.std.proofs.lemmas.List.Elements.{All-tail}
-use Rattle.fd_language.specs.Writing.{arguments_text, spelled_each}
+use Rattle.fd_language.specs.TermTexts.{arguments_text, spelled_each}
 use Rattle.term_pool.specs.declared.TermId.{TermId}
 use Rattle.term_pool.specs.Terms.{terms_by, term_of}
 use Rattle.term_writer.specs.Pieces.{piece_text, piece_weight, weights}
@@ -29,5 +29,6 @@ returns-in_ok-extend_from_slice-in-len2-up c = λ pool mode vars text within.
     let whole : ts ≡ get_or ts 0 d ∷ get_or ts 1 d ∷ drop 2 ts = more_parts ts d c.in-len2-up.len_at_least in
     let behind : All inside (take (length ts - 1) (drop 1 ts)) = subst (All inside) (sym tail) (All-tail inside (get_or ts 0 d) (get_or ts 1 d ∷ drop 2 ts) (subst (All inside) whole within)) in
     more_arguments pool mode vars ts (drop 2 ts) (get_or ts 0 d) (get_or ts 1 d) text c.args.ahead.now.items c.extend_from_slice.new.self.items _ _ c.in_ok-extend_from_slice-in-len2-up.ensures.items
-    (record { text = refl; light = refl; within = tt }) (ap (λ (us : List TermId). arguments_text (spelled_each mode vars (terms_by (term_of pool) us))) tail) (ap (λ (us : List TermId). weights (terms_by (term_of pool) us) + 1) tail)
+    (record { text = refl; light = refl; within = tt }) (ap (λ (us : List TermId). arguments_text (spelled_each mode vars (terms_by (term_of pool) us))) tail)
+    (ap (λ (us : List TermId). weights (terms_by (term_of pool) us) + 1) tail)
     behind within whole

@@ -1,6 +1,6 @@
 use Rattle.std.proofs.Common.{◌≡◌}
 use Rattle.std.specs.Prelude.{All}
-use Rattle.fd_language.specs.Writing.{term_text}
+use Rattle.fd_language.specs.TermTexts.{term_text}
 use Rattle.term_pool.specs.Terms.{term_of}
 use Rattle.term_writer.specs.Pieces.{joined, finished, load, IsOf}
 use Rattle.term_writer.specs.Views.{mode_of, text_in}

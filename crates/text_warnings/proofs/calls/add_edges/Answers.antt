@@ -5,8 +5,8 @@ use Rattle.term_pool.specs.PlacedTerms.{placed_of}
 use Rattle.text_warnings.specs.Clauses.{calls_of}
 use Rattle.text_warnings.specs.Terms.{same_numbers}
 use Rattle.text_warnings.specs.Graphs.{items_of, numbers_in}
-use Rattle.text_warnings.proofs.Edging.{adds_body, put_items}
-use Rattle.text_warnings.proofs.Sorting.{on_ok}
+use Rattle.text_warnings.proofs.CallEdges.{adds_body, put_items}
+use Rattle.text_warnings.proofs.WarningOrder.{on_ok}
 use Rattle.text_warnings.proofs.calls.add_edges.Goals as goal
 
 pub returns : goal.returns

@@ -2,12 +2,13 @@ use Rattle.std.proofs.Common.{◌+◌, None, map, take, get_or, sym, ◌∙◌}
 use Rattle.std.proofs.lemmas.List.{take_more, length-map}
 use Rattle.text_warnings.specs.declared.clauses.Clause.{Clause}
 use Rattle.text_warnings.specs.Graphs.{items_of}
-use Rattle.text_warnings.proofs.Edging.{no_clauses, edges_more}
+use Rattle.text_warnings.proofs.CallEdges.{no_clauses, edges_more}
 use Rattle.text_warnings.proofs.calls.edges_of.Goals as goal
 
 pub loop-clause-init : goal.loop-clause-init
 loop-clause-init c =
-    no_clauses c.args.pool.now c.args.functors.now.keys (map items_of c.in_ok-edges.edges.items) (length-map c.in_ok-edges.edges.items items_of ∙ c.in_ok-edges.ensures.count ∙ c.len.ensures.len) c.in_ok-edges.ensures.empty
+    no_clauses c.args.pool.now c.args.functors.now.keys (map items_of c.in_ok-edges.edges.items)
+    (length-map c.in_ok-edges.edges.items items_of ∙ c.in_ok-edges.ensures.count ∙ c.len.ensures.len) c.in_ok-edges.ensures.empty
 
 pub loop-clause-preserved : goal.loop-clause-preserved
 loop-clause-preserved c =

@@ -1,7 +1,7 @@
 use Rattle.std.proofs.Common.{List, ℕ, [], ◌∷◌, ◌++◌, Vec, Global, length, map, refl, sym, ap, ◌∙◌, subst, arith, length-append}
 use Rattle.std.proofs.lemmas.List.{map_push}
 use Rattle.text_warnings.specs.Graphs.{items_of, AreEmpty}
-use Rattle.text_warnings.proofs.Edging.{empty_push}
+use Rattle.text_warnings.proofs.CallEdges.{empty_push}
 use Rattle.text_warnings.proofs.calls.no_edges.Goals as goal
 
 pub loop-number-init : goal.loop-number-init

@@ -8,7 +8,7 @@ use Rattle.term_pool.specs.Terms.{total_size}
 use Rattle.term_pool.specs.PlacedTerms.{placed_of}
 use Rattle.term_pool.proofs.Lemmas.{rest_is_smaller}
 use Rattle.text_warnings.specs.Graphs.{numbers_in}
-use Rattle.text_warnings.proofs.Calling.{ahead_calls, both_step, inner_step, goal_step, both_smaller, inner_smaller}
+use Rattle.text_warnings.proofs.BodyCalls.{ahead_calls, both_step, inner_step, goal_step, both_smaller, inner_smaller}
 use Rattle.text_warnings.proofs.calls.put_calls.Goals as goal
 
 -- two parts

@@ -1,7 +1,7 @@
 use Rattle.std.proofs.Common.{◌≡◌, ◌<◌, ◌++◌, length}
 use Rattle.std.specs.Prelude.{All}
 use Rattle.term_pool.specs.Terms.{total_size}
-use Rattle.text_warnings.proofs.Calling.{own_calls, ahead_calls}
+use Rattle.text_warnings.proofs.BodyCalls.{own_calls, ahead_calls}
 use Rattle.text_warnings.proofs.calls.put_calls.Given as goal
 
 abbrev pub invariant-loop-next : goal.invariant-loop-next

@@ -6,8 +6,8 @@ use Rattle.term_pool.specs.declared.TermId.{TermId}
 use Rattle.term_pool.specs.PlacedTerms.{placed_of}
 use Rattle.text_warnings.specs.Clauses.{calls_of}
 use Rattle.text_warnings.specs.Graphs.{numbers_in}
-use Rattle.text_warnings.proofs.Adding.{flat_map_push}
-use Rattle.text_warnings.proofs.Calling.{numbers-append}
+use Rattle.text_warnings.proofs.AddedWarnings.{flat_map_push}
+use Rattle.text_warnings.proofs.BodyCalls.{numbers-append}
 use Rattle.text_warnings.proofs.calls.starts_of.Goals as goal
 
 pub loop-body-preserved : goal.loop-body-preserved

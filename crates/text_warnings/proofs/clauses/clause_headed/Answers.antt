@@ -2,7 +2,7 @@ use Rattle.std.proofs.Common.{ℕ, Option, ap₂}
 use Rattle.fd_model.specs.Refusals as refusals
 use Rattle.term_reader.proofs.Lemmas.{place_placed}
 use Rattle.text_warnings.specs.Clauses.{clause_headed}
-use Rattle.text_warnings.specs.Seen.{body_calls}
+use Rattle.text_warnings.specs.WarningViews.{body_calls}
 use Rattle.text_warnings.proofs.clauses.clause_headed.Goals as goal
 
 pub returns-clause-kept : goal.returns-clause-kept

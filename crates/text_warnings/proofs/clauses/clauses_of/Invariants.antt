@@ -2,7 +2,7 @@ use Rattle.std.proofs.Common.{◌≡◌, take, map}
 use Rattle.std.specs.Prelude.{All}
 use Rattle.term_reader.specs.Sentences.{sentence_of}
 use Rattle.text_warnings.specs.Clauses.{clauses_in}
-use Rattle.text_warnings.specs.Seen.{clause_in, IsOwn}
+use Rattle.text_warnings.specs.WarningViews.{clause_in, IsOwn}
 use Rattle.text_warnings.proofs.clauses.clauses_of.Given as goal
 
 abbrev pub invariant-loop-sentence : goal.invariant-loop-sentence

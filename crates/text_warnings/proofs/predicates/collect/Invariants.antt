@@ -1,5 +1,5 @@
 use Rattle.std.proofs.Common.{take}
-use Rattle.text_warnings.proofs.Collecting.{HasCollected}
+use Rattle.text_warnings.proofs.ClausePredicates.{HasCollected}
 use Rattle.text_warnings.proofs.predicates.collect.Given as goal
 
 abbrev pub invariant-loop-clause : goal.invariant-loop-clause

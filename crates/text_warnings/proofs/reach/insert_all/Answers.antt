@@ -1,6 +1,6 @@
 use Rattle.std.proofs.Common.{◌+◌, take, get_or, rules}
 use Rattle.std.proofs.lemmas.List.{take_more}
-use Rattle.text_warnings.proofs.Reaching.{put_none, put_more}
+use Rattle.text_warnings.proofs.ReachedNumbers.{put_none, put_more}
 use Rattle.text_warnings.proofs.reach.insert_all.Goals as goal
 
 pub loop-number-init : goal.loop-number-init

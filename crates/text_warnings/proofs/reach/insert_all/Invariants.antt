@@ -1,5 +1,5 @@
 use Rattle.std.proofs.Common.{take}
-use Rattle.text_warnings.proofs.Reaching.{HasPut}
+use Rattle.text_warnings.proofs.ReachedNumbers.{HasPut}
 use Rattle.text_warnings.proofs.reach.insert_all.Given as goal
 
 abbrev pub invariant-loop-number : goal.invariant-loop-number

@@ -2,7 +2,7 @@ use Rattle.std.proofs.Common.{◌≡◌, ◌<◌, ◌≤◌, ℕ, List, Some, le
 use Rattle.std.specs.Prelude.{◌||◌, slice_get}
 use Rattle.std.proofs.lemmas.List.{length-map}
 use Rattle.text_warnings.specs.Graphs.{is_in, items_of, leads_to, AreBelow}
-use Rattle.text_warnings.proofs.Reaching.{begun, reaching_more, reached_all, as_many, found_at, none_at, in_at}
+use Rattle.text_warnings.proofs.ReachedNumbers.{begun, reaching_more, reached_all, as_many, found_at, none_at, in_at}
 use Rattle.text_warnings.proofs.reach.reach.Goals as goal
 use Rattle.text_warnings.proofs.reach.reach.Goals.{else-loop-at-test, then-loop-at-test+in_default}
 

@@ -1,6 +1,6 @@
 use Rattle.std.proofs.Common.{map}
 use Rattle.text_warnings.specs.Graphs.{items_of}
-use Rattle.text_warnings.proofs.Reaching.{IsReaching}
+use Rattle.text_warnings.proofs.ReachedNumbers.{IsReaching}
 use Rattle.text_warnings.proofs.reach.reach.Given as goal
 
 abbrev pub invariant-loop-at : goal.invariant-loop-at

@@ -2,7 +2,7 @@ use Rattle.std.proofs.Common.{subst}
 use Rattle.fd_language.specs.PlacedTerm.{place}
 use Rattle.term_pool.specs.Contents.{atom_name}
 use Rattle.term_pool.specs.declared.Node.{Node}
-use Rattle.term_pool.specs.Valid.{shape_of}
+use Rattle.term_pool.specs.PoolInvariant.{shape_of}
 use Rattle.term_pool.specs.PlacedTerms.{placed_of}
 use Rattle.text_warnings.specs.Terms.{IsSeen}
 use Rattle.text_warnings.proofs.TermShapes.{many_joined, bare_joined}

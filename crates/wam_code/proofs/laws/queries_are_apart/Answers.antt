@@ -1,4 +1,5 @@
-use Rattle.wam_code.proofs.Reaching.{falls_inside, names_outside, falls_outside, entry_outside, returns_outside, executes_outside, no_answer_outside, shown_are_cells}
+use Rattle.wam_code.proofs.CodeRegions.{falls_inside, names_outside, falls_outside, entry_outside, returns_outside, executes_outside, no_answer_outside}
+use Rattle.wam_code.proofs.CodeRegions.{shown_are_cells}
 use Rattle.wam_code.proofs.laws.queries_are_apart.Goals as goal
 
 pub returns : goal.returns

@@ -1,5 +1,5 @@
-use Rattle.wam_code.proofs.Keeping.{step_safe}
-use Rattle.wam_code.proofs.Reaching.{entry_covered, query_covered, has_state}
+use Rattle.wam_code.proofs.Effect.{step_safe}
+use Rattle.wam_code.proofs.CodeRegions.{entry_covered, query_covered, has_state}
 use Rattle.wam_code.proofs.laws.steps_are_safe.Goals as goal
 
 pub returns : goal.returns

@@ -1,5 +1,5 @@
-use Rattle.wam_code.proofs.Ending.{fork_falls, step_falls, proceed_falls, back_falls, cut_less}
-use Rattle.wam_code.proofs.Reaching.{names_nearer, falls_nearer}
+use Rattle.wam_code.proofs.WorkMeasure.{fork_falls, step_falls, proceed_falls, back_falls, cut_less}
+use Rattle.wam_code.proofs.CodeRegions.{names_nearer, falls_nearer}
 use Rattle.wam_code.proofs.laws.work_falls.Goals as goal
 
 pub returns : goal.returns

@@ -1,5 +1,5 @@
 use Rattle.std.proofs.Common.{◌≡◌, take}
-use Rattle.fd_model.specs.Satisfies.{AreDifferent}
+use Rattle.fd_model.specs.Satisfaction.{AreDifferent}
 use Rattle.answer_check.specs.AnswerLines.{assigned}
 use Rattle.answer_check.specs.Members.{worths_of}
 use Rattle.answer_check.proofs.checks.Scratch.are_different.Given as goal

@@ -11,5 +11,6 @@ pub returns : goal.returns
 returns c =
     let l : SFits w128 c.pop_number-left.result = search rules in
     let r : SFits w128 c.pop_number-right.result = search rules in
-    ends_hold (assigned c.args.values.now) c.args.relation c.args.sides.now (length c.nodes.result.now - 1) c.run.new.self c.pop_number-right.new.self.numbers.items c.pop_number-left.result c.pop_number-right.result c.holds.result c.requires
+    ends_hold (assigned c.args.values.now) c.args.relation c.args.sides.now (length c.nodes.result.now - 1) c.run.new.self
+    c.pop_number-right.new.self.numbers.items c.pop_number-left.result c.pop_number-right.result c.holds.result c.requires
     (ap (λ ns. length ns - 1) c.nodes.ensures) c.in_ok-run.ensures c.pop_number-right.ensures.taken (λ front x e. (c.pop_number-left.ensures.taken front x e).0) (simp to_z-of_z at c.holds.ensures)

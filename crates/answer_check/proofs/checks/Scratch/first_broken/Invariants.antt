@@ -1,6 +1,6 @@
 use Rattle.std.proofs.Common.{take}
 use Rattle.answer_check.specs.AnswerLines.{assigned}
-use Rattle.answer_check.proofs.Breaking.{AllMet}
+use Rattle.answer_check.proofs.BrokenConstraints.{AllMet}
 use Rattle.answer_check.proofs.checks.Scratch.first_broken.Given as goal
 
 abbrev pub invariant-loop-number : goal.invariant-loop-number

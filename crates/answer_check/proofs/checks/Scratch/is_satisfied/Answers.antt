@@ -8,10 +8,12 @@ use Rattle.answer_check.proofs.Safety.{bounded_values_of}
 use Rattle.answer_check.proofs.checks.Scratch.is_satisfied.Goals as goal
 
 pub is_in_range-requires : goal.is_in_range-requires
-is_in_range-requires c = range_safe (assigned c.args.values.now) c.args.constraint.now c.in-Post.target c.in-Post.range c.in-Post.is (bounded_values_of c.args.values.now c.requires.values) c.requires.safe
+is_in_range-requires c = range_safe (assigned c.args.values.now) c.args.constraint.now c.in-Post.target c.in-Post.range c.in-Post.is
+    (bounded_values_of c.args.values.now c.requires.values) c.requires.safe
 
 pub compares-requires : goal.compares-requires
-compares-requires c = ends_safe (assigned c.args.values.now) c.args.constraint.now c.in-Compare.relation c.in-Compare.sides c.in-Compare.is (bounded_values_of c.args.values.now c.requires.values) c.requires.safe
+compares-requires c = ends_safe (assigned c.args.values.now) c.args.constraint.now c.in-Compare.relation c.in-Compare.sides c.in-Compare.is
+    (bounded_values_of c.args.values.now c.requires.values) c.requires.safe
 
 pub returns-in-Post : goal.returns-in-Post
 returns-in-Post c = subst (λ (k : Constraint). IfOk c.is_in_range.result (λ b. IsTrue b ↔ Meets (assigned c.args.values.now) k)) (sym c.in-Post.is) c.is_in_range.ensures

@@ -8,7 +8,7 @@ use Rattle.term_pool.specs.declared.Node.{Node}
 use Rattle.term_pool.specs.declared.TermId.{TermId}
 use Rattle.term_pool.specs.Contents.{atom_name}
 use Rattle.term_pool.specs.Terms.{term_of, terms_by, shape_term}
-use Rattle.term_pool.specs.Valid.{IsStorable, shape_of}
+use Rattle.term_pool.specs.PoolInvariant.{IsStorable, shape_of}
 use Rattle.term_pool.proofs.Lemmas.{one_part, two_parts, term_is_storable}
 use Rattle.answer_check.specs.declared.sides.Task.TheVariants as task
 use Rattle.answer_check.specs.declared.sides.Width.{Width}

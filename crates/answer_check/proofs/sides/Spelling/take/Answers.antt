@@ -14,4 +14,5 @@ returns-in-Put c =
     let ahead = c.args.ahead.now.items in
     let n = c.in-Put.node in
     subst (λ (k : Task). IfOk c.put_operator.result (IsDone pool k old ahead new ahead)) (sym c.in-Put.is)
-    (weaker (Applies (joined n) old new) (IsDone pool (task.Put n) old ahead new ahead) c.put_operator.result (λ b h. done_at_once pool (task.Put n) old new ahead (joined n) b (λ es. refl) h) c.put_operator.ensures)
+    (weaker (Applies (joined n) old new) (IsDone pool (task.Put n) old ahead new ahead) c.put_operator.result
+    (λ b h. done_at_once pool (task.Put n) old new ahead (joined n) b (λ es. refl) h) c.put_operator.ensures)

@@ -2,10 +2,10 @@ use Rattle.std.proofs.Common.{◌≡◌, ◌+◌, ◌++◌, length, ap, sym, ◌
 use Rattle.fd_language.specs.declared.TheConstants.{INFINITY}
 use Rattle.fd_model.specs.Levels.{Levels}
 use Rattle.bound_search.specs.Members.{AreOwn}
-use Rattle.branch_state.specs.Bounding.{new_bounds}
+use Rattle.branch_state.specs.VariableBounds.{new_bounds}
 use Rattle.branch_state.specs.States.{State, HasNoModel, IsSound}
 use Rattle.branch_state.proofs.OpenSets.{open_model}
-use Rattle.branch_state.proofs.Sound.{false_at}
+use Rattle.branch_state.proofs.States.{false_at}
 use Rattle.branch_state.proofs.state.BranchState.best_leaf.Goals as goal
 
 pub add_bounded-requires-clause-greatest : goal.add_bounded-requires-clause-greatest

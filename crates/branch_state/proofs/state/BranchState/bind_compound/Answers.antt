@@ -14,7 +14,8 @@ pub bind_built-requires-clause-own : goal.bind_built-requires-clause-own
 bind_built-requires-clause-own g c = c.in_ok-built.ensures.made.own
 
 pub bind_built-requires-clause-cells : goal.bind_built-requires-clause-cells
-bind_built-requires-clause-cells g c = cells_stay c.args.self.now c.args.f c.args.args.now c.compound.new.self c.in_ok-built.built c.requires.cells c.in_ok-built.ensures.made c.in_ok-built.ensures.heap
+bind_built-requires-clause-cells g c = cells_stay c.args.self.now c.args.f c.args.args.now c.compound.new.self c.in_ok-built.built c.requires.cells
+    c.in_ok-built.ensures.made c.in_ok-built.ensures.heap
 
 pub bind_built-requires-clause-compound : goal.bind_built-requires-clause-compound
 bind_built-requires-clause-compound g c = made_of c.args.self.now c.args.f c.args.args.now c.compound.new.self c.in_ok-built.built c.requires.cells c.in_ok-built.ensures.made
@@ -22,7 +23,8 @@ bind_built-requires-clause-compound g c = made_of c.args.self.now c.args.f c.arg
 pub returns-clause-binds : goal.returns-clause-binds
 returns-clause-binds g c =
     let b = c.in_ok-built in
-    binds c.args.f c.args.args.now c.args.var c.args.self.now c.compound.new.self b.built b.ensures.made b.ensures.heap b.ensures.sound c.bind_built.new.self c.args.touches.now.items c.bind_built.new.touches.items c.bind_built.result c.bind_built.ensures.equal c.bind_built.ensures.unequal
+    binds c.args.f c.args.args.now c.args.var c.args.self.now c.compound.new.self b.built b.ensures.made b.ensures.heap b.ensures.sound c.bind_built.new.self
+    c.args.touches.now.items c.bind_built.new.touches.items c.bind_built.result c.bind_built.ensures.equal c.bind_built.ensures.unequal
 
 pub returns-clause-touches : goal.returns-clause-touches
 returns-clause-touches g c = λ low. c.bind_built.ensures.touches (subst (λ (s : State). AreTouchesOf s c.args.touches.now.items) (sym c.in_ok-built.ensures.heap) low)

@@ -1,16 +1,16 @@
 use Rattle.std.proofs.Common.{◌≡◌, ◌∙◌, ap, sym, subst, length, Ok, Err, refl}
 use Rattle.fd_language.specs.declared.TheConstants.{INFINITY}
-use Rattle.fd_model.specs.Constraining.{arguments, expand}
+use Rattle.fd_model.specs.ConstraintExpansion.{arguments, expand}
 use Rattle.heap_cells.specs.Cells.{Heaps}
 use Rattle.heap_cells.specs.SeenTerms.{seen_term}
 use Rattle.range_code.specs.Frames.{family_of}
 use Rattle.term_pool.specs.Contents.{name_in}
-use Rattle.machine_frames.specs.Frames.{link_in}
+use Rattle.branch_lemmas.specs.Frames.{link_in}
 use Rattle.branch_state.specs.Constraints.{row_of, Constrains, IsRowOf}
 use Rattle.branch_state.specs.LinkedRows.{IsRowReady}
-use Rattle.branch_state.specs.Naming.{OwnLinks}
+use Rattle.branch_state.specs.StoreVariables.{OwnLinks}
 use Rattle.branch_state.specs.States.{State, IsSound, IsCell}
-use Rattle.branch_state.proofs.ConstrainingStates.{own_links, constraint_step, list_fits, fixed_fits, row_of_heap, row_read, fault_read}
+use Rattle.branch_state.proofs.ConstraintStates.{own_links, constraint_step, list_fits, fixed_fits, row_of_heap, row_read, fault_read}
 use Rattle.branch_state.proofs.state.BranchState.constrain.Goals as goal
 
 pub expand_goal-expanded-requires-clause-linked : goal.expand_goal-expanded-requires-clause-linked
@@ -32,8 +32,10 @@ returns-in-Err-clause-step g c =
     let fresh = c.in_ok-fresh.fresh in
     let read = row_read names now o atoms kind cell own fresh c.in_ok-fresh.ensures.count in
     let moved = ap (λ (x : Heaps). expand INFINITY kind (arguments (seen_term (name_in names) x.now (family_of now.levels.current.sets) cell)) fresh) (sym same) in
-    let fault : row_of names now kind cell ≡ Err c.in_ok-fault_of-in-Err.field-0 = sym read ∙ moved ∙ fault_read _ c.in-Err.fault c.in_ok-fault_of-in-Err.field-0 c.in-Err.ensures.row c.in_ok-fault_of-in-Err.ensures.fault in
-    let unmoved : record { atoms = now.atoms; infinity = now.infinity; heaps = c.count_variables.new.heap; levels = now.levels } ≡ now = ap (λ (x : Heaps). record { atoms = now.atoms; infinity = now.infinity; heaps = x; levels = now.levels }) same in
+    let fault : row_of names now kind cell ≡ Err c.in_ok-fault_of-in-Err.field-0 = sym read ∙ moved
+    ∙ fault_read _ c.in-Err.fault c.in_ok-fault_of-in-Err.field-0 c.in-Err.ensures.row c.in_ok-fault_of-in-Err.ensures.fault in
+    let unmoved : record { atoms = now.atoms; infinity = now.infinity; heaps = c.count_variables.new.heap; levels = now.levels } ≡ now = ap
+    (λ (x : Heaps). record { atoms = now.atoms; infinity = now.infinity; heaps = x; levels = now.levels }) same in
     (subst (λ (v : State). row_of names v kind cell ≡ Err c.in_ok-fault_of-in-Err.field-0) c.self.view_is fault, unmoved ∙ c.self.view_is)
 
 pub prepare_row-requires-clause-links : goal.prepare_row-requires-clause-links
@@ -79,7 +81,8 @@ post_rows-requires-clause-list g c =
     let S = c.prepare_row.new.store.current.sets in
     let list = c.in_ok-listed.listed.list.items in
     let fixed = c.in_ok-listed.listed.fixed.items in
-    let ready : IsRowReady now.heaps.now now.levels.current.sets y c.prepare_row.new.heap.now S list fixed = subst (λ (x : Heaps). IsRowReady x.now now.levels.current.sets y c.prepare_row.new.heap.now S list fixed) same c.in_ok-listed.ensures.ready in
+    let ready : IsRowReady now.heaps.now now.levels.current.sets y c.prepare_row.new.heap.now S list fixed = subst
+    (λ (x : Heaps). IsRowReady x.now now.levels.current.sets y c.prepare_row.new.heap.now S list fixed) same c.in_ok-listed.ensures.ready in
     list_fits names now o kind cell y is row c.prepare_row.new.heap.now S list fixed ready
 
 pub post_rows-requires-clause-fixed : goal.post_rows-requires-clause-fixed
@@ -101,7 +104,8 @@ post_rows-requires-clause-fixed g c =
     let S = c.prepare_row.new.store.current.sets in
     let list = c.in_ok-listed.listed.list.items in
     let fixed = c.in_ok-listed.listed.fixed.items in
-    let ready : IsRowReady now.heaps.now now.levels.current.sets y c.prepare_row.new.heap.now S list fixed = subst (λ (x : Heaps). IsRowReady x.now now.levels.current.sets y c.prepare_row.new.heap.now S list fixed) same c.in_ok-listed.ensures.ready in
+    let ready : IsRowReady now.heaps.now now.levels.current.sets y c.prepare_row.new.heap.now S list fixed = subst
+    (λ (x : Heaps). IsRowReady x.now now.levels.current.sets y c.prepare_row.new.heap.now S list fixed) same c.in_ok-listed.ensures.ready in
     fixed_fits names now o kind cell y is row c.prepare_row.new.heap.now S list fixed ready
 
 pub returns-clause-step : goal.returns-clause-step
@@ -123,13 +127,16 @@ returns-clause-step g c =
     let S = c.prepare_row.new.store.current.sets in
     let list = c.in_ok-listed.listed.list.items in
     let fixed = c.in_ok-listed.listed.fixed.items in
-    let ready : IsRowReady now.heaps.now now.levels.current.sets y c.prepare_row.new.heap.now S list fixed = subst (λ (x : Heaps). IsRowReady x.now now.levels.current.sets y c.prepare_row.new.heap.now S list fixed) same c.in_ok-listed.ensures.ready in
+    let ready : IsRowReady now.heaps.now now.levels.current.sets y c.prepare_row.new.heap.now S list fixed = subst
+    (λ (x : Heaps). IsRowReady x.now now.levels.current.sets y c.prepare_row.new.heap.now S list fixed) same c.in_ok-listed.ensures.ready in
     let next : State = record { atoms = now.atoms; infinity = now.infinity; heaps = c.prepare_row.new.heap; levels = c.post_rows.new.store } in
     let below = c.prepare_row.ensures.below ∙ ap (λ (x : Heaps). x.below) same in
     subst (λ (v : State). Constrains names v kind cell next c.step_of.result) c.self.view_is
     (subst (Constrains names now kind cell next) (sym c.step_of.ensures)
     (constraint_step names now o kind cell y is row c.prepare_row.new.heap.now S list fixed ready
-    c.prepare_row.new.heap refl below c.prepare_row.new.store c.post_rows.new.store c.in_ok-listed.ensures.store c.post_rows.ensures.below c.in_ok-kept.ensures.unspent c.in_ok-kept.ensures.vars c.vars.result c.vars.ensures c.in_ok-kept.kept c.in_ok-kept.ensures.posted c.in_ok-kept.ensures.kept c.in_ok-kept.ensures.none))
+    c.prepare_row.new.heap refl below c.prepare_row.new.store c.post_rows.new.store c.in_ok-listed.ensures.store c.post_rows.ensures.below
+    c.in_ok-kept.ensures.unspent c.in_ok-kept.ensures.vars c.vars.result c.vars.ensures c.in_ok-kept.kept c.in_ok-kept.ensures.posted
+    c.in_ok-kept.ensures.kept c.in_ok-kept.ensures.none))
 
 pub post_rows-requires-clause-greatest : goal.post_rows-requires-clause-greatest
 post_rows-requires-clause-greatest g c =

@@ -1,6 +1,6 @@
 use Rattle.std.proofs.Common.{◌<◌, sym, subst, length, arith}
 use Rattle.branch_state.specs.States.{State, IsSound}
-use Rattle.branch_state.proofs.Sound.{dropped_sound, pairs_counted}
+use Rattle.branch_state.proofs.States.{dropped_sound, pairs_counted}
 use Rattle.branch_state.proofs.state.BranchState.drop_marks.Goals as goal
 
 pub drop_marks-requires-2 : goal.drop_marks-requires-2

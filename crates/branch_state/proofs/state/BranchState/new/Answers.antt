@@ -1,9 +1,9 @@
 use Rattle.std.proofs.Common.{◌≡◌, false, ◌∙◌, ap, subst, refl}
 use Rattle.fd_model.specs.Levels.{Levels}
 use Rattle.heap_cells.specs.Cells.{Heaps, no_cells}
-use Rattle.heap_cells.specs.Valid.{IsHeap}
-use Rattle.propagate_queue.specs.Running.{AreDomains}
-use Rattle.branch_state.proofs.Sound.{first_sound, same_sound}
+use Rattle.heap_cells.specs.HeapInvariant.{IsHeap}
+use Rattle.propagate_queue.specs.PropagationInvariant.{AreDomains}
+use Rattle.branch_state.proofs.States.{first_sound, same_sound}
 use Rattle.branch_state.proofs.state.BranchState.new.Goals as goal
 
 pub returns-clause-sound : goal.returns-clause-sound

@@ -1,7 +1,7 @@
 use Rattle.std.proofs.Common.{sym, subst}
 use Rattle.std.proofs.lemmas.Result.{on_ok_weaker}
 use Rattle.branch_state.specs.States.{State, IsSound}
-use Rattle.branch_state.proofs.Sound.{var_sound}
+use Rattle.branch_state.proofs.States.{var_sound}
 use Rattle.branch_state.proofs.state.BranchState.new_var.Goals as goal
 
 pub returns-clause-sound : goal.returns-clause-sound

@@ -1,6 +1,6 @@
 use Rattle.std.proofs.Common.{◌∙◌, ap, sym, subst, IfOk}
 use Rattle.heap_cells.specs.Atoms.{HasAtomsBelow}
-use Rattle.branch_state.specs.Showing.{IsShown, AreShowable}
+use Rattle.branch_state.specs.ShownTerms.{IsShown, AreShowable}
 use Rattle.branch_state.specs.States.{State, IsSound}
 use Rattle.branch_state.proofs.state.BranchState.show.Goals as goal
 

@@ -5,7 +5,8 @@ use Rattle.char_tokens.proofs.NextTokens.{next_shorter, read_some, decides_more,
 use Rattle.char_tokens.proofs.scanner.Scanner.finish.Goals as goal
 
 pub returns-in_err-next_token-clause-fault : goal.returns-in_err-next_token-clause-fault
-returns-in_err-next_token-clause-fault c = let p = err_from_is_err_and c.from_residual.result c.from_residual.ensures.1 in rw (p.1, p.2) (decided_fault c.args.self c.loop.scanner _ c.loop.invariant c.in_err-next_token.ensures.fault)
+returns-in_err-next_token-clause-fault c = let p = err_from_is_err_and c.from_residual.result c.from_residual.ensures.1 in
+    rw (p.1, p.2) (decided_fault c.args.self c.loop.scanner _ c.loop.invariant c.in_err-next_token.ensures.fault)
 
 pub loop-smaller : goal.loop-smaller
 loop-smaller c =

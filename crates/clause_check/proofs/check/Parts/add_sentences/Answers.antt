@@ -4,7 +4,7 @@ use Rattle.std.proofs.lemmas.Result.{err_from_is_err_and}
 use Rattle.fd_language.specs.declared.TheConstants.{INFINITY}
 use Rattle.fd_model.specs.Refusals.{first_refusal}
 use Rattle.term_reader.specs.Sentences.{IsSentence}
-use Rattle.clause_check.specs.Parts.{StandsFor}
+use Rattle.clause_check.specs.Parts.{KeepsSentences}
 use Rattle.clause_check.specs.Terms.{terms_of}
 use Rattle.term_reader.specs.declared.reader.Sentence.{Sentence}
 use Rattle.clause_check.proofs.SentenceLists.{term_in, refused_at_sentence, accepted_more}
@@ -29,7 +29,7 @@ pub returns-clause-stands : goal.returns-clause-stands
 returns-clause-stands c =
     let s = c.args.sentences.now in
     let all = all_done s.list.items _ c.loop-sentence.sentence-index c.deref-sentence-items.ensures.value c.loop-sentence-test.false in
-    subst (StandsFor c.args.infinity s.pool c.loop-sentence.self) all c.loop-sentence.invariant.stands
+    subst (KeepsSentences c.args.infinity s.pool c.loop-sentence.self) all c.loop-sentence.invariant.stands
 
 pub add_sentence-requires-clause-sentence : goal.add_sentence-requires-clause-sentence
 add_sentence-requires-clause-sentence c =

@@ -1,5 +1,5 @@
 use Rattle.std.proofs.Common.{refl}
-use Rattle.clause_check.proofs.Taking.{denied}
+use Rattle.clause_check.proofs.BodyTasks.{denied}
 use Rattle.clause_check.proofs.goals.GoalStore.deny.Goals as goal
 
 pub returns : goal.returns

@@ -1,7 +1,7 @@
 use Rattle.std.proofs.Common.{List, [], ◌∷◌, ◌++◌, refl, ap, ◌∙◌}
 use Rattle.clause_check.specs.declared.program.FlatGoal.{FlatGoal}
 use Rattle.clause_check.specs.GoalStores.{flat_part, joined_by}
-use Rattle.clause_check.proofs.Taking.{joined}
+use Rattle.clause_check.proofs.BodyTasks.{joined}
 use Rattle.clause_check.proofs.goals.GoalStore.join.Goals as goal
 
 pub returns : goal.returns

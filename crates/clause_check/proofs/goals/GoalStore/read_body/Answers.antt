@@ -15,14 +15,16 @@ take-requires-clause-start c =
     let s = c.args.sentences.now in
     let g = c.loop-task.self in
     let mid : GoalStore = record { ranges = g.ranges; goals = g.goals; pending = g.pending; tasks = c.pop.new.self } in
-    pop_start c.args.infinity s c.args.self.now (placed_of s.pool c.args.body) g mid c.in-Some.task c.loop-task.invariant (record { same = record { ranges = refl; goals = refl; pending = refl }; tasks = c.in-Some.ensures.items })
+    pop_start c.args.infinity s c.args.self.now (placed_of s.pool c.args.body) g mid c.in-Some.task c.loop-task.invariant
+    (record { same = record { ranges = refl; goals = refl; pending = refl }; tasks = c.in-Some.ensures.items })
 
 pub loop-task-smaller : goal.loop-task-smaller
 loop-task-smaller c =
     let s = c.args.sentences.now in
     let g = c.loop-task.self in
     let mid : GoalStore = record { ranges = g.ranges; goals = g.goals; pending = g.pending; tasks = c.pop.new.self } in
-    step_smaller c.args.infinity s c.args.self.now (placed_of s.pool c.args.body) g mid c.in-Some.task c.loop-task.invariant (record { same = record { ranges = refl; goals = refl; pending = refl }; tasks = c.in-Some.ensures.items })
+    step_smaller c.args.infinity s c.args.self.now (placed_of s.pool c.args.body) g mid c.in-Some.task c.loop-task.invariant
+    (record { same = record { ranges = refl; goals = refl; pending = refl }; tasks = c.in-Some.ensures.items })
     c.take.new.self c.in_ok-take.ensures.taken
 
 pub loop-task-preserved : goal.loop-task-preserved
@@ -30,7 +32,8 @@ loop-task-preserved c =
     let s = c.args.sentences.now in
     let g = c.loop-task.self in
     let mid : GoalStore = record { ranges = g.ranges; goals = g.goals; pending = g.pending; tasks = c.pop.new.self } in
-    step c.args.infinity s c.args.self.now (placed_of s.pool c.args.body) g mid c.in-Some.task c.loop-task.invariant (record { same = record { ranges = refl; goals = refl; pending = refl }; tasks = c.in-Some.ensures.items })
+    step c.args.infinity s c.args.self.now (placed_of s.pool c.args.body) g mid c.in-Some.task c.loop-task.invariant
+    (record { same = record { ranges = refl; goals = refl; pending = refl }; tasks = c.in-Some.ensures.items })
     c.take.new.self c.in_ok-take.ensures.taken
 
 pub returns-in_err-take-clause-fault : goal.returns-in_err-take-clause-fault
@@ -40,7 +43,8 @@ returns-in_err-take-clause-fault c =
     let mid : GoalStore = record { ranges = g.ranges; goals = g.goals; pending = g.pending; tasks = c.pop.new.self } in
     let p = err_from_is_err_and c.from_residual-in_err-take.result c.from_residual-in_err-take.ensures.1 in
     rw (p.1, p.2)
-    (pop_refused c.args.infinity s c.args.self.now (placed_of s.pool c.args.body) g mid c.in-Some.task c.loop-task.invariant (record { same = record { ranges = refl; goals = refl; pending = refl }; tasks = c.in-Some.ensures.items })
+    (pop_refused c.args.infinity s c.args.self.now (placed_of s.pool c.args.body) g mid c.in-Some.task c.loop-task.invariant
+    (record { same = record { ranges = refl; goals = refl; pending = refl }; tasks = c.in-Some.ensures.items })
     c.in_err-take.field-0.0 c.in_err-take.ensures.fault)
 
 pub returns-clause-read : goal.returns-clause-read
@@ -49,4 +53,5 @@ returns-clause-read c =
     let g = c.loop-task.self in
     let mid : GoalStore = record { ranges = g.ranges; goals = g.goals; pending = g.pending; tasks = c.pop.new.self } in
     let none : g.tasks.items ≡ [] = empty g.tasks.items (search (rules, c.in_default.ensures.cases.0)) in
-    read_whole c.args.infinity s c.args.self.now g mid c.close.new.self (placed_of s.pool c.args.body) c.in_ok-close.field-0 c.loop-task.invariant none (record { ranges = refl; goals = refl; pending = refl }) c.in_ok-close.ensures
+    read_whole c.args.infinity s c.args.self.now g mid c.close.new.self (placed_of s.pool c.args.body) c.in_ok-close.field-0 c.loop-task.invariant none
+    (record { ranges = refl; goals = refl; pending = refl }) c.in_ok-close.ensures

@@ -1,7 +1,7 @@
 use Rattle.std.proofs.Common.{refl, ◌∙◌, ap, List, ◌++◌, ◌∷◌, []}
 use Rattle.clause_check.specs.declared.goals.Task.{Task}
 use Rattle.clause_check.specs.declared.goals.Task.TheVariants as task
-use Rattle.clause_check.proofs.Taking.{turned}
+use Rattle.clause_check.proofs.BodyTasks.{turned}
 use Rattle.clause_check.proofs.goals.GoalStore.turn.Goals as goal
 
 pub returns : goal.returns

@@ -1,7 +1,7 @@
 use Rattle.std.proofs.Common.{◌<◌, false, length, subst, sym}
 use Rattle.wam_code.specs.Area.{Area}
 use Rattle.code_machine.specs.States.{state_within, IsWithin, MayRun}
-use Rattle.code_machine.proofs.Running.{whole_machine, whole_stands}
+use Rattle.code_machine.proofs.MachineRuns.{whole_machine, whole_stands}
 use Rattle.code_machine.proofs.machine.Machine.new.Goals as goal
 
 pub start-requires-clause-query : goal.start-requires-clause-query
@@ -18,4 +18,5 @@ invariant_of-result g c =
 pub returns-clause-stands : goal.returns-clause-stands
 returns-clause-stands g c =
     let w = c.in_ok-branch in
-    λ prog q may es r run. whole_stands c.deref.result.now c.args.code.value c.deref.ensures w.branch w.run' false c.args.limits 0 es r (w.ensures.stands prog q (subst (λ (a : Area). MayRun a c.args.query prog q) (sym c.deref.ensures) may) es r run)
+    λ prog q may es r run. whole_stands c.deref.result.now c.args.code.value c.deref.ensures w.branch w.run' false c.args.limits 0 es r
+    (w.ensures.stands prog q (subst (λ (a : Area). MayRun a c.args.query prog q) (sym c.deref.ensures) may) es r run)

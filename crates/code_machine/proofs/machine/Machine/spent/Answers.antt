@@ -1,6 +1,6 @@
 use Rattle.std.proofs.Common.{ap, sym, ◌∙◌}
 use Rattle.code_machine.specs.States.{State}
-use Rattle.code_machine.proofs.Running.{total_spent}
+use Rattle.code_machine.proofs.MachineRuns.{total_spent}
 use Rattle.code_machine.proofs.machine.Machine.spent.Goals as goal
 
 pub returns-clause-whole : goal.returns-clause-whole

@@ -16,4 +16,5 @@ returns-clause-piece c =
     let l : j < length xs = omega arith in
     let e : j ≡ i + 1 = omega arith in
     pairs_piece xs i j e l c.post_against.new.list.items
-    (against_posts xs c.deref.result.now i j c.index-variable.result.now c.new-list.result.items c.post_against.new.list.items c.deref.ensures.value (omega arith) c.index-variable.ensures c.new-list.ensures.items c.in_ok-post_against.ensures)
+    (against_posts xs c.deref.result.now i j c.index-variable.result.now c.new-list.result.items c.post_against.new.list.items c.deref.ensures.value
+    (omega arith) c.index-variable.ensures c.new-list.ensures.items c.in_ok-post_against.ensures)

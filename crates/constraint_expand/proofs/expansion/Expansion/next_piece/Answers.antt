@@ -11,7 +11,9 @@ returns-then-not-is_empty-clause-piece c =
     let a = rw c.in_default.is at c.in_ok-piece.ensures.piece in
     let b = rw c.in_default-2.is at c.in_ok-piece-2.ensures.piece in
     let d = rw c.in_default-3.is at c.in_ok-piece-3.ensures.piece in
-    last_piece (pairs_ahead x.pairs) _ (counts_ahead x.counters) _ (rows_ahead x.rows) _ (sums_ahead x.sums) x.rest.items c.replace.new.dest.items c.replace.result.items c.args.self.now.ranges a b d (ap (λ (y : Expansion). y.ranges) c.self.view_is) (search rules) (search rules) (search (rules, arith))
+    last_piece (pairs_ahead x.pairs) _ (counts_ahead x.counters) _ (rows_ahead x.rows) _ (sums_ahead x.sums) x.rest.items c.replace.new.dest.items
+    c.replace.result.items c.args.self.now.ranges a b d (ap (λ (y : Expansion). y.ranges) c.self.view_is) (search rules) (search rules)
+    (search (rules, arith))
 
 pub returns-clause-piece : goal.returns-clause-piece
 returns-clause-piece c =
@@ -19,4 +21,6 @@ returns-clause-piece c =
     let a = rw c.in_default.is at c.in_ok-piece.ensures.piece in
     let b = rw c.in_default-2.is at c.in_ok-piece-2.ensures.piece in
     let d = rw c.in_default-3.is at c.in_ok-piece-3.ensures.piece in
-    sums_given (pairs_ahead x.pairs) _ (counts_ahead x.counters) _ (rows_ahead x.rows) _ (sums_ahead x.sums) _ x.rest.items c.args.self.now.ranges a b d (none_left x.rest.items (search (rules, arith))) (ap (λ (y : Expansion). y.ranges) c.self.view_is) (λ v. v.items) c.next_piece-4.result c.next_piece-4.ensures.piece
+    sums_given (pairs_ahead x.pairs) _ (counts_ahead x.counters) _ (rows_ahead x.rows) _ (sums_ahead x.sums) _ x.rest.items c.args.self.now.ranges a b d
+    (none_left x.rest.items (search (rules, arith))) (ap (λ (y : Expansion). y.ranges) c.self.view_is) (λ v. v.items) c.next_piece-4.result
+    c.next_piece-4.ensures.piece

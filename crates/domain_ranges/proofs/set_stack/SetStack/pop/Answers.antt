@@ -1,7 +1,7 @@
 use Rattle.std.proofs.Common.{ap, subst, sym, ◌∙◌, ◌≡◌, length, arith}
 use Rattle.std.specs.Prelude.{reverse}
 use Rattle.domain_ranges.specs.StackedSets.{stacked, AreStarts}
-use Rattle.domain_ranges.proofs.Stacking.{room_behind, top_starts, top_intervals, top_view, top_numbers, fewer_sets}
+use Rattle.domain_ranges.proofs.StackedSets.{room_behind, top_starts, top_intervals, top_view, top_numbers, fewer_sets}
 use Rattle.domain_ranges.proofs.set_stack.SetStack.pop.Goals as goal
 
 pub push_reserved-requires : goal.push_reserved-requires
@@ -27,8 +27,11 @@ invariant_of-self-in-Ok c = (
 )
 
 pub returns-in-Ok-clause-popped : goal.returns-in-Ok-clause-popped
-returns-in-Ok-clause-popped c = top_view c.self.inside.starts.items c.pop.new.self.items c.in-Some.from c.self.inside.spans.items c.truncate.new.self.items c.args.self.now.sets c.of_list.result c.in-Some.ensures.items c.truncate.ensures.items (ap (λ w. w.sets) c.self.view_is) (c.of_list.ensures ∙ (c.in-Ok.ensures.set ∙ top_numbers c.in-Some.from c.self.inside.spans.items c.deref.result.now c.deref.ensures.value))
+returns-in-Ok-clause-popped c = top_view c.self.inside.starts.items c.pop.new.self.items c.in-Some.from c.self.inside.spans.items c.truncate.new.self.items
+    c.args.self.now.sets c.of_list.result c.in-Some.ensures.items c.truncate.ensures.items (ap (λ w. w.sets) c.self.view_is)
+    (c.of_list.ensures ∙ (c.in-Ok.ensures.set ∙ top_numbers c.in-Some.from c.self.inside.spans.items c.deref.result.now c.deref.ensures.value))
 
 pub returns-in-Ok-clause-fewer : goal.returns-in-Ok-clause-fewer
 returns-in-Ok-clause-fewer c =
-    fewer_sets c.self.inside.starts.items c.pop.new.self.items c.self.inside.spans.items c.truncate.new.self.items c.args.self.now.sets _ _ c.self.inside.starts.ok.0 c.pop.new.self.ok.0 (ap (λ w. w.sets) c.self.view_is) (let e = c.in-Some.ensures.cases in omega arith)
+    fewer_sets c.self.inside.starts.items c.pop.new.self.items c.self.inside.spans.items c.truncate.new.self.items c.args.self.now.sets _ _
+    c.self.inside.starts.ok.0 c.pop.new.self.ok.0 (ap (λ w. w.sets) c.self.view_is) (let e = c.in-Some.ensures.cases in omega arith)

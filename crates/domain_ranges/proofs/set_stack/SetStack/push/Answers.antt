@@ -1,6 +1,6 @@
 use Rattle.std.proofs.Common.{ap, ◌∙◌, ◌∷◌}
 use Rattle.std.proofs.lemmas.Result.{on_ok_weaker}
-use Rattle.domain_ranges.proofs.Stacking.{numbers_of}
+use Rattle.domain_ranges.proofs.StackedSets.{numbers_of}
 use Rattle.domain_ranges.proofs.set_stack.SetStack.push.Goals as goal
 
 pub returns-clause-pushed : goal.returns-clause-pushed

@@ -1,10 +1,11 @@
 use Rattle.std.proofs.Common.{ap, ◌∙◌, ◌++◌, ◌∷◌, []}
 use Rattle.domain_ranges.specs.StackedSets.{numbers}
-use Rattle.domain_ranges.proofs.Stacking.{room_left, push_starts, push_view, intervals_all}
+use Rattle.domain_ranges.proofs.StackedSets.{room_left, push_starts, push_view, intervals_all}
 use Rattle.domain_ranges.proofs.set_stack.SetStack.put.Goals as goal
 
 pub push_reserved-requires : goal.push_reserved-requires
-push_reserved-requires c = room_left c.self.inside.starts.items c.self.inside.spans.items c.args.self.now.sets _ _ c.args.self.now.room c.self.inside.starts.ok.0 (ap (λ w. w.sets) c.self.view_is) (ap (λ w. w.room) c.self.view_is) c.requires.room
+push_reserved-requires c = room_left c.self.inside.starts.items c.self.inside.spans.items c.args.self.now.sets _ _ c.args.self.now.room
+    c.self.inside.starts.ok.0 (ap (λ w. w.sets) c.self.view_is) (ap (λ w. w.room) c.self.view_is) c.requires.room
 
 pub invariant_of-self-2 : goal.invariant_of-self-2
 invariant_of-self-2 c = (

@@ -5,7 +5,7 @@ use Rattle.std.proofs.lemmas.Result.{err_from_is_err_and}
 use Rattle.fd_language.specs.Term.{Int}
 use Rattle.fd_model.specs.Linear.{collect_term}
 use Rattle.linear_forms.specs.declared.walk.Made.{Made}
-use Rattle.linear_forms.specs.Form.{IsFaultOf}
+use Rattle.linear_forms.specs.LinearForm.{IsFaultOf}
 use Rattle.linear_forms.specs.Sums.{signed, Gives}
 use Rattle.linear_forms.proofs.Stacks.{pushed, not_pushed}
 use Rattle.linear_forms.proofs.walk.Made.push_constant.Goals as goal
@@ -22,4 +22,5 @@ returns c =
     let new : Made = record { sums = c.push.new.self; met = c.args.self.now.met } in
     let m = c.args.self.now.met in
     pushed (signed c.args.negated (collect_term (Int c.args.integer))) c.args.self.now new c.in_ok-alone.alone m
-    (subst (λ (z : ℤ). Gives (signed c.args.negated (collect_term (Int z))) m m (Ok c.in_ok-alone.alone)) (to_z-of_z w64 c.args.integer c.ranges.integer) (c.in_ok-alone.ensures.sum m)) c.in_ok-push.ensures.items refl
+    (subst (λ (z : ℤ). Gives (signed c.args.negated (collect_term (Int z))) m m (Ok c.in_ok-alone.alone)) (to_z-of_z w64 c.args.integer c.ranges.integer)
+    (c.in_ok-alone.ensures.sum m)) c.in_ok-push.ensures.items refl

@@ -1,7 +1,7 @@
 use Rattle.std.proofs.Common.{◌≡◌, ◌≤◌, ◌++◌, ◌∷◌, [], length, drop, ap, ◌∙◌, arith}
 use Rattle.std.proofs.lemmas.List.{drop-append-le}
 use Rattle.propagate_queue.specs.Queues.{times}
-use Rattle.propagate_queue.proofs.Queueing.{times_last}
+use Rattle.propagate_queue.proofs.Queues.{times_last}
 use Rattle.propagate_queue.proofs.agenda.FifoAgenda.put.Goals as goal
 
 pub returns-clause-added : goal.returns-clause-added

@@ -6,18 +6,21 @@ use Rattle.std.proofs.lemmas.Simd.{map-map}
 use Rattle.propagate_queue.specs.Postings.{ranged, ranges_of}
 use Rattle.propagate_queue.specs.Instances.{posting, posted_by}
 use Rattle.fd_model.specs.Levels.{Levels}
-use Rattle.propagate_queue.specs.Running.{AreDomains, HasNone}
+use Rattle.propagate_queue.specs.PropagationInvariant.{AreDomains, HasNone}
 use Rattle.propagate_queue.specs.StoreFields.{levels_below}
 use Rattle.fd_model.specs.Weights.{whole_weights}
-use Rattle.propagate_queue.proofs.Storing.{posted_store, levels_added, whole_of_part}
+use Rattle.propagate_queue.proofs.StoreFields.{posted_store, levels_added, whole_of_part}
 use Rattle.propagate_queue.proofs.marked.MarkedStore.post.Goals as goal
 
 pub invariant_of-self : goal.invariant_of-self
 invariant_of-self g c =
     let t = c.self.inside in
     let e = c.post_all.ensures in
-    posted_store t.agents c.post_all.new.agents t.queued.items c.post_all.new.queued.items (g.A.Agenda.agents t.agenda) (g.A.Agenda.agents c.post_all.new.agenda) (g.A.Agenda.spare t.agenda) (g.A.Agenda.spare c.post_all.new.agenda) t.chains c.post_all.new.chains t.trail c.post_all.new.trail (reverse t.marks.items) t.failed t.failed t.spent true
-    c.self.invariant e.instances e.monotone e.readers e.vars e.within e.flagged e.more e.front e.kept e.below e.sets (λ h. absurd (true≢false h)) (λ h. absurd (true≢false h)) (λ h. absurd (true≢false h))
+    posted_store t.agents c.post_all.new.agents t.queued.items c.post_all.new.queued.items (g.A.Agenda.agents t.agenda)
+    (g.A.Agenda.agents c.post_all.new.agenda) (g.A.Agenda.spare t.agenda) (g.A.Agenda.spare c.post_all.new.agenda) t.chains c.post_all.new.chains t.trail
+    c.post_all.new.trail (reverse t.marks.items) t.failed t.failed t.spent true
+    c.self.invariant e.instances e.monotone e.readers e.vars e.within e.flagged e.more e.front e.kept e.below e.sets (λ h. absurd (true≢false h))
+    (λ h. absurd (true≢false h)) (λ h. absurd (true≢false h))
 
 pub returns-in_err-kept-clause-below : goal.returns-in_err-kept-clause-below
 returns-in_err-kept-clause-below g c =
@@ -40,7 +43,9 @@ invariant_of-self-2 g c =
     let kept : not c.in_ok-kept.kept ≡ false → c.in_ok-kept.kept ≡ true = on c.in_ok-kept.kept in
     let lost : not c.in_ok-kept.kept ≡ true → c.in_ok-kept.kept ≡ false = off c.in_ok-kept.kept in
     let ps = ranges_of c.post_all.new.agents in
-    posted_store t.agents c.post_all.new.agents t.queued.items c.post_all.new.queued.items (g.A.Agenda.agents t.agenda) (g.A.Agenda.agents c.post_all.new.agenda) (g.A.Agenda.spare t.agenda) (g.A.Agenda.spare c.post_all.new.agenda) t.chains c.post_all.new.chains t.trail c.post_all.new.trail (reverse t.marks.items) t.failed (not c.in_ok-kept.kept) t.spent false
+    posted_store t.agents c.post_all.new.agents t.queued.items c.post_all.new.queued.items (g.A.Agenda.agents t.agenda)
+    (g.A.Agenda.agents c.post_all.new.agenda) (g.A.Agenda.spare t.agenda) (g.A.Agenda.spare c.post_all.new.agenda) t.chains c.post_all.new.chains t.trail
+    c.post_all.new.trail (reverse t.marks.items) t.failed (not c.in_ok-kept.kept) t.spent false
     c.self.invariant e.instances e.monotone e.readers e.vars e.within e.flagged e.more e.front e.kept e.below e.sets
     (λ h. (c.in_ok-kept.ensures.queued, c.in_ok-kept.ensures.empty))
     (λ h l. MatchBool-at_true (AreDomains ps c.post_all.new.trail.current) (HasNone ps (length t.trail.current)) (kept l) c.in_ok-kept.ensures.done)

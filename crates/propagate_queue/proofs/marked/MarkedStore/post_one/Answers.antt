@@ -5,18 +5,21 @@ use Rattle.std.proofs.lemmas.List.{map-append}
 use Rattle.propagate_queue.specs.Postings.{ranged, ranges_of}
 use Rattle.propagate_queue.specs.Instances.{posting_of}
 use Rattle.fd_model.specs.Levels.{Levels}
-use Rattle.propagate_queue.specs.Running.{AreDomains, HasNone}
+use Rattle.propagate_queue.specs.PropagationInvariant.{AreDomains, HasNone}
 use Rattle.propagate_queue.specs.StoreFields.{levels_below}
 use Rattle.fd_model.specs.Weights.{whole_weights}
-use Rattle.propagate_queue.proofs.Storing.{posted_store, levels_added, whole_of_parts}
+use Rattle.propagate_queue.proofs.StoreFields.{posted_store, levels_added, whole_of_parts}
 use Rattle.propagate_queue.proofs.marked.MarkedStore.post_one.Goals as goal
 
 pub invariant_of-self : goal.invariant_of-self
 invariant_of-self g c =
     let t = c.self.inside in
     let e = c.post_new.ensures in
-    posted_store t.agents c.post_new.new.agents t.queued.items c.post_new.new.queued.items (g.A.Agenda.agents t.agenda) (g.A.Agenda.agents c.post_new.new.agenda) (g.A.Agenda.spare t.agenda) (g.A.Agenda.spare c.post_new.new.agenda) t.chains c.post_new.new.chains t.trail c.post_new.new.trail (reverse t.marks.items) t.failed t.failed t.spent true
-    c.self.invariant e.instances e.monotone e.readers e.vars e.within e.flagged e.added.many e.added.front e.kept e.below e.sets (λ h. absurd (true≢false h)) (λ h. absurd (true≢false h)) (λ h. absurd (true≢false h))
+    posted_store t.agents c.post_new.new.agents t.queued.items c.post_new.new.queued.items (g.A.Agenda.agents t.agenda)
+    (g.A.Agenda.agents c.post_new.new.agenda) (g.A.Agenda.spare t.agenda) (g.A.Agenda.spare c.post_new.new.agenda) t.chains c.post_new.new.chains t.trail
+    c.post_new.new.trail (reverse t.marks.items) t.failed t.failed t.spent true
+    c.self.invariant e.instances e.monotone e.readers e.vars e.within e.flagged e.added.many e.added.front e.kept e.below e.sets (λ h. absurd (true≢false h))
+    (λ h. absurd (true≢false h)) (λ h. absurd (true≢false h))
 
 pub returns-in_err-kept-clause-below : goal.returns-in_err-kept-clause-below
 returns-in_err-kept-clause-below g c =
@@ -29,8 +32,15 @@ pub returns-in_err-kept-clause-whole : goal.returns-in_err-kept-clause-whole
 returns-in_err-kept-clause-whole g c =
     let t = c.self.inside in
     let part = c.post_new.ensures.added.part in
-    let all = whole_of_parts t.agents c.post_new.new.agents part.0 (posting_of c.args.code.value c.args.target c.args.args.now ∷ []) (family_of t.trail.current) (family_of c.post_new.new.trail.current) part.1 in
-    omega (arith, c.post_new.ensures.count, all, ap (λ (v : Levels). whole_weights (v.current.posted ++ ranged (posting_of c.args.code.value c.args.target c.args.args.now) ∷ []) (family_of v.current.sets)) c.self.view_is)
+    let all = whole_of_parts t.agents c.post_new.new.agents part.0 (posting_of c.args.code.value c.args.target c.args.args.now ∷ []) (family_of t.trail.current)
+    (family_of c.post_new.new.trail.current) part.1 in
+    omega (
+      arith,
+      c.post_new.ensures.count,
+      all,
+      ap (λ (v : Levels). whole_weights
+          (v.current.posted ++ ranged (posting_of c.args.code.value c.args.target c.args.args.now) ∷ []) (family_of v.current.sets)) c.self.view_is,
+    )
 
 pub invariant_of-self-2 : goal.invariant_of-self-2
 invariant_of-self-2 g c =
@@ -39,7 +49,9 @@ invariant_of-self-2 g c =
     let kept : not c.in_ok-kept.kept ≡ false → c.in_ok-kept.kept ≡ true = on c.in_ok-kept.kept in
     let lost : not c.in_ok-kept.kept ≡ true → c.in_ok-kept.kept ≡ false = off c.in_ok-kept.kept in
     let ps = ranges_of c.post_new.new.agents in
-    posted_store t.agents c.post_new.new.agents t.queued.items c.post_new.new.queued.items (g.A.Agenda.agents t.agenda) (g.A.Agenda.agents c.post_new.new.agenda) (g.A.Agenda.spare t.agenda) (g.A.Agenda.spare c.post_new.new.agenda) t.chains c.post_new.new.chains t.trail c.post_new.new.trail (reverse t.marks.items) t.failed (not c.in_ok-kept.kept) t.spent false
+    posted_store t.agents c.post_new.new.agents t.queued.items c.post_new.new.queued.items (g.A.Agenda.agents t.agenda)
+    (g.A.Agenda.agents c.post_new.new.agenda) (g.A.Agenda.spare t.agenda) (g.A.Agenda.spare c.post_new.new.agenda) t.chains c.post_new.new.chains t.trail
+    c.post_new.new.trail (reverse t.marks.items) t.failed (not c.in_ok-kept.kept) t.spent false
     c.self.invariant e.instances e.monotone e.readers e.vars e.within e.flagged e.added.many e.added.front e.kept e.below e.sets
     (λ h. (c.in_ok-kept.ensures.queued, c.in_ok-kept.ensures.empty))
     (λ h l. MatchBool-at_true (AreDomains ps c.post_new.new.trail.current) (HasNone ps (length t.trail.current)) (kept l) c.in_ok-kept.ensures.done)
@@ -62,8 +74,15 @@ pub returns-clause-whole : goal.returns-clause-whole
 returns-clause-whole g c =
     let t = c.self.inside in
     let part = c.post_new.ensures.added.part in
-    let all = whole_of_parts t.agents c.post_new.new.agents part.0 (posting_of c.args.code.value c.args.target c.args.args.now ∷ []) (family_of t.trail.current) (family_of c.post_new.new.trail.current) part.1 in
-    omega (arith, c.post_new.ensures.count, all, ap (λ (v : Levels). whole_weights (v.current.posted ++ ranged (posting_of c.args.code.value c.args.target c.args.args.now) ∷ []) (family_of v.current.sets)) c.self.view_is)
+    let all = whole_of_parts t.agents c.post_new.new.agents part.0 (posting_of c.args.code.value c.args.target c.args.args.now ∷ []) (family_of t.trail.current)
+    (family_of c.post_new.new.trail.current) part.1 in
+    omega (
+      arith,
+      c.post_new.ensures.count,
+      all,
+      ap (λ (v : Levels). whole_weights
+          (v.current.posted ++ ranged (posting_of c.args.code.value c.args.target c.args.args.now) ∷ []) (family_of v.current.sets)) c.self.view_is,
+    )
 
 pub returns-clause-posted : goal.returns-clause-posted
 returns-clause-posted g c =

@@ -1,6 +1,6 @@
 use Rattle.std.proofs.Common.{◌≡◌, true, false, length, subst}
 use Rattle.fd_model.specs.Levels.{Levels}
-use Rattle.propagate_queue.specs.Running.{HasNone}
+use Rattle.propagate_queue.specs.PropagationInvariant.{HasNone}
 use Rattle.propagate_queue.proofs.store.Store.known.Goals as goal
 
 pub returns-clause-failed : goal.returns-clause-failed

@@ -1,7 +1,7 @@
 use Rattle.std.proofs.Common.{SFits, to_z-of_z, sym, ◌∙◌}
 use mir.Syntax.{w128}
 use Rattle.std.specs.Ordering.{int_eq}
-use Rattle.range_code.proofs.Compiling.{none_passes, one_passes}
+use Rattle.range_code.proofs.CompiledRanges.{none_passes, one_passes}
 use Rattle.range_code.proofs.instr.Table.place.Goals as goal
 
 pub returns-in-Some : goal.returns-in-Some

@@ -1,6 +1,6 @@
 use Rattle.std.proofs.Common.{rules, ◌∙◌, SFits, to_z-of_z}
 use mir.Syntax.{w128}
-use Rattle.range_code.proofs.Stacking.{last_popped}
+use Rattle.range_code.proofs.StackTops.{last_popped}
 use Rattle.range_code.proofs.work.Work.pop_value.Goals as goal
 
 pub returns-clause-taken : goal.returns-clause-taken

@@ -4,7 +4,7 @@ use Rattle.std.specs.Option.{unwrap_or}
 use Rattle.std.proofs.lemmas.Result.{on_ok_weaker}
 use Rattle.range_code.specs.Instructions.{operator_of}
 use Rattle.range_code.specs.Steps.{moved}
-use Rattle.range_code.proofs.Stacking.{last_popped}
+use Rattle.range_code.proofs.StackTops.{last_popped}
 use Rattle.range_code.proofs.work.Work.take_range.Goals as goal
 
 pub returns-in-Some-clause-taken : goal.returns-in-Some-clause-taken

@@ -3,7 +3,7 @@ use mir.Syntax.{w128}
 use Rattle.std.specs.Option.{unwrap_or}
 use Rattle.fd_language.proofs.Lemmas.{two}
 use Rattle.domain_ranges.specs.Narrowing.{between}
-use Rattle.range_code.proofs.Stacking.{last_popped}
+use Rattle.range_code.proofs.StackTops.{last_popped}
 use Rattle.range_code.proofs.work.Work.take_span.Goals as goal
 
 pub returns-in_ok-push_interval-clause-taken : goal.returns-in_ok-push_interval-clause-taken

@@ -4,7 +4,7 @@ use Rattle.std.specs.Option.{unwrap_or}
 use Rattle.fd_language.proofs.Lemmas.{two}
 use Rattle.range_code.specs.Instructions.{operator_of}
 use Rattle.range_code.specs.Work.{operated}
-use Rattle.range_code.proofs.Stacking.{last_popped}
+use Rattle.range_code.proofs.StackTops.{last_popped}
 use Rattle.range_code.proofs.work.Work.take_terms.Goals as goal
 
 pub operate-requires : goal.operate-requires

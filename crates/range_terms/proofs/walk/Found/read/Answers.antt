@@ -19,7 +19,8 @@ returns-in_ok-extend_from_slice-in-Unary c =
     let now = c.args.pool.now in
     let t = c.args.operand.term in
     let e = entry_of now t c.requires in
-    step_unary c.args.infinity now c.place-place.ensures.valid t e.0.shape c.place-place.result (of_operand c.args.infinity now c.args.operand) c.in-Unary.node c.in-Unary.only c.args.self.now c.args.ahead.now.items c.extend_from_slice.new.self.items
+    step_unary c.args.infinity now c.place-place.ensures.valid t e.0.shape c.place-place.result (of_operand c.args.infinity now c.args.operand) c.in-Unary.node
+    c.in-Unary.only c.args.self.now c.args.ahead.now.items c.extend_from_slice.new.self.items
     c.requires e.1 (c.in-Unary.ensures e.0.shape c.place-place.result e.1 c.place-place.ensures.place) c.in_ok-extend_from_slice-in-Unary.ensures.items
 
 pub returns-in_ok-extend_from_slice-in-Binary : goal.returns-in_ok-extend_from_slice-in-Binary
@@ -27,7 +28,8 @@ returns-in_ok-extend_from_slice-in-Binary c =
     let now = c.args.pool.now in
     let t = c.args.operand.term in
     let e = entry_of now t c.requires in
-    step_binary c.args.infinity now c.place-place.ensures.valid t e.0.shape c.place-place.result (of_operand c.args.infinity now c.args.operand) c.in-Binary.node c.in-Binary.first c.in-Binary.second c.args.self.now c.args.ahead.now.items c.extend_from_slice-in-Binary.new.self.items
+    step_binary c.args.infinity now c.place-place.ensures.valid t e.0.shape c.place-place.result (of_operand c.args.infinity now c.args.operand)
+    c.in-Binary.node c.in-Binary.first c.in-Binary.second c.args.self.now c.args.ahead.now.items c.extend_from_slice-in-Binary.new.self.items
     c.requires e.1 (c.in-Binary.ensures e.0.shape c.place-place.result e.1 c.place-place.ensures.place) c.in_ok-extend_from_slice-in-Binary.ensures.items
 
 pub returns-in-Misfit : goal.returns-in-Misfit

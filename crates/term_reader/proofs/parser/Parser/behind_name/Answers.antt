@@ -10,5 +10,7 @@ follow-requires-clause-whole c = whole_grown c.args.self.now _ c.requires.whole 
 
 pub returns-in_ok-term : goal.returns-in_ok-term
 returns-in_ok-term c =
-    moves_name c.follow.result c.args.self.now (record c.args.self.now { pool = c.add_atom.new.pool }) c.follow.new.self c.args.at c.args.place c.args.name c.args.token c.in_ok-term.term c.requires.whole c.requires.token (sym (c.is_tight_open.ensures c.args.self.now.pool c.args.place) ∙ c.if-is_tight_open.false)
+    moves_name c.follow.result c.args.self.now (record c.args.self.now { pool = c.add_atom.new.pool }) c.follow.new.self c.args.at c.args.place c.args.name
+    c.args.token c.in_ok-term.term c.requires.whole c.requires.token (sym (c.is_tight_open.ensures c.args.self.now.pool c.args.place)
+    ∙ c.if-is_tight_open.false)
     c.in_ok-term.ensures refl refl c.follow.ensures

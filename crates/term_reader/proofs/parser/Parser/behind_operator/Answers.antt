@@ -14,7 +14,8 @@ returns-in_ok-term c =
     let n = rw c.in-Some.is at (c.negative.ensures c.args.place) in
     let same = to_z-of_z w64 c.in-Some.value (fits_negative pool (atom_name pool c.args.name) c.args.place c.args.token c.in-Some.value c.requires.token n.0 n.1) in
     let added = rw same at c.in_ok-term.ensures in
-    moves_negative c.args.self.now _ c.args.at c.args.place c.args.name c.args.token c.in-Some.value c.in_ok-term.term c.requires.whole (sym (c.is_tight_open.ensures pool c.args.place) ∙ c.if-is_tight_open.false)
+    moves_negative c.args.self.now _ c.args.at c.args.place c.args.name c.args.token c.in-Some.value c.in_ok-term.term c.requires.whole
+    (sym (c.is_tight_open.ensures pool c.args.place) ∙ c.if-is_tight_open.false)
     n added refl refl refl
 
 pub returns-in_ok-term-2 : goal.returns-in_ok-term-2
@@ -22,7 +23,8 @@ returns-in_ok-term-2 c =
     let pool = c.args.self.now.pool in
     let n = rw c.in_default.is at (c.negative.ensures c.args.place) in
     let lone : allows_lone (closing_of (last_item c.args.self.now.items.items) c.args.token) ≡ true = cc in
-    moves_lone c.close.result c.args.self.now (record c.args.self.now { pool = c.add_atom.new.pool }) c.close.new.self c.args.at c.args.place c.args.name c.args.token c.in_ok-term-2.term c.requires.whole c.requires.token
+    moves_lone c.close.result c.args.self.now (record c.args.self.now { pool = c.add_atom.new.pool }) c.close.new.self c.args.at c.args.place c.args.name
+    c.args.token c.in_ok-term-2.term c.requires.whole c.requires.token
     (sym (c.is_tight_open.ensures pool c.args.place) ∙ c.if-is_tight_open.false)
     n lone c.in_ok-term-2.ensures refl refl c.close.ensures
 
@@ -31,5 +33,6 @@ returns-else-allows_lone c =
     let pool = c.args.self.now.pool in
     let n = rw c.in_default.is at (c.negative.ensures c.args.place) in
     let lone : allows_lone (closing_of (last_item c.args.self.now.items.items) c.args.token) ≡ false = cc in
-    moves_not_lone c.begin_prefix.result c.args.self.now c.begin_prefix.new.self c.args.at c.args.place c.args.name c.args.token (sym (c.is_tight_open.ensures pool c.args.place) ∙ c.if-is_tight_open.false)
+    moves_not_lone c.begin_prefix.result c.args.self.now c.begin_prefix.new.self c.args.at c.args.place c.args.name c.args.token
+    (sym (c.is_tight_open.ensures pool c.args.place) ∙ c.if-is_tight_open.false)
     n lone c.begin_prefix.ensures

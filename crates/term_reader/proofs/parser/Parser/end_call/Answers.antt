@@ -20,14 +20,17 @@ add_compound-requires-clause-name c = let o = on_top c.args.self.now (Call c.arg
 
 pub add_compound-requires-clause-parts : goal.add_compound-requires-clause-parts
 add_compound-requires-clause-parts c =
-    let is : c.ids_from.result.now ≡ drop c.args.from (c.args.self.now.arguments.items ++ c.args.last ∷ []) = c.ids_from.ensures ∙ ap (drop c.args.from) (c.deref.ensures.value ∙ c.in_ok-push.ensures.items) in
+    let is : c.ids_from.result.now ≡ drop c.args.from (c.args.self.now.arguments.items ++ c.args.last ∷ []) = c.ids_from.ensures
+    ∙ ap (drop c.args.from) (c.deref.ensures.value ∙ c.in_ok-push.ensures.items) in
     subst (λ (l : List TermId). AreTerms c.args.self.now.pool l) (sym is)
-    (All-drop (λ t. t.number < length c.args.self.now.pool.entries) c.args.from (c.args.self.now.arguments.items ++ c.args.last ∷ []) (terms_push c.args.self.now.pool c.args.self.now.arguments.items c.args.last c.requires.whole.arguments c.requires.last))
+    (All-drop (λ t. t.number < length c.args.self.now.pool.entries) c.args.from (c.args.self.now.arguments.items ++ c.args.last ∷ [])
+    (terms_push c.args.self.now.pool c.args.self.now.arguments.items c.args.last c.requires.whole.arguments c.requires.last))
 
 pub returns : goal.returns
 returns c =
     let o = on_top c.args.self.now (Call c.args.place c.args.name c.args.from) c.requires.whole c.requires.top in
-    let is : c.ids_from.result.now ≡ drop c.args.from (c.args.self.now.arguments.items ++ c.args.last ∷ []) = c.ids_from.ensures ∙ ap (drop c.args.from) (c.deref.ensures.value ∙ c.in_ok-push.ensures.items) in
+    let is : c.ids_from.result.now ≡ drop c.args.from (c.args.self.now.arguments.items ++ c.args.last ∷ []) = c.ids_from.ensures
+    ∙ ap (drop c.args.from) (c.deref.ensures.value ∙ c.in_ok-push.ensures.items) in
     let pool = c.args.self.now.pool in
     let added = subst (λ (l : List TermId). Adds pool c.add_compound.new.pool (comp (atom_name pool c.args.name) c.args.place (parts_of pool l)) c.in_ok-term.term) is c.in_ok-term.ensures in
     moves_call c.args.self.now _ c.args.last c.in_ok-term.term c.args.place c.args.from c.args.name c.requires.whole c.requires.last o added

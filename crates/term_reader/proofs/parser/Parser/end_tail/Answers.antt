@@ -17,7 +17,8 @@ ids_from-requires c =
 pub add_list-requires-clause-elements : goal.add_list-requires-clause-elements
 add_list-requires-clause-elements c =
     let is : c.ids_from.result.now ≡ drop c.args.from c.args.self.now.arguments.items = c.ids_from.ensures ∙ ap (drop c.args.from) c.deref.ensures.value in
-    subst (λ (l : List TermId). AreTerms c.args.self.now.pool l) (sym is) (All-drop (λ t. t.number < length c.args.self.now.pool.entries) c.args.from c.args.self.now.arguments.items c.requires.whole.arguments)
+    subst (λ (l : List TermId). AreTerms c.args.self.now.pool l) (sym is)
+    (All-drop (λ t. t.number < length c.args.self.now.pool.entries) c.args.from c.args.self.now.arguments.items c.requires.whole.arguments)
 
 pub returns : goal.returns
 returns c =

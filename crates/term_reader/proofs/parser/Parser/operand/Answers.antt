@@ -14,7 +14,8 @@ returns-in_ok-term-in-Variable c =
 
 pub returns-in_ok-term-in-Integer : goal.returns-in_ok-term-in-Integer
 returns-in_ok-term-in-Integer c =
-    let same = to_z-of_z w64 c.in-Integer.value (fits_natural c.in-Integer.value (token_natural c.args.self.now.pool c.args.token c.in-Integer.tight c.in-Integer.value c.in-Integer.is c.requires.token)) in
+    let same = to_z-of_z w64 c.in-Integer.value (fits_natural c.in-Integer.value
+    (token_natural c.args.self.now.pool c.args.token c.in-Integer.tight c.in-Integer.value c.in-Integer.is c.requires.token)) in
     let added = rw same at c.in_ok-term-in-Integer.ensures in
     operand_term c.args.self.now _ c.in_ok-term-in-Integer.term (int c.in-Integer.value c.args.place) c.args.token c.args.place c.requires.whole added refl refl refl
     (λ s. ap (λ (x : Terminal). wanted s (terminal_at c.args.self.now.pool c.args.place x)) c.in-Integer.is)

@@ -13,4 +13,5 @@ returns-clause-whole c =
     c.new-2.ensures.indexed
 
 pub returns-clause-begins : goal.returns-clause-begins
-returns-clause-begins c = nothing_read _ c.in_ok-parser.parser c.in_ok-parser.ensures.whole c.in_ok-parser.ensures.begins c.in_ok-anonymous.ensures.extends refl refl refl c.new-3.ensures.items c.new-2.ensures.names
+returns-clause-begins c = nothing_read _ c.in_ok-parser.parser c.in_ok-parser.ensures.whole c.in_ok-parser.ensures.begins c.in_ok-anonymous.ensures.extends refl
+    refl refl c.new-3.ensures.items c.new-2.ensures.names

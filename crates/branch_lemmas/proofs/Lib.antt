@@ -1,0 +1,13 @@
+mod NewVariables
+mod Unification
+mod SingletonDomains
+mod KeptFrames
+mod GrownCells
+mod RenamedTerms
+mod BuiltTerms
+mod OpenVariables
+mod HeapGrowth
+mod AtomNames
+mod ConstraintSteps
+mod VariableBounds
+pub mod Lemmas

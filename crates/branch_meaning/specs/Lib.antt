@@ -1,0 +1,11 @@
+pub mod Heap
+pub mod Models
+pub mod Store
+pub mod RemainingEvents
+pub mod HeldBranches
+pub mod NextEvent
+pub mod AnswerTexts
+pub mod Labelling
+pub mod Rows
+pub mod EquivalentEquations
+pub mod Laws

@@ -1,5 +1,0 @@
-use Rattle.clause_code.specs.Short.{InRegisters}
-use Rattle.clause_code.proofs.staying.register_homes.Given as goal
-
-abbrev pub invariant-loop-register : goal.invariant-loop-register
-invariant-loop-register l = InRegisters l.homes.items l.first l.register

@@ -1,2 +1,0 @@
--- Programs for which there is code.
-pub use Rattle.clause_check.specs.Codable.{IsNarrow, AreNarrow, is_named, IsCodableGoal, AreCodableGoals, EachCodable, ClausesCodable, AreOnce, QueriesCodable, IsCodable}

@@ -1,0 +1,10 @@
+use Rattle.std.proofs.Common.{rules}
+use Rattle.byte_ports.specs.Ends.{SinkState, sink_at}
+use Rattle.clpwhere.specs.MarkedLines.{marked_line}
+use Rattle.clpwhere.proofs.Pieces.{wrote_short}
+use Rattle.clpwhere.proofs.explanations.put_line.Goals as goal
+
+pub returns-in_err-explained-in-Some-clause-wrote : goal.returns-in_err-explained-in-Some-clause-wrote
+returns-in_err-explained-in-Some-clause-wrote g c =
+    let s : SinkState = sink_at (g.K.Sink.written c.args.sink.now) (g.K.Sink.faults c.args.sink.now) in
+    wrote_short s c.from_residual.result (marked_line c.args.text.now c.args.line.now) (search rules)

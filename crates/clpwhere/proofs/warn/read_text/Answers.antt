@@ -1,4 +1,0 @@
-use Rattle.clpwhere.proofs.warn.read_text.Goals as goal
-
-pub returns-in-Err-clause-fault : goal.returns-in-Err-clause-fault
-returns-in-Err-clause-fault c = c.why_unread.ensures c.args.text.now c.in-Err.ensures.fault

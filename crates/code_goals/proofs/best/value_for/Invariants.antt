@@ -1,6 +1,0 @@
-use Rattle.std.proofs.Common.{◌≡◌, drop}
-use Rattle.code_goals.specs.Best.{value_for}
-use Rattle.code_goals.proofs.best.value_for.Given as goal
-
-abbrev pub invariant-loop-value : goal.invariant-loop-value
-invariant-loop-value l = value_for (drop l.value-index l.values) l.variable ≡ value_for l.values l.variable

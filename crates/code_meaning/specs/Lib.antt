@@ -1,0 +1,12 @@
+pub mod Depths
+pub mod Registers
+pub mod StateMeaning
+pub mod Steps
+pub mod ClauseChoices
+pub mod ReadMode
+pub mod WriteMode
+pub mod MachineStates
+pub mod BestLeafSearch
+pub mod Answers
+pub mod RangeGoals
+pub mod Laws

@@ -1,6 +1,0 @@
-use Rattle.code_steps.proofs.Choosing.{run_try_me_else}
-use Rattle.code_steps.proofs.Running.{back_resumes}
-use Rattle.code_steps.proofs.laws.choices_come_back.Goals as goal
-
-pub returns : goal.returns
-returns c = record { go = run_try_me_else; back = back_resumes }

@@ -1,7 +1,0 @@
-use Rattle.std.proofs.Common.{IsTrue}
-use Rattle.code_listing.specs.Sheets.{fits_switch}
-use Rattle.code_text.proofs.Alls.{AllBelow}
-use Rattle.code_text.proofs.there.fits_rows.Given as goal
-
-abbrev pub invariant-loop-index : goal.invariant-loop-index
-invariant-loop-index l = AllBelow (λ row. IsTrue (fits_switch l.code row.0)) l.rows l.index

@@ -1,7 +1,0 @@
-use Rattle.std.proofs.Common.{map}
-use Rattle.code_text.specs.Alone.{AreCells}
-use Rattle.code_listing.specs.States.{slot_of}
-use Rattle.code_text.proofs.verifying.are_cells.Given as goal
-
-abbrev pub invariant-loop-index : goal.invariant-loop-index
-invariant-loop-index l = AreCells l.index (map slot_of l.slots)

@@ -1,9 +1,0 @@
-pub mod Frames
-pub mod Environments
-pub mod FittingClauses
-pub mod Naming
-pub mod SeenHeap
-pub mod Posting
-pub mod CellRanges
-pub mod Laws
-pub mod Bounding

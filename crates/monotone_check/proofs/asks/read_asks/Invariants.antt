@@ -1,5 +1,0 @@
-use Rattle.monotone_check.specs.OpenTerms.{IsAskedSoFar}
-use Rattle.monotone_check.proofs.asks.read_asks.Given as goal
-
-abbrev pub invariant-loop-node : goal.invariant-loop-node
-invariant-loop-node l = IsAskedSoFar l.node-index l.nodes l.reading

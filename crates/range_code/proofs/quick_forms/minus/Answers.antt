@@ -1,0 +1,11 @@
+use Rattle.std.proofs.Common.{rules, SFits, to_z-of_z}
+use mir.Syntax.{w64}
+use Rattle.range_code.proofs.QuickSets.{minus_quick}
+use Rattle.range_code.proofs.quick_forms.minus.Goals as goal
+
+pub returns : goal.returns
+returns c r a v h =
+    let f : SFits w64 c.in_ok-least.least.constant = search rules in
+    simp to_z-of_z (minus_quick r c.args.args.now a v c.args.low.now c.args.high.now h c.in_ok-least.least c.in_ok-greatest.greatest c.in_ok-one.one
+    c.in_ok-other.other c.in_ok-one.ensures c.in_ok-other.ensures (c.is_same_pair.ensures c.if-not-is_same_pair.false) c.in_ok-least.ensures
+    c.in_ok-greatest.ensures)

@@ -1,0 +1,358 @@
+//! Ranges whose set the ends of one variable or two tell, with the variables in hand.
+
+ghost use Rattle.std.specs.Prelude.{◌≡◌, ◌<◌, ◌≤◌, ◌^◌, ◌+◌, ◌-◌, pos, ◌+ℤ◌, ◌-ℤ◌, nat_abs, List, [], ◌∷◌, ℕ, length, IfSome, IsTrue};
+ghost use Rattle.fd_language.specs.Range.{Range, least, greatest};
+ghost use Rattle.fd_language.specs.PostfixRanges.{nodes_of};
+ghost use Rattle.fd_language.specs.RangeVerdict.{is_accepted};
+ghost use Rattle.range_code.specs.Frames.{slot_variable, slot_integer};
+ghost use Rattle.range_code.specs.Forms.{IsInterval, IsException};
+ghost use Rattle.range_code.specs.Kinds.{val_slots};
+ghost use Rattle.range_code.specs.Slots.{in_slots};
+ghost use Rattle.range_code.specs.QuickForms.{IsPairOf, IsQuick, IsWithin, between_parameters, reached};
+
+use crate::form::{
+    Bound, End, Evaluation, Product, add_end, end_of, is_same_end, is_span, is_whole, shift_of,
+};
+use crate::frame::{Arg, is_open};
+use crate::{RangeCode, Reach};
+use domain_ranges::{Domain, View};
+use fd_language::{INFINITY, RangeNode};
+
+/// The set of a range with its arguments, where one look at the ends of a variable or two tells it.
+#[derive(Clone, Copy)]
+pub enum Quick {
+    /// Such a look doesn't tell it.
+    Other,
+    /// From a number to a number.
+    Within(i64, i64),
+    /// All numbers but the value of a variable plus a constant, and all while it has several.
+    Differs(usize, i64),
+    /// From the least member of a variable plus a constant up to the number behind.
+    Above(usize, i64, i64),
+    /// From the number behind up to the greatest member of a variable plus a constant.
+    Below(usize, i64, i64),
+    /// From the least member of a variable to its greatest, both plus a constant.
+    Moved(usize, i64),
+    /// From the least members of two variables to their greatest, both plus a constant.
+    Plus(usize, usize, i64),
+    /// All that a variable less another may be, plus a constant.
+    Minus(usize, usize, i64),
+}
+
+/// The sum of a constant and an end of the domain in a slot, and another end in a second slot.
+#[derive(Clone, Copy)]
+pub(crate) struct Pair {
+    pub constant: i64,
+    pub first: usize,
+    pub second: usize,
+}
+
+/// The variable in the slot, if there is one.
+fn variable_at(args: &[Arg], slot: usize) -> Option<usize>
+    ensures { IfSome result (λ k. slot_variable args.now slot ≡ k) }
+{
+    match args.get(slot) {
+        Some(Arg::Var(number)) => Some(*number),
+        _ => None,
+    }
+}
+
+/// The integer in the slot, if there is one.
+fn integer_at(args: &[Arg], slot: usize) -> Option<i64>
+    ensures { IfSome result (λ z. slot_integer args.now slot ≡ z) }
+{
+    match args.get(slot) {
+        Some(Arg::Int(value)) => Some(*value),
+        _ => None,
+    }
+}
+
+/// The slots of two parameters, where the nodes spell the interval from the one to the other.
+fn parameters_of(nodes: &[RangeNode]) -> Option<(usize, usize)>
+    ensures { IfSome result (λ slots. nodes.now
+        ≡ nodes_of (between_parameters slots.0 slots.1)) }
+{
+    let [one, other, last] = nodes else {
+        return None;
+    };
+    if !is_span(*last) {
+        return None;
+    }
+    let RangeNode::Param(low) = one else {
+        return None;
+    };
+    let RangeNode::Param(high) = other else {
+        return None;
+    };
+    Some((*low as usize, *high as usize))
+}
+
+/// The interval between two parameters.
+fn quick_within(nodes: &[RangeNode], args: &[Arg]) -> Option<Quick>
+    ensures { IfSome result (λ quick. (r : Range) → IsTrue (is_accepted INFINITY r)
+        → nodes.now ≡ nodes_of (in_slots r) → IsQuick r args.now quick) }
+{
+    let slots = parameters_of(nodes)?;
+    let low = integer_at(args, slots.0)?;
+    let high = integer_at(args, slots.1)?;
+    Some(Quick::Within(low, high))
+}
+
+/// Whether the product has this weight and this end.
+fn is_product(product: Product, weight: i64, end: End) -> bool
+    ensures weight { IsTrue result → product.weight ≡ weight }
+    ensures end { IsTrue result → product.end ≡ end }
+{
+    product.weight == weight && is_same_end(product.end, end)
+}
+
+/// The constant and the slots of a bound that adds an end in one slot to a number times an end in another, and isn't divided.
+fn pair_of(bound: &Bound, end: End, weight: i64, other: End) -> Option<Pair>
+    ensures { IfSome result (IsPairOf bound.now end weight other) }
+{
+    if !is_whole(bound.division) {
+        return None;
+    }
+    let [one, two] = bound.products.as_slice() else {
+        return None;
+    };
+    let constant = bound.constant;
+    if is_product(*one, 1, end) && is_product(*two, weight, other) {
+        let (first, second) = (one.slot, two.slot);
+        return Some(Pair {
+            constant,
+            first,
+            second,
+        });
+    }
+    if is_product(*two, 1, end) && is_product(*one, weight, other) {
+        let (first, second) = (two.slot, one.slot);
+        return Some(Pair {
+            constant,
+            first,
+            second,
+        });
+    }
+    None
+}
+
+fn is_same_pair(a: Pair, b: Pair) -> bool
+    ensures { IsTrue result → a ≡ b }
+{
+    a.constant == b.constant && a.first == b.first && a.second == b.second
+}
+
+/// The interval between two bounds that are the ends of one variable.
+fn moved(low: &Bound, high: &Bound, args: &[Arg]) -> Option<Quick>
+    ensures { IfSome result (λ quick. (r : Range) → IsTrue (is_accepted INFINITY r)
+        → val_slots r ≡ [] → IsInterval (in_slots r) low.now high.now
+        → IsQuick r args.now quick) }
+{
+    let least = shift_of(low, End::Least)?;
+    let greatest = shift_of(high, End::Greatest)?;
+    if least.slot != greatest.slot || least.constant != greatest.constant {
+        return None;
+    }
+    let variable = variable_at(args, least.slot)?;
+    Some(Quick::Moved(variable, least.constant))
+}
+
+/// The interval between two bounds that are the ends of two variables added.
+fn plus(low: &Bound, high: &Bound, args: &[Arg]) -> Option<Quick>
+    ensures { IfSome result (λ quick. (r : Range) → IsTrue (is_accepted INFINITY r)
+        → val_slots r ≡ [] → IsInterval (in_slots r) low.now high.now
+        → IsQuick r args.now quick) }
+{
+    let least = pair_of(low, End::Least, 1, End::Least)?;
+    let greatest = pair_of(high, End::Greatest, 1, End::Greatest)?;
+    if !is_same_pair(least, greatest) {
+        return None;
+    }
+    let one = variable_at(args, least.first)?;
+    let other = variable_at(args, least.second)?;
+    Some(Quick::Plus(one, other, least.constant))
+}
+
+/// The interval between two bounds that are the ends of a variable less another.
+fn minus(low: &Bound, high: &Bound, args: &[Arg]) -> Option<Quick>
+    ensures { IfSome result (λ quick. (r : Range) → IsTrue (is_accepted INFINITY r)
+        → val_slots r ≡ [] → IsInterval (in_slots r) low.now high.now
+        → IsQuick r args.now quick) }
+{
+    let least = pair_of(low, End::Least, -1, End::Greatest)?;
+    let greatest = pair_of(high, End::Greatest, -1, End::Least)?;
+    if !is_same_pair(least, greatest) {
+        return None;
+    }
+    let one = variable_at(args, least.first)?;
+    let other = variable_at(args, least.second)?;
+    Some(Quick::Minus(one, other, least.constant))
+}
+
+/// The interval between two bounds, where nothing is read by val.
+fn quick_row(low: &Bound, high: &Bound, args: &[Arg]) -> Option<Quick>
+    ensures { IfSome result (λ quick. (r : Range) → IsTrue (is_accepted INFINITY r)
+        → val_slots r ≡ [] → IsInterval (in_slots r) low.now high.now
+        → IsQuick r args.now quick) }
+{
+    if let Some(quick) = moved(low, high, args) {
+        return Some(quick);
+    }
+    if let Some(quick) = plus(low, high, args) {
+        return Some(quick);
+    }
+    minus(low, high, args)
+}
+
+/// All numbers but one, where that is a variable's value plus a constant.
+fn quick_except(number: &Bound, vals: &[usize], args: &[Arg]) -> Option<Quick>
+    ensures { IfSome result (λ quick. (r : Range) → IsTrue (is_accepted INFINITY r)
+        → vals.now ≡ val_slots r → IsException (in_slots r) number.now
+        → IsQuick r args.now quick) }
+{
+    let shift = shift_of(number, End::Least)?;
+    let [only] = vals else {
+        return None;
+    };
+    if *only != shift.slot {
+        return None;
+    }
+    let variable = variable_at(args, shift.slot)?;
+    Some(Quick::Differs(variable, shift.constant))
+}
+
+fn quick_form(code: &RangeCode, args: &[Arg]) -> Option<Quick>
+    ensures { IfSome result (IsQuick code.now args.now) }
+{
+    match code.form() {
+        Evaluation::Nodes => quick_within(code.nodes(), args),
+        Evaluation::Differs(slot) => {
+            let variable = variable_at(args, *slot)?;
+            Some(Quick::Differs(variable, 0))
+        }
+        Evaluation::Above(low, high) => {
+            let variable = variable_at(args, low.slot)?;
+            Some(Quick::Above(variable, low.constant, *high))
+        }
+        Evaluation::Below(low, high) => {
+            let variable = variable_at(args, high.slot)?;
+            Some(Quick::Below(variable, high.constant, *low))
+        }
+        Evaluation::Except(number) => quick_except(number, code.vals(), args),
+        Evaluation::Row(low, high) if code.reads_no_val() => quick_row(low, high, args),
+        _ => None,
+    }
+}
+
+/// What the set of the range with these arguments is, as far as one look at the ends of a variable or two tells it.
+pub fn quick_of(code: &RangeCode, args: &[Arg]) -> Quick
+    ensures { IsQuick code.now args.now result }
+{
+    match quick_form(code, args) {
+        Some(quick) => quick,
+        None => Quick::Other,
+    }
+}
+
+/// A constant and the ends of two domains.
+#[inline(always)]
+fn add_ends(constant: i64, one: u32, other: u32) -> i64
+    requires width { nat_abs constant + (INFINITY + INFINITY) ≤ 2 ^ 63 - 1 }
+    requires one { one ≤ INFINITY }
+    requires other { other ≤ INFINITY }
+    ensures { result ≡ (constant +ℤ pos one) +ℤ pos other }
+{
+    add_end(add_end(constant, one), other)
+}
+
+/// A constant and the end of a domain, less the end of another.
+#[inline(always)]
+fn less_end(constant: i64, one: u32, other: u32) -> i64
+    requires width { nat_abs constant + (INFINITY + INFINITY) ≤ 2 ^ 63 - 1 }
+    requires one { one ≤ INFINITY }
+    requires other { other ≤ INFINITY }
+    ensures { result ≡ (constant +ℤ pos one) -ℤ pos other }
+{
+    add_end(constant, one) - other as i64
+}
+
+/// From the least members of two domains to their greatest, plus a constant.
+#[inline(always)]
+fn sums_between(constant: i64, one: &Domain, other: &Domain) -> Reach
+    requires { nat_abs constant + (INFINITY + INFINITY) ≤ 2 ^ 63 - 1 }
+    ensures { result ≡ Reach.Between
+        ((constant +ℤ pos (least one.now)) +ℤ pos (least other.now))
+        ((constant +ℤ pos (greatest one.now)) +ℤ pos (greatest other.now)) }
+{
+    let low = add_ends(constant, end_of(one, End::Least), end_of(other, End::Least));
+    let high = add_ends(
+        constant,
+        end_of(one, End::Greatest),
+        end_of(other, End::Greatest),
+    );
+    Reach::Between(low, high)
+}
+
+/// All that a member of a domain less one of another may be at most and at least, plus a constant.
+#[inline(always)]
+fn differences_between(constant: i64, one: &Domain, other: &Domain) -> Reach
+    requires { nat_abs constant + (INFINITY + INFINITY) ≤ 2 ^ 63 - 1 }
+    ensures { result ≡ Reach.Between
+        ((constant +ℤ pos (least one.now)) -ℤ pos (greatest other.now))
+        ((constant +ℤ pos (greatest one.now)) -ℤ pos (least other.now)) }
+{
+    let low = less_end(
+        constant,
+        end_of(one, End::Least),
+        end_of(other, End::Greatest),
+    );
+    let high = less_end(
+        constant,
+        end_of(one, End::Greatest),
+        end_of(other, End::Least),
+    );
+    Reach::Between(low, high)
+}
+
+/// The set that the quick form tells over the domains of a view. `quick_of` says of which range that is the set.
+#[inline(always)]
+pub fn quick_reach<V: View>(quick: Quick, view: &V) -> Reach
+    requires { IsWithin (length (V.sets view.now)) quick }
+    ensures { result ≡ reached (V.sets view.now) quick }
+{
+    match quick {
+        Quick::Other => Reach::Other,
+        Quick::Within(low, high) => Reach::Between(low, high),
+        Quick::Differs(variable, constant) => {
+            let domain = view.domain(variable);
+            if is_open(domain) {
+                Reach::All
+            } else {
+                Reach::Except(add_end(constant, end_of(domain, End::Least)))
+            }
+        }
+        Quick::Above(variable, constant, high) => {
+            let low = end_of(view.domain(variable), End::Least);
+            Reach::Between(add_end(constant, low), high)
+        }
+        Quick::Below(variable, constant, low) => {
+            let high = end_of(view.domain(variable), End::Greatest);
+            Reach::Between(low, add_end(constant, high))
+        }
+        Quick::Moved(variable, constant) => {
+            let domain = view.domain(variable);
+            let low = add_end(constant, end_of(domain, End::Least));
+            Reach::Between(low, add_end(constant, end_of(domain, End::Greatest)))
+        }
+        Quick::Plus(one, other, constant) => sums_between(
+            constant,
+            view.domain(one),
+            view.domain(other),
+        ),
+        Quick::Minus(one, other, constant) => differences_between(
+            constant,
+            view.domain(one),
+            view.domain(other),
+        ),
+    }
+}

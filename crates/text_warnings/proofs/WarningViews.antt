@@ -1,0 +1,184 @@
+-- What was put among the warnings, as the definitions see it.
+use Rattle.std.proofs.Common.{◌≡◌, ℕ, ◌<◌, inl, inr, Bool, true, false, cond, List, [], ◌∷◌, ◌++◌, Option, length, map, get_or, refl, sym, ap, ◌∙◌, subst}
+use Rattle.std.proofs.Common.{true≢false}
+use Rattle.std.specs.Prelude.{◌↔◌, ◌||◌, ◌&&◌, not, filter, All}
+use Rattle.std.specs.List.{list_any, AllByRecursion}
+use Rattle.std.proofs.lemmas.List.{map-append}
+use Rattle.std.proofs.lemmas.List.Elements.{All-append, All-map, All-from_recursion, recursion_from_All}
+use Rattle.std.proofs.lemmas.List.Folds.{list_any_at}
+use Rattle.fd_model.specs.Refusals as refusals
+use Rattle.fd_model.specs.Refusals.{same_functor}
+use Rattle.term_pool.specs.Contents.{Contents}
+use Rattle.term_reader.specs.declared.reader.Sentences.{Sentences}
+use Rattle.term_reader.specs.Sentences.{sentences_of, AreOwn}
+use Rattle.text_warnings.specs.declared.terms.Functor.{Functor}
+use Rattle.text_warnings.specs.declared.clauses.Clause.{Clause}
+use Rattle.text_warnings.specs.declared.Warning.{Warning}
+use Rattle.text_warnings.specs.Runs.{is_known, is_front, firsts_behind, resumed_behind}
+use Rattle.text_warnings.specs.Terms.{functor_in, same_numbers}
+use Rattle.text_warnings.specs.Clauses.{UserClause, clauses_in, query_calls, is_among, IsReachedFrom}
+use Rattle.text_warnings.specs.Warnings as model
+use Rattle.text_warnings.specs.Warnings.{head_of, has_clause, aparts, unreached_of, singles, all_warnings, TellsReached}
+use Rattle.text_warnings.specs.WarningViews.{key_of, clause_in, warning_in, IsOwn, IsWarningWithin, Adds, AddsPredicates, AddsAll}
+use Rattle.text_warnings.specs.Graphs.{apart_at, unreached_at, firsts, resumed, is_number_in, is_reached, number_in, unreached_among, AreKeys, AreNames}
+use Rattle.text_warnings.specs.Graphs.{AreReached}
+use Rattle.text_warnings.proofs.RunSteps.{firsts_named, resumed_named}
+use Rattle.text_warnings.proofs.Functors.{same_in, same_itself, equal, number_same}
+use Rattle.text_warnings.proofs.ReachedPredicates.{reached_as_led}
+use Rattle.text_warnings.proofs.ReachedNumbers.{or_cases}
+use Rattle.text_warnings.proofs.AddedWarnings.{adds_then}
+
+abbrev pub IsNamed : Contents → Clause → Type 0
+IsNamed c k = k.functor.name.number < length c.names
+
+pub names_of : (c : Contents) (ks : List Clause) → AllByRecursion (IsOwn c) ks → AllByRecursion (IsNamed c) ks
+names_of c [] all = tt
+names_of c (k ∷ ks) all = (all.0.name, names_of c ks all.1)
+
+-- The functors of clauses have names of the pool.
+pub names_own : (c : Contents) (ks : List Clause) (keys : List Functor) → All (IsOwn c) ks → AreKeys ks keys → AreNames c keys
+names_own c ks keys own known = λ i d h.
+    let g = get_or keys i d in
+    find ks g (recursion_from_All (IsOwn c) ks own) (sym (known g) ∙ list_any_at (same_numbers g) keys i d h (same_itself g))
+  where
+    find : (us : List Clause) (g : Functor) → AllByRecursion (IsOwn c) us → list_any (same_numbers g) (map key_of us) ≡ true → g.name.number < length c.names
+    find [] g all e = absurd (true≢false (sym e))
+    find (u ∷ us) g all e = elim (or_cases (same_numbers g u.functor) (list_any (same_numbers g) (map key_of us)) e) [
+      | inl h ↦ subst (λ (f : Functor). f.name.number < length c.names) (sym (equal g u.functor h)) all.0.name
+      | inr h ↦ find us g all.1 h
+    ]
+
+any_heads : (c : Contents) (f : refusals.Functor) (ks : List Clause) → is_among (map head_of (map (clause_in c) ks)) f ≡ list_any (λ k. same_functor f (functor_in c k.functor)) ks
+any_heads c f [] = refl
+any_heads c f (k ∷ ks) = ap (λ (b : Bool). same_functor f (functor_in c k.functor) || b) (any_heads c f ks)
+
+-- ---- clauses as the definitions see them
+
+apart_seen : (c : Contents) (ks : List Clause) → map (warning_in c) (map apart_at ks) ≡ map (λ k. model.warning k.place (model.apart k.functor)) (map (clause_in c) ks)
+apart_seen c [] = refl
+apart_seen c (k ∷ ks) = ap (λ (l : List model.Warning). warning_in c (apart_at k) ∷ l) (apart_seen c ks)
+
+unreached_seen : (c : Contents) (ks : List Clause) → map (warning_in c) (map unreached_at ks) ≡ map (λ k. model.warning k.place (model.unreached k.functor)) (map (clause_in c) ks)
+unreached_seen c [] = refl
+unreached_seen c (k ∷ ks) = ap (λ (l : List model.Warning). warning_in c (unreached_at k) ∷ l) (unreached_seen c ks)
+
+filter_by : (c : Contents) (q : UserClause → Bool) (p : Clause → Bool) (k : Clause) (ks : List Clause) (a b : Bool) → a ≡ b → map (clause_in c) (filter p ks) ≡ filter q (map (clause_in c) ks)
+    → map (clause_in c) (cond a (k ∷ filter p ks) (filter p ks)) ≡ cond b (clause_in c k ∷ filter q (map (clause_in c) ks)) (filter q (map (clause_in c) ks))
+filter_by c q p k ks true b e rest =
+    ap (λ (l : List UserClause). clause_in c k ∷ l) rest ∙ ap (λ (t : Bool). cond t (clause_in c k ∷ filter q (map (clause_in c) ks)) (filter q (map (clause_in c) ks))) e
+filter_by c q p k ks false b e rest = rest ∙ ap (λ (t : Bool). cond t (clause_in c k ∷ filter q (map (clause_in c) ks)) (filter q (map (clause_in c) ks))) e
+
+filter_seen : (c : Contents) (q : UserClause → Bool) (p : Clause → Bool) (ks : List Clause) → AllByRecursion (λ k. p k ≡ q (clause_in c k)) ks
+    → map (clause_in c) (filter p ks) ≡ filter q (map (clause_in c) ks)
+filter_seen c q p [] all = refl
+filter_seen c q p (k ∷ ks) all = filter_by c q p k ks (p k) (q (clause_in c k)) all.0 (filter_seen c q p ks all.1)
+
+-- what holds of all clauses holds of the first ones, and of those that come back
+module _ (P : Clause → Type 0) where
+  firsts_all : (before : List Functor) (ks : List Clause) → AllByRecursion P ks → AllByRecursion P (firsts_behind same_numbers key_of before ks)
+  firsts_all before [] all = tt
+  firsts_all before (k ∷ ks) all = put (is_known same_numbers key_of before k.functor) (firsts_all (k.functor ∷ before) ks all.1)
+    where
+      put : (b : Bool) → AllByRecursion P (firsts_behind same_numbers key_of (k.functor ∷ before) ks)
+          → AllByRecursion P (cond b [] (k ∷ []) ++ firsts_behind same_numbers key_of (k.functor ∷ before) ks)
+      put true rest = rest
+      put false rest = (all.0, rest)
+
+  resumed_all : (before : List Functor) (ks : List Clause) → AllByRecursion P ks → AllByRecursion P (resumed_behind same_numbers key_of before ks)
+  resumed_all before [] all = tt
+  resumed_all before (k ∷ ks) all = put (is_known same_numbers key_of before k.functor && not (is_front same_numbers key_of before k.functor)) (resumed_all (k.functor ∷ before) ks all.1)
+    where
+      put : (b : Bool) → AllByRecursion P (resumed_behind same_numbers key_of (k.functor ∷ before) ks)
+          → AllByRecursion P (cond b (k ∷ []) [] ++ resumed_behind same_numbers key_of (k.functor ∷ before) ks)
+      put true rest = (all.0, rest)
+      put false rest = rest
+
+  filter_all : (p : Clause → Bool) (ks : List Clause) → AllByRecursion P ks → AllByRecursion P (filter p ks)
+  filter_all p [] all = tt
+  filter_all p (k ∷ ks) all = put (p k) (filter_all p ks all.1)
+    where
+      put : (b : Bool) → AllByRecursion P (filter p ks) → AllByRecursion P (cond b (k ∷ filter p ks) (filter p ks))
+      put true rest = (all.0, rest)
+      put false rest = rest
+
+-- ---- the warnings of predicates
+
+module _ (s : Sentences) (valid : AreOwn s) (ks : List Clause) (keys : List Functor) (ns : List ℕ) (own : All (IsOwn s.pool) ks)
+    (kept : map (clause_in s.pool) ks ≡ clauses_in (sentences_of s)) (known : AreKeys ks keys) (r : AreReached s keys ks ns) where
+  abbrev c : Contents
+  c = s.pool
+
+  mine : AllByRecursion (IsOwn c) ks
+  mine = recursion_from_All (IsOwn c) ks own
+
+  named : AllByRecursion (IsNamed c) ks
+  named = names_of c ks mine
+
+  keys_named : AllByRecursion (λ g. g.name.number < length c.names) keys
+  keys_named = recursion_from_All (λ (g : Functor). g.name.number < length c.names) keys (names_own c ks keys own known)
+
+  abbrev reached : refusals.Functor → Bool
+  reached f = is_number_in ns (number_in c keys f)
+
+  tells : TellsReached (sentences_of s) reached
+  tells = λ f h.
+      let has : list_any (λ k. same_functor f (functor_in c k.functor)) ks ≡ true = sym (any_heads c f ks) ∙ ap (λ (us : List UserClause). is_among (map head_of us) f) kept ∙ h in
+      let found = reached_as_led c keys valid.pool keys_named (query_calls (sentences_of s)) ks r.edges named r.lead known ns r.led f has in
+      subst (λ (us : List UserClause). (reached f ≡ true) ↔ IsReachedFrom (query_calls (sentences_of s)) us f) kept found
+
+  aparts_are : map (warning_in c) (map apart_at (resumed ks)) ≡ aparts (clauses_in (sentences_of s))
+  aparts_are =
+      apart_seen c (resumed ks)
+      ∙ ap (map (λ (k : UserClause). model.warning k.place (model.apart k.functor)))
+      (resumed_named same_numbers key_of same_functor head_of (clause_in c) (functor_in c) (λ f. f.name.number < length c.names) (λ k. refl) (λ a b. same_in c valid.pool a b) [] ks tt named
+      ∙ ap (resumed_behind same_functor head_of []) kept)
+
+  unreached_are : map (warning_in c) (map unreached_at (unreached_among keys ns (firsts ks))) ≡ unreached_of reached (clauses_in (sentences_of s))
+  unreached_are =
+      unreached_seen c (unreached_among keys ns (firsts ks))
+      ∙ ap (map (λ (k : UserClause). model.warning k.place (model.unreached k.functor)))
+      (filter_seen c (λ (k : UserClause). not (reached k.functor)) (λ (k : Clause). not (is_reached keys ns k.functor)) (firsts ks) (tests (firsts ks) (firsts_all (IsNamed c) [] ks named))
+      ∙ ap (filter (λ (k : UserClause). not (reached k.functor)))
+      (firsts_named same_numbers key_of same_functor head_of (clause_in c) (functor_in c) (λ f. f.name.number < length c.names) (λ k. refl) (λ a b. same_in c valid.pool a b) [] ks tt named
+      ∙ ap (firsts_behind same_functor head_of []) kept))
+    where
+      tests : (us : List Clause) → AllByRecursion (IsNamed c) us → AllByRecursion (λ k. not (is_reached keys ns k.functor) ≡ not (reached (functor_in c k.functor))) us
+      tests [] all = tt
+      tests (u ∷ us) all = (ap (λ (o : Option ℕ). not (is_number_in ns o)) (number_same c valid.pool keys u.functor all.0 keys_named), tests us all.1)
+
+  apart_within : All (IsWarningWithin c) (map apart_at (resumed ks))
+  apart_within = All-map (IsWarningWithin c) apart_at (resumed ks) (All-from_recursion (IsNamed c) (resumed ks) (resumed_all (IsNamed c) [] ks named))
+
+  unreached_within : All (IsWarningWithin c) (map unreached_at (unreached_among keys ns (firsts ks)))
+  unreached_within = All-map (IsWarningWithin c) unreached_at (unreached_among keys ns (firsts ks))
+      (All-from_recursion (IsNamed c) (unreached_among keys ns (firsts ks))
+      (filter_all (IsNamed c) (λ (k : Clause). not (is_reached keys ns k.functor)) (firsts ks) (firsts_all (IsNamed c) [] ks named)))
+
+  -- both kinds are put
+  pub predicates_put : (first : List Clause) (old mid new : List Warning) → first ≡ firsts ks → mid ≡ old ++ map apart_at (resumed ks)
+      → new ≡ mid ++ map unreached_at (unreached_among keys ns first) → AddsPredicates s old new
+  predicates_put first old mid new f a u = record {
+    reached = reached;
+    tells = tells;
+    adds = adds_then c (aparts (clauses_in (sentences_of s))) (unreached_of reached (clauses_in (sentences_of s))) old mid new
+        (record {
+          are = ap (map (warning_in c)) a ∙ map-append (warning_in c) old (map apart_at (resumed ks)) ∙ ap (λ (l : List model.Warning). map (warning_in c) old ++ l) aparts_are;
+          within = λ all. subst (All (IsWarningWithin c)) (sym a) (All-append (IsWarningWithin c) old (map apart_at (resumed ks)) all apart_within);
+        })
+        (record {
+          are = ap (map (warning_in c)) last ∙ map-append (warning_in c) mid (map unreached_at (unreached_among keys ns (firsts ks)))
+              ∙ ap (λ (l : List model.Warning). map (warning_in c) mid ++ l) unreached_are;
+          within = λ all. subst (All (IsWarningWithin c)) (sym last) (All-append (IsWarningWithin c) mid (map unreached_at (unreached_among keys ns (firsts ks))) all unreached_within);
+        });
+  }
+    where
+      last : new ≡ mid ++ map unreached_at (unreached_among keys ns (firsts ks))
+      last = u ∙ ap (λ (l : List Clause). mid ++ map unreached_at (unreached_among keys ns l)) f
+
+-- Those of variables, and those of predicates behind them.
+pub all_put : (s : Sentences) (old mid new : List Warning) → Adds s.pool (singles (sentences_of s)) old mid → AddsPredicates s mid new → AddsAll s old new
+all_put s old mid new a p = record {
+  reached = p.reached;
+  tells = p.tells;
+  adds = adds_then s.pool (singles (sentences_of s)) (aparts (clauses_in (sentences_of s)) ++ unreached_of p.reached (clauses_in (sentences_of s))) old mid new a p.adds;
+}

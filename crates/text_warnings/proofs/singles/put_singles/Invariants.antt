@@ -1,8 +1,0 @@
-use Rattle.std.proofs.Common.{take, map}
-use Rattle.term_reader.specs.Sentences.{sentence_of}
-use Rattle.text_warnings.specs.Warnings.{singles}
-use Rattle.text_warnings.specs.Seen.{Adds}
-use Rattle.text_warnings.proofs.singles.put_singles.Given as goal
-
-abbrev pub invariant-loop-sentence : goal.invariant-loop-sentence
-invariant-loop-sentence l = Adds l.sentences.pool (singles (map (sentence_of l.sentences.pool) (take l.sentence-index l.sentences.list.items))) l.initial.warnings.items l.warnings.items
