@@ -273,6 +273,14 @@ impl Heap {
         })
     }
 
+    /// How many variables there are. No memory.
+    #[inline]
+    pub fn variable_count(&self) -> usize
+        ensures { result ≡ length self.now.now.slots }
+    {
+        self.variables.len()
+    }
+
     /// Whether a cell is of this heap. No memory.
     #[inline]
     pub fn has(&self, c: Cell) -> bool
