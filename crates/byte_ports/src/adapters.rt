@@ -1,12 +1,12 @@
 //! Std's readers and writers as sources and sinks.
 
-ghost use Rattle.std.specs.Prelude.{◌≡◌, ◌<◌, ◌≤◌, None, length, IfOk, OnOk, OnErr};
+ghost use Rattle.std.specs.Prelude.{◌≡◌, ◌<◌, ◌≤◌, None, length, IfOk, OnOk, OnErr, IsErr};
 ghost use Rattle.std.specs.Io.KnownBytes.{ReadConsumes, WriteAppends};
 ghost use Rattle.byte_ports.specs.Parts.{AdapterParts};
 ghost use Rattle.byte_ports.specs.Ports.{Rose};
 
 use crate::ports::{Failed, Sink, Source};
-use std::io::{Read, Write};
+use std::io::{self, Read, Write};
 use std::marker::Model;
 
 /// A source over a reader of std. It tells no bytes. Contracts see the reader, and how many of its
@@ -34,6 +34,22 @@ impl<R: Read> ReaderSource<R> {
     }
 }
 
+/// What a source answers where its reader gave `answer`: a count of bytes is handed on, 0 at the end of the input too, and only an error
+/// is a fault, which raises the count by one.
+fn count_fault(answer: io::Result<usize>, faults: &mut u64) -> Result<usize, Failed>
+    ensures ok { IfOk answer (λ n. (result ≡ Ok n) × (faults.new ≡ faults.old)) }
+    ensures err { OnErr answer (IsErr result × Rose faults.old faults.new) }
+    ensures later { faults.old ≤ faults.new }
+{
+    match answer {
+        Ok(n) => Ok(n),
+        Err(_) => {
+            *faults = faults.saturating_add(1);
+            Err(Failed)
+        }
+    }
+}
+
 impl<R: Read> Source for ReaderSource<R> {
     ghost left = { λ _. None };
 
@@ -48,13 +64,7 @@ impl<R: Read> Source for ReaderSource<R> {
         ensures bytes { ReadConsumes (R.remaining self.old.inner) (R.remaining self.new.inner)
             result buf.new }
     {
-        match self.inner.read(buf) {
-            Ok(n) => Ok(n),
-            Err(_) => {
-                self.faults = self.faults.saturating_add(1);
-                Err(Failed)
-            }
-        }
+        count_fault(self.inner.read(buf), &mut self.faults)
     }
 }
 
