@@ -8,4 +8,4 @@ mod BinarySearch
 mod HeadClashes
 mod SkippedClauses
 mod ChoiceSafety
-mod Again
+mod RetriedChoices

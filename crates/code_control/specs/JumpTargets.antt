@@ -29,7 +29,3 @@ pub record ArgumentShows (s : branch.State) (c : Contents) (n : ℕ) (such : See
   pub shown : Seen
   pub is_seen : IsSeen s.heaps.now cell shown
   pub so : such shown
-
--- what the first argument's register holds is seen so
-abbrev pub FirstIsSeen : branch.State → Contents → Seen → Type 0
-FirstIsSeen s c x = (d : Cell) × (cell_at c.registers 1 ≡ Some d) × IsSeen s.heaps.now d x

@@ -3,7 +3,7 @@
 ghost use Rattle.std.specs.Prelude.{◌<◌, length};
 ghost use Rattle.branch_state.specs.States.{IsSoundBelow};
 ghost use Rattle.code_safety.specs.Safety.{IsSafe, IsSafeBack};
-ghost use Rattle.code_control.specs.Again.{IsUndoneAgain, KeepsPoint, TriesAgain};
+ghost use Rattle.code_control.specs.RetriedChoices.{IsUndoneAgain, KeepsPoint, TriesAgain};
 
 use crate::choices::go_back;
 use crate::clause_selection::{Tried, next_choice, tried_at};

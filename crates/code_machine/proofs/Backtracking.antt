@@ -13,7 +13,7 @@ use Rattle.code_safety.specs.Safety.{IsSafe}
 use Rattle.code_safety.specs.RemainingEvents.{Task, Future, RunsAt, ReturnsTo, RunsThen, Resumes}
 use Rattle.code_safety.specs.RepresentedBranch.{IsNaming}
 use Rattle.code_safety.specs.Work.{work_at, work_then, values_work}
-use Rattle.code_control.specs.Again.{IsTaken, TriesAgain}
+use Rattle.code_control.specs.RetriedChoices.{IsTaken, TriesAgain}
 use Rattle.code_goals.specs.declared.labels.ValuesLeft.{ValuesLeft}
 use Rattle.code_goals.specs.declared.labels.Tried.{Tried}
 use Rattle.code_goals.specs.Tasks.{task_of}

@@ -2,7 +2,9 @@
 use Rattle.std.specs.Prelude.{◌≡◌, ℕ, true, List, [], ◌∷◌, length, Option, Some, None, slice_get}
 use Rattle.fd_language.specs.Family.{has}
 use Rattle.heap_cells.specs.declared.Cell.{Cell as HeapCell}
+use Rattle.heap_cells.specs.declared.Seen.{Seen}
 use Rattle.heap_cells.specs.Cells.{Cells}
+use Rattle.heap_cells.specs.SeenCells.{IsSeen}
 use Rattle.branch_state.specs.States as branch
 use Rattle.branch_state.specs.States.{IsCell, IsSound, IsSoundBelow, with_heap}
 use Rattle.wam_code.specs.Area.{Slot, Cell, Level, State, Span, Area, HasState, HasQuery}
@@ -88,3 +90,7 @@ pub record IsSafeBack (area : Area) (s : branch.State) (c : Contents) : Type 0 w
 abbrev pub IsSafeThen : Area → branch.State → Contents → Went → Type 0
 IsSafeThen area s c (On to) = IsSafe area s to 0 c
 IsSafeThen area s c Back = IsSafeBack area s c
+
+-- what the first argument's register holds is seen so
+abbrev pub FirstIsSeen : branch.State → Contents → Seen → Type 0
+FirstIsSeen s c x = (d : HeapCell) × (cell_at c.registers 1 ≡ Some d) × IsSeen s.heaps.now d x

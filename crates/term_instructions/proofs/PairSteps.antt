@@ -13,9 +13,9 @@ use Rattle.wam_code.specs.Area.{Area}
 use Rattle.code_areas.specs.Areas.{Contents}
 use Rattle.code_meaning.specs.Registers.{IsWritten}
 use Rattle.code_safety.specs.Machine.{registers_of, CanHold, IsSameBehind}
-use Rattle.code_safety.specs.Safety.{IsSafe}
+use Rattle.code_safety.specs.Safety.{IsSafe, FirstIsSeen}
 use Rattle.code_safety.specs.declared.instruction_outcomes.Went.TheVariants.{On}
-use Rattle.term_instructions.specs.Pairs.{IsPairAt, FirstIsSeen, IsPairRead}
+use Rattle.term_instructions.specs.Pairs.{IsPairAt, IsPairRead}
 use Rattle.term_instructions.specs.ReadMode.{IsReadTo}
 use Rattle.term_instructions.specs.declared.read_mode.ReadPosition.{ReadPosition}
 use Rattle.term_instructions.proofs.Head.{args_own, get_started, get_read, looked_all}

@@ -3,7 +3,6 @@ use Rattle.std.specs.Prelude.{◌≡◌, ℕ, suc, Option, Some, None}
 use Rattle.term_pool.specs.declared.AtomId.{AtomId}
 use Rattle.heap_cells.specs.declared.Cell.{Cell}
 use Rattle.heap_cells.specs.declared.Seen.{Seen}
-use Rattle.heap_cells.specs.SeenCells.{IsSeen}
 use Rattle.branch_state.specs.States as branch
 use Rattle.wam_code.specs.declared.instruction.Register.{Register}
 use Rattle.wam_code.specs.declared.instruction.Code.TheVariants.{GetStructure, UnifyVariable}
@@ -20,10 +19,6 @@ pub record IsPairAt (area : Area) (at : ℕ) (f : AtomId) (first second : Regist
   pub asks : Holds area at (GetStructure f 2 1)
   pub first_is : Holds area (suc at) (UnifyVariable first)
   pub second_is : Holds area (suc (suc at)) (UnifyVariable second)
-
--- what the first argument's register holds is seen so
-abbrev pub FirstIsSeen : branch.State → Contents → Seen → Type 0
-FirstIsSeen s c x = (d : Cell) × (cell_at c.registers 1 ≡ Some d) × IsSeen s.heaps.now d x
 
 -- Both arguments were read, and the code goes on at the place.
 pub record IsPairRead (area : Area) (s : branch.State) (at : ℕ) (c c' : Contents) (next : ℕ) : Type 0 where

@@ -3,8 +3,8 @@
 ghost use Rattle.std.specs.Prelude.{◌<◌, length, IfOk, IfSome};
 ghost use Rattle.wam_code.specs.declared.instruction.Code.TheVariants as step;
 ghost use Rattle.wam_code.specs.Area.{Holds};
-ghost use Rattle.code_safety.specs.Safety.{IsSafe};
-ghost use Rattle.term_instructions.specs.Pairs.{IsPairAt, FirstIsSeen, GetsPair};
+ghost use Rattle.code_safety.specs.Safety.{IsSafe, FirstIsSeen};
+ghost use Rattle.term_instructions.specs.Pairs.{IsPairAt, GetsPair};
 
 use crate::registers::write;
 use branch_state::BranchState;

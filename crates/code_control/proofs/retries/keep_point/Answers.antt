@@ -1,5 +1,5 @@
 use Rattle.std.proofs.Common.{◌≡◌, ◌-◌, length, drop, Some, None, refl, ap, ◌∙◌, arith}
-use Rattle.code_control.proofs.Again.{point_pair}
+use Rattle.code_control.proofs.RetriedChoices.{point_pair}
 use Rattle.code_control.proofs.retries.keep_point.Goals as goal
 
 pub drop_marks-requires : goal.drop_marks-requires

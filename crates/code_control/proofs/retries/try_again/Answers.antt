@@ -4,10 +4,10 @@ use Rattle.code_areas.specs.Areas.{Point}
 use Rattle.code_safety.specs.Choices.{point_of}
 use Rattle.branch_state.specs.States.{IsSound, with_pair}
 use Rattle.code_safety.specs.Safety.{IsSafe}
-use Rattle.code_control.specs.Again.{KeepsPoint, IsBackAt}
+use Rattle.code_control.specs.RetriedChoices.{KeepsPoint, IsBackAt}
 use Rattle.code_control.specs.ClauseSelection.{IsTried}
 use Rattle.code_control.specs.declared.clause_selection.Tried.TheVariants.{Both, Last}
-use Rattle.code_control.proofs.Again.{point_within, other_again, last_again, other_safe, both_again, restored_whole, restored_gone}
+use Rattle.code_control.proofs.RetriedChoices.{point_within, other_again, last_again, other_safe, both_again, restored_whole, restored_gone}
 use Rattle.code_control.proofs.Threads.{can_undo}
 use Rattle.code_control.proofs.retries.try_again.Goals as goal
 

@@ -3,7 +3,8 @@ use Rattle.std.proofs.Math.Seq.{drop-cons}
 use Rattle.heap_cells.specs.declared.Seen.TheVariants as seen
 use Rattle.wam_code.specs.declared.instruction.Code.TheVariants.{UnifyVariable}
 use Rattle.code_safety.proofs.Lemmas.{place_within, within_code}
-use Rattle.term_instructions.specs.Pairs.{FirstIsSeen, IsPairRead}
+use Rattle.code_safety.specs.Safety.{FirstIsSeen}
+use Rattle.term_instructions.specs.Pairs.{IsPairRead}
 use Rattle.term_instructions.proofs.PairSteps.{both_own, second_holds, pair_read}
 use Rattle.term_instructions.proofs.pairs.get_pair.Goals as goal
 

@@ -13,7 +13,7 @@ use Rattle.code_safety.specs.Safety.{IsThread, ArePoints, IsSafe, IsSafeBack}
 use Rattle.code_safety.specs.declared.instruction_outcomes.Went.TheVariants.{On}
 use Rattle.code_safety.proofs.Lemmas.{points_kept, points_marked, thread_kept}
 use Rattle.code_control.specs.declared.clause_selection.Tried.TheVariants.{Both, Last, Other}
-use Rattle.code_control.specs.Again.{KeptFor, KeepsPoint, IsBackAt, IsTaken, TriesAgain}
+use Rattle.code_control.specs.RetriedChoices.{KeptFor, KeepsPoint, IsBackAt, IsTaken, TriesAgain}
 use Rattle.code_control.specs.ClauseSelection.{tried_by, first_of, IsTried, IsChoice, IsLater, LeavesOut, MayMatch, MayMatchFrom}
 use Rattle.code_control.proofs.ChoiceSafety.{place_safe, place_falls, last_place, chooses_last, both_places, chooses_alone, point_safe, point_falls}
 use Rattle.code_control.proofs.ChoiceSafety.{chooses_point}
