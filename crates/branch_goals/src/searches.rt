@@ -1,6 +1,6 @@
 //! The best leaf of a labelling.
 
-ghost use Rattle.std.specs.Prelude.{◌≡◌, ◌++◌, ◌∷◌, [], List, ℕ, true, false, length, take, IfOk, OnOk, MatchOption};
+ghost use Rattle.std.specs.Prelude.{◌≡◌, ◌++◌, ◌≤◌, ◌^◌, ◌∷◌, [], List, ℕ, suc, true, false, length, take, IfOk, OnOk, MatchOption, MatchResult};
 ghost use Rattle.fd_language.specs.Family.{has};
 ghost use Rattle.fd_model.specs.Members as seen;
 ghost use Rattle.heap_cells.specs.Cells.{IsOf};
@@ -66,7 +66,9 @@ fn number_of(open_ones: &[(usize, usize)], variable: usize) -> Option<usize>
 
 /// The variable of the store of an open member in a variable of the heap. An integer has none.
 fn number_for(member: Member, variable: usize, named: &mut Named) -> Result<Option<usize>, NoMemory>
-    ensures { IfOk result (λ number. Numbers member variable named.old number named.new) }
+    ensures { MatchResult result
+        (λ number. Numbers member variable named.old number named.new)
+        (λ _. 2 ^ 64 ≤ suc named.old.next) }
 {
     match member {
         Member::Fixed(_) => Ok(None),

@@ -1,6 +1,6 @@
 //! The slots of a frame in which levels are kept.
 
-ghost use Rattle.std.specs.Prelude.{◌≡◌, suc, IfOk, ◌≤◌, ◌^◌, MatchResult};
+ghost use Rattle.std.specs.Prelude.{◌≡◌, suc, ◌+◌, ◌≤◌, ◌^◌, MatchResult};
 ghost use Rattle.wam_code.specs.declared.instruction.Code.TheVariants.{EnterTest};
 ghost use Rattle.clause_code.specs.Bodies.{in_test};
 
@@ -19,7 +19,7 @@ pub(crate) struct Levels {
 impl Levels {
     /// Those in a test whose cuts go to the slot `cut`: two more slots are taken.
     fn in_test(self, cut: usize) -> Result<Levels, NoMemory>
-        ensures { IfOk result (λ l. l ≡ in_test self cut) }
+        ensures { MatchResult result (λ l. l ≡ in_test self cut) (λ _. 2 ^ 64 ≤ self.next + 2) }
     {
         let next = self.next.checked_add(2).ok_or(NoMemory)?;
         Ok(Levels {
@@ -32,14 +32,16 @@ impl Levels {
 
     /// Those in a test without another way.
     pub(crate) fn in_lone_test(self) -> Result<Levels, NoMemory>
-        ensures { IfOk result (λ l. l ≡ in_test self self.next) }
+        ensures { MatchResult result (λ l. l ≡ in_test self self.next)
+            (λ _. 2 ^ 64 ≤ self.next + 2) }
     {
         self.in_test(self.next)
     }
 
     /// Those in a test with another way, for which there is a choice point: a cut in the test keeps that one.
     pub(crate) fn in_choice(self) -> Result<Levels, NoMemory>
-        ensures { IfOk result (λ l. l ≡ in_test self (suc self.next)) }
+        ensures { MatchResult result (λ l. l ≡ in_test self (suc self.next))
+            (λ _. 2 ^ 64 ≤ self.next + 2) }
     {
         self.in_test(self.second()?)
     }

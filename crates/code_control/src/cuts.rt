@@ -1,6 +1,6 @@
 //! Levels of the search, tests, and cuts.
 
-ghost use Rattle.std.specs.Prelude.{◌≡◌, ◌-◌, ◌<◌, ◌∷◌, suc, length, drop, slice_set, IfOk, OnOk};
+ghost use Rattle.std.specs.Prelude.{◌≡◌, ◌-◌, ◌<◌, ◌≤◌, ◌^◌, ◌∷◌, suc, length, drop, slice_set, IfOk, OnOk, MatchResult};
 ghost use Rattle.branch_meaning.specs.RemainingEvents.{oldest};
 ghost use Rattle.wam_code.specs.declared.instruction.Code.TheVariants as step;
 ghost use Rattle.wam_code.specs.Area.{Holds};
@@ -68,11 +68,13 @@ pub fn test_only<A: Agenda + Drop>(
 fn set_levels(n: usize, m: usize, areas: &mut Areas) -> Result<(), NoMemory>
     requires first { IsSlot n areas.old.slots }
     requires second { IsSlot m areas.old.slots }
-    ensures { OnOk result (areas.new ≡ record areas.old {
-      slots = slice_set
-          (slice_set areas.old.slots (n - 1) (level (length areas.old.points)))
-          (m - 1) (level (suc (length areas.old.points)));
-    }) }
+    ensures { MatchResult result
+        (λ _. areas.new ≡ record areas.old {
+          slots = slice_set
+              (slice_set areas.old.slots (n - 1) (level (length areas.old.points)))
+              (m - 1) (level (suc (length areas.old.points)));
+        })
+        (λ _. 2 ^ 64 ≤ suc (length areas.old.points)) }
 {
     let points = areas.points();
     let inside = points.checked_add(1).ok_or(NoMemory)?;
