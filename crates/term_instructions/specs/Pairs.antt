@@ -1,13 +1,11 @@
 -- A structure of two arguments that is there, where the code gives registers for both that are met first.
 use Rattle.std.specs.Prelude.{◌≡◌, ℕ, suc, Option, Some, None}
 use Rattle.term_pool.specs.declared.AtomId.{AtomId}
-use Rattle.heap_cells.specs.declared.Cell.{Cell}
-use Rattle.heap_cells.specs.declared.Seen.{Seen}
 use Rattle.branch_state.specs.States as branch
 use Rattle.wam_code.specs.declared.instruction.Register.{Register}
 use Rattle.wam_code.specs.declared.instruction.Code.TheVariants.{GetStructure, UnifyVariable}
 use Rattle.wam_code.specs.Area.{Area, Holds}
-use Rattle.code_areas.specs.Areas.{cell_at, Contents}
+use Rattle.code_areas.specs.Areas.{Contents}
 use Rattle.code_safety.specs.Machine.{IsSameBehind}
 use Rattle.code_safety.specs.Safety.{IsSafe}
 use Rattle.code_safety.specs.RepresentedBranch.{KeepsStanding}
