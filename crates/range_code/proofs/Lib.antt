@@ -13,7 +13,7 @@ mod SetEnds
 mod Operators
 mod SameNodes
 mod Heights
-mod Kinds
+mod ReadKinds
 mod PostedRanges
 mod FoldedRanges
 mod ConstantPlaces

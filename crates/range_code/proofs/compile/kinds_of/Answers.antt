@@ -1,6 +1,6 @@
 use Rattle.std.proofs.Common.{nat_eq, ◌∙◌, ap}
 use Rattle.std.specs.List.{list_any}
-use Rattle.range_code.proofs.Kinds.{told_put, told_left}
+use Rattle.range_code.proofs.ReadKinds.{told_put, told_left}
 use Rattle.range_code.proofs.compile.kinds_of.Goals.{in-Some+in_ok-push, in_default}
 use Rattle.range_code.proofs.compile.kinds_of.Goals as goal
 
