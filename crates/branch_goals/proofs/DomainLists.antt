@@ -1,20 +1,31 @@
 -- Domains as lists of intervals.
-use Rattle.std.proofs.Common.{◌≡◌, ℕ, ◌<◌, ℤ, pos, List, [], ◌∷◌, ◌++◌, map, refl, ap, sym, ◌∙◌, arith}
+use Rattle.std.proofs.Common.{◌≡◌, ℕ, ◌<◌, ℤ, pos, List, [], ◌∷◌, ◌++◌, map, Ok, refl, ap, sym, subst, ◌∙◌, arith}
 use Rattle.fd_language.specs.declared.TheConstants.{INFINITY}
 use Rattle.domain_ranges.specs.Spans.{IsSpans, members}
 use Rattle.machine_events.proofs.Lemmas.{span_intervals}
-use Rattle.fd_language.specs.Term.{Int, Atom, Comp}
+use Rattle.fd_language.specs.Family.{Family}
+use Rattle.fd_language.specs.SingleValues.{value_at}
+use Rattle.fd_language.specs.Term.{Term, Var, Int, Atom, Comp}
 use Rattle.fd_language.proofs.Lemmas.{two}
-use Rattle.fd_model.specs.Builtins.{those, two_terms, interval_terms}
+use Rattle.fd_model.specs.Builtins.{those, two_terms, interval_list, interval_terms, equated, equals_number, numbers_of, set_numbers, Numbers}
+use Rattle.fd_model.specs.declared.kinds.BuiltinKind.TheVariants.{FdDom}
 use Rattle.fd_model.specs.Lines.{Interval, intervals}
 use Rattle.term_pool.specs.declared.TheConstants.{NIL, CONS, SPAN}
 use Rattle.heap_cells.specs.declared.Cell.{Cell}
 use Rattle.heap_cells.specs.declared.Cell.TheVariants as cell
+use Rattle.heap_cells.specs.Cells.{Cells, IsOf}
+use Rattle.heap_cells.specs.SeenTerms.{link_in, link_of, read_term, seen_term}
 use Rattle.heap_cells.specs.Terms.{Naming, term_of}
-use Rattle.heap_cells.proofs.Lemmas.{term-Int, term-Atom}
-use Rattle.branch_lemmas.proofs.Lemmas.{grown_both, grown_same}
+use Rattle.heap_cells.proofs.Lemmas.{term-Int, term-Atom, same_apply}
+use Rattle.range_code.specs.Frames.{family_of}
+use Rattle.branch_meaning.specs.HeldBranches.{link_at}
+use Rattle.branch_meaning.specs.AnswerTexts.{cell_set}
+use Rattle.branch_lemmas.specs.Frames.{IsGrown}
+use Rattle.branch_lemmas.proofs.Lemmas.{grown_both, grown_same, of_grown}
 use Rattle.branch_state.specs.Compounds.{IsMade}
-use Rattle.branch_state.specs.States.{State, IsSound, with_heap}
+use Rattle.branch_state.specs.States.{State, IsCell, IsSound, with_heap}
+use Rattle.branch_goals.specs.declared.builtin_findings.Found.TheVariants.{Equal}
+use Rattle.branch_goals.specs.Findings.{Finds, numbers_at}
 use Rattle.branch_goals.specs.Domains.{AreSpans, AreSpansOf, IsSpanList, IsSpanNaming, span_of, spans_term}
 use Rattle.std.proofs.lemmas.List.{append-nil, append_assoc}
 
@@ -71,6 +82,40 @@ spans_list name n (i ∷ is) = two (λ f t. Comp f t) n.0.cons (two two_terms (a
 
 pub those_spans : (xs : List ℕ) (spans : List (ℤ × ℤ)) → AreSpansOf xs spans → AreSpans (those xs) spans
 those_spans xs spans e name n = ap (spans_term name) e ∙ spans_list name n (intervals xs)
+
+-- ---- a heap that has grown
+
+module _ (name : Naming) (old now : Cells) (g : IsGrown old now) (sets : List (List ℕ)) (c : Cell) (own : IsOf old c) where
+  abbrev G : Family
+  G = family_of sets
+
+  shown_grown : seen_term name now G c ≡ seen_term name old G c
+  shown_grown =
+      same_apply (λ d. value_at (link_in now d) G d) (λ d. value_at (link_in old d) G d) (λ d. ap (λ s. value_at (link_of s) G d) (g.slots d))
+      (term_of name now c)
+      ∙ ap (read_term old G) (g.terms name c own)
+
+  given_grown : (t : Term) → numbers_of (λ d. cell_set G (link_at (link_in now d) G)) t ≡ numbers_of (λ d. cell_set G (link_at (link_in old d) G)) t
+  given_grown (Var x) = ap (λ s. set_numbers (cell_set G (link_at (link_of s) G))) (g.slots x)
+  given_grown (Int z) = refl
+  given_grown (Atom a) = refl
+  given_grown (Comp f ts) = refl
+
+  numbers_grown : numbers_at name now sets c ≡ numbers_at name old sets c
+  numbers_grown = given_grown (seen_term name now G c) ∙ ap (numbers_of (λ d. cell_set G (link_at (link_in old d) G))) shown_grown
+
+-- The list of its intervals is what `fd_dom` comes to, on the heap that has it.
+pub domain_told : (name : Naming) (old now : State) (of is : Cell) → IsSpanNaming name → IsCell old of → IsCell old is → (ns : Numbers)
+    → numbers_at name old.heaps.now old.levels.current.sets of ≡ Ok ns → (spans : List (ℤ × ℤ)) → AreSpans ns spans
+    → (c : Cell) → IsSpanList old spans now c → Finds name now FdDom of is (Equal is c)
+domain_told name old now of is n own own_is ns e spans a c l = (
+  subst (λ (s : State). IsCell s is) (sym l.heap) (of_grown old.heaps.now now.heaps.now l.grown is own_is.0, own_is.1),
+  l.own,
+  ap (equals_number interval_list (term_of name now.heaps.now is))
+      (ap (λ (s : State). numbers_at name now.heaps.now s.levels.current.sets of) l.heap
+      ∙ numbers_grown name old.heaps.now now.heaps.now l.grown old.levels.current.sets of own.0 ∙ e)
+      ∙ ap (equated (term_of name now.heaps.now is)) (sym (l.term name ∙ a name n)),
+)
 
 -- ---- the spans of a domain
 
