@@ -2,3 +2,5 @@
 -- One piece after another: what several calls of a source or of a sink come to.
 pub use Rattle.byte_ports.proofs.Pieces.{all_front, all_then, front_then, longer_front, longer_part, part_then, put_none, stays, took_more, took_none}
 pub use Rattle.byte_ports.proofs.Pieces.{wrote_no_part, wrote_nothing}
+-- What calls of a sink that write them are handed.
+pub use Rattle.byte_ports.proofs.HandedPieces.{front_before, front_behind, handed_front, handed_none, handed_then}

@@ -96,6 +96,8 @@ impl<W: Write> WriterSink<W> {
 impl<W: Write> Sink for WriterSink<W> {
     ghost written = { λ _. None };
 
+    ghost handed = { λ _. None };
+
     ghost faults = { λ s. s.faults };
 
     /// Fails where the writer does, and where it takes no byte of a piece that is not empty, and

@@ -102,6 +102,8 @@ impl SureSink {
 impl Sink for SureSink {
     ghost written = { λ s. s.written };
 
+    ghost handed = { λ _. None };
+
     ghost faults = { λ _. 0 };
 
     fn write(&mut self, piece: &[u8]) -> Result<usize, Failed>

@@ -1,6 +1,6 @@
 //! A source and a sink in memory, with calls that are to fail.
 
-ghost use Rattle.std.specs.Prelude.{◌≡◌, ◌↔◌, ◌⊎◌, ◌-◌, ◌<◌, ◌≤◌, [], ◌++◌, Some, length, take, drop, min, IfOk, IsErr, OnOk, OnErr};
+ghost use Rattle.std.specs.Prelude.{◌≡◌, ◌↔◌, ◌⊎◌, ◌-◌, ◌<◌, ◌≤◌, [], ◌++◌, Some, None, length, take, drop, min, IfOk, IsErr, OnOk, OnErr};
 ghost use Rattle.byte_ports.specs.Parts.{MemorySourceParts, MemorySinkParts, FailsNext, unused, called, failed};
 ghost use Rattle.byte_ports.specs.Ports.{Rose};
 
@@ -105,6 +105,8 @@ impl MemorySink {
 
 impl Sink for MemorySink {
     ghost written = { λ s. Some s.written };
+
+    ghost handed = { λ _. None };
 
     ghost faults = { λ s. s.plan.faults };
 

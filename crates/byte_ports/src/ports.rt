@@ -1,7 +1,7 @@
 //! Sources and sinks, and the loops that read a whole text and write a whole piece.
 
-ghost use Rattle.std.specs.Prelude.{◌≡◌, ◌+◌, ◌<◌, ◌≤◌, ℕ, List, [], Option, length, take, IfOk, IsOk, OnOk, OnErr, IsErr, IsErrOf};
-ghost use Rattle.byte_ports.specs.Ports.{Took, IsAtEnd, ReadJust, ReadWithin, Put, PutPart, Rose};
+ghost use Rattle.std.specs.Prelude.{◌≡◌, ◌+◌, ◌<◌, ◌≤◌, ◌∷◌, ℕ, List, [], Option, length, take, IfOk, IsOk, OnOk, OnErr, IsErr, IsErrOf};
+ghost use Rattle.byte_ports.specs.Ports.{Took, IsAtEnd, ReadJust, ReadWithin, Put, PutPart, Rose, Handed, HandedOne};
 ghost use Rattle.byte_ports.specs.declared.ports.ReadTextFault.TheVariants.{NoMemory};
 
 use std::alloc::{AllocError, Global};
@@ -42,12 +42,16 @@ pub trait Source {
 /// Where bytes go.
 ///
 /// A sink may tell the bytes that it has taken, as one in memory does, or tell none, as one
-/// over a file does. What it tells after a call it told before it. Its count of faults is the number
-/// of its failed calls, as far as 64 bits hold it: a call that fails raises it by one, or leaves it
-/// at its last value, and a call that succeeds leaves it as it was.
+/// over a file does, and it may tell the pieces that it was handed. What it tells after a call it
+/// told before it. Its count of faults is the number of its failed calls, as far as 64 bits hold it:
+/// a call that fails raises it by one, or leaves it at its last value, and a call that succeeds
+/// leaves it as it was.
 pub trait Sink {
     /// The bytes taken, where they are told.
     ghost written: { Self → Option (List ℕ) };
+
+    /// The pieces that the calls were handed, one a call, where they are told.
+    ghost handed: { Self → Option (List (List ℕ)) };
 
     /// How many calls have failed, and at most 2^64 - 1.
     ghost faults: { Self → ℕ };
@@ -61,6 +65,7 @@ pub trait Sink {
         ensures bytes { IfOk result
             (λ n. Put (written self.old) (written self.new) (take n piece.now)) }
         ensures err { OnErr result (Put (written self.old) (written self.new) []) }
+        ensures handed { HandedOne (handed self.old) (handed self.new) piece.now }
         ensures ok { OnOk result (faults self.new ≡ faults self.old) }
         ensures later { faults self.old ≤ faults self.new }
         ensures cause { OnErr result (Rose (faults self.old) (faults self.new)) };
@@ -72,13 +77,17 @@ pub trait Sink {
 #[error("writing failed")]
 pub struct WriteFault;
 
-/// Writes the whole piece, by as many calls of the sink as it wants. Where the sink fails, a front
+/// Writes the whole piece, by as many calls of the sink as it wants: the first one is handed the
+/// whole piece, and each later one the end of it that isn't taken yet. Where the sink fails, a front
 /// of the piece was written, and no further call is made. An empty piece makes no call. Takes no
 /// memory.
 pub fn write_all<K: Sink>(sink: &mut K, piece: &[u8]) -> Result<(), WriteFault>
     ensures ok { OnOk result (Put (K.written sink.old) (K.written sink.new) piece.now) }
     ensures err { OnErr result (PutPart (K.written sink.old) (K.written sink.new) piece.now) }
     ensures empty { piece.now ≡ [] → IsOk result × (sink.new ≡ sink.old) }
+
+    // The piece was handed over as one, whole or cut short.
+    ensures handed { Handed (K.handed sink.old) (K.handed sink.new) (piece.now ∷ []) }
 
     // The count of faults never falls. `WriteFault` raises it by one, and comes wherever it rose.
     ensures later { K.faults sink.old ≤ K.faults sink.new }

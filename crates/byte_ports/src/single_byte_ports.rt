@@ -1,6 +1,6 @@
 //! A source and a sink in memory that move one byte a call, with calls that are to fail.
 
-ghost use Rattle.std.specs.Prelude.{◌≡◌, ◌↔◌, ◌⊎◌, ◌-◌, ◌<◌, ◌≤◌, [], ◌++◌, Some, length, take, drop, min, IfOk, IsErr, OnOk, OnErr};
+ghost use Rattle.std.specs.Prelude.{◌≡◌, ◌↔◌, ◌⊎◌, ◌-◌, ◌<◌, ◌≤◌, [], ◌++◌, Some, None, length, take, drop, min, IfOk, IsErr, OnOk, OnErr};
 ghost use Rattle.byte_ports.specs.Parts.{MemorySourceParts, MemorySinkParts, FailsNext, unused, called, failed};
 ghost use Rattle.byte_ports.specs.Ports.{Rose};
 
@@ -98,6 +98,8 @@ impl SmallSink {
 
 impl Sink for SmallSink {
     ghost written = { λ s. Some s.written };
+
+    ghost handed = { λ _. None };
 
     ghost faults = { λ s. s.plan.faults };
 
