@@ -1,0 +1,3 @@
+mod TermSizes
+mod GoalSizes
+mod FlatTexts

@@ -1,0 +1,3 @@
+pub mod ConstraintSizes
+pub mod FlatTexts
+pub mod Laws

@@ -1,0 +1,4 @@
+//! Laws of whole texts.
+#![tactic(auto)]
+
+pub mod laws;
