@@ -1,6 +1,8 @@
 //! The forms of instructions, and their names.
 
 ghost use Rattle.std.specs.Prelude.{◌≡◌};
+ghost use Rattle.listing_reader.specs.declared.forms.One.TheVariants as one;
+ghost use Rattle.listing_reader.specs.declared.forms.Operation.TheVariants as form;
 ghost use Rattle.listing_reader.specs.Forms.{IsAnyForm, counted_code, form_name, slotted_code};
 ghost use Rattle.listing_reader.specs.Reading.{Reads};
 
@@ -145,55 +147,121 @@ const FORMS: [Operation; 43] = [
     Operation::Three(Three::EnterTest),
 ];
 
+impl Lone {
+    /// The name with which a line writes it.
+    fn name(self) -> &'static [u8]
+        ensures { result.now ≡ form_name (form.Lone self) }
+    {
+        match self {
+            Lone::Deallocate => b"Deallocate",
+            Lone::Proceed => b"Proceed",
+            Lone::FailNow => b"FailNow",
+            Lone::AnswerNow => b"AnswerNow",
+            Lone::TrustMe => b"TrustMe",
+        }
+    }
+}
+
+impl Counted {
+    /// The name with which a line writes it.
+    fn name(self) -> &'static [u8]
+        ensures { result.now ≡ form_name (form.One (one.Counted self)) }
+    {
+        match self {
+            Counted::UnifyVoid => b"UnifyVoid",
+            Counted::Allocate => b"Allocate",
+            Counted::Call => b"Call",
+            Counted::Execute => b"Execute",
+            Counted::Jump => b"Jump",
+            Counted::TryMeElse => b"TryMeElse",
+            Counted::RetryMeElse => b"RetryMeElse",
+            Counted::Try => b"Try",
+            Counted::Retry => b"Retry",
+            Counted::Trust => b"Trust",
+            Counted::Either => b"Either",
+        }
+    }
+}
+
+impl Slotted {
+    /// The name with which a line writes it.
+    fn name(self) -> &'static [u8]
+        ensures { result.now ≡ form_name (form.One (one.Slotted self)) }
+    {
+        match self {
+            Slotted::Level => b"Level",
+            Slotted::TestOnly => b"TestOnly",
+            Slotted::CutTo => b"CutTo",
+        }
+    }
+}
+
+impl One {
+    /// The name with which a line writes it.
+    fn name(self) -> &'static [u8]
+        ensures { result.now ≡ form_name (form.One self) }
+    {
+        match self {
+            One::UnifyVariable => b"UnifyVariable",
+            One::UnifyValue => b"UnifyValue",
+            One::UnifyConstant => b"UnifyConstant",
+            One::UnifyInteger => b"UnifyInteger",
+            One::Counted(counted) => counted.name(),
+            One::Slotted(slotted) => slotted.name(),
+            One::Builtin => b"Builtin",
+            One::Constrain => b"Constrain",
+            One::Label => b"Label",
+        }
+    }
+}
+
+impl Two {
+    /// The name with which a line writes it.
+    fn name(self) -> &'static [u8]
+        ensures { result.now ≡ form_name (form.Two self) }
+    {
+        match self {
+            Two::Variable(Side::Get) => b"GetVariable",
+            Two::Value(Side::Get) => b"GetValue",
+            Two::Constant(Side::Get) => b"GetConstant",
+            Two::Integer(Side::Get) => b"GetInteger",
+            Two::Variable(Side::Put) => b"PutVariable",
+            Two::Value(Side::Put) => b"PutValue",
+            Two::Constant(Side::Put) => b"PutConstant",
+            Two::Integer(Side::Put) => b"PutInteger",
+            Two::Best => b"Best",
+            Two::PostRange => b"PostRange",
+        }
+    }
+}
+
+impl Three {
+    /// The name with which a line writes it.
+    fn name(self) -> &'static [u8]
+        ensures { result.now ≡ form_name (form.Three self) }
+    {
+        match self {
+            Three::Structure(Side::Get) => b"GetStructure",
+            Three::Structure(Side::Put) => b"PutStructure",
+            Three::EnterTest => b"EnterTest",
+        }
+    }
+}
+
 impl Operation {
     /// The name with which a line writes it.
     fn name(self) -> &'static [u8]
         ensures { result.now ≡ form_name self }
     {
         match self {
-            Operation::Two(Two::Variable(Side::Get)) => b"GetVariable",
-            Operation::Two(Two::Value(Side::Get)) => b"GetValue",
-            Operation::Two(Two::Constant(Side::Get)) => b"GetConstant",
-            Operation::Two(Two::Integer(Side::Get)) => b"GetInteger",
-            Operation::Three(Three::Structure(Side::Get)) => b"GetStructure",
-            Operation::Two(Two::Variable(Side::Put)) => b"PutVariable",
-            Operation::Two(Two::Value(Side::Put)) => b"PutValue",
-            Operation::Two(Two::Constant(Side::Put)) => b"PutConstant",
-            Operation::Two(Two::Integer(Side::Put)) => b"PutInteger",
-            Operation::Three(Three::Structure(Side::Put)) => b"PutStructure",
-            Operation::One(One::UnifyVariable) => b"UnifyVariable",
-            Operation::One(One::UnifyValue) => b"UnifyValue",
-            Operation::One(One::UnifyConstant) => b"UnifyConstant",
-            Operation::One(One::UnifyInteger) => b"UnifyInteger",
-            Operation::One(One::Counted(Counted::UnifyVoid)) => b"UnifyVoid",
-            Operation::One(One::Counted(Counted::Allocate)) => b"Allocate",
-            Operation::One(One::Counted(Counted::Call)) => b"Call",
-            Operation::One(One::Counted(Counted::Execute)) => b"Execute",
-            Operation::One(One::Counted(Counted::Jump)) => b"Jump",
-            Operation::One(One::Counted(Counted::TryMeElse)) => b"TryMeElse",
-            Operation::One(One::Counted(Counted::RetryMeElse)) => b"RetryMeElse",
-            Operation::One(One::Counted(Counted::Try)) => b"Try",
-            Operation::One(One::Counted(Counted::Retry)) => b"Retry",
-            Operation::One(One::Counted(Counted::Trust)) => b"Trust",
-            Operation::One(One::Counted(Counted::Either)) => b"Either",
-            Operation::Lone(Lone::Deallocate) => b"Deallocate",
-            Operation::Lone(Lone::Proceed) => b"Proceed",
-            Operation::Lone(Lone::FailNow) => b"FailNow",
-            Operation::Lone(Lone::AnswerNow) => b"AnswerNow",
-            Operation::Lone(Lone::TrustMe) => b"TrustMe",
+            Operation::Lone(lone) => lone.name(),
+            Operation::One(one) => one.name(),
+            Operation::Two(two) => two.name(),
+            Operation::Three(three) => three.name(),
             Operation::SwitchOnTerm => b"SwitchOnTerm",
             Operation::Switch(Kind::Atoms) => b"SwitchOnConstant",
             Operation::Switch(Kind::Integers) => b"SwitchOnInteger",
             Operation::Switch(Kind::Structures) => b"SwitchOnStructure",
-            Operation::One(One::Builtin) => b"Builtin",
-            Operation::One(One::Constrain) => b"Constrain",
-            Operation::One(One::Label) => b"Label",
-            Operation::Two(Two::Best) => b"Best",
-            Operation::Two(Two::PostRange) => b"PostRange",
-            Operation::One(One::Slotted(Slotted::Level)) => b"Level",
-            Operation::One(One::Slotted(Slotted::TestOnly)) => b"TestOnly",
-            Operation::One(One::Slotted(Slotted::CutTo)) => b"CutTo",
-            Operation::Three(Three::EnterTest) => b"EnterTest",
         }
     }
 }

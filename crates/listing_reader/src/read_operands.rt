@@ -46,60 +46,15 @@ pub(crate) fn read_one(one: One, word: &[u8]) -> Option<Code>
         (form_name (form.One one) ∷ word.now ∷ []) result }
 {
     match one {
-        One::UnifyVariable => {
-            let Some(register) = read_register(word) else {
-                return None;
-            };
-            Some(Code::UnifyVariable(register))
-        }
-        One::UnifyValue => {
-            let Some(register) = read_register(word) else {
-                return None;
-            };
-            Some(Code::UnifyValue(register))
-        }
-        One::UnifyConstant => {
-            let Some(atom) = read_atom_number(word) else {
-                return None;
-            };
-            Some(Code::UnifyConstant(atom))
-        }
-        One::UnifyInteger => {
-            let Some(integer) = read_integer(word) else {
-                return None;
-            };
-            Some(Code::UnifyInteger(integer))
-        }
-        One::Counted(counted) => {
-            let Some(number) = read_number(word) else {
-                return None;
-            };
-            Some(counted_code(counted, number))
-        }
-        One::Slotted(slotted) => {
-            let Some(slot) = read_slot(word) else {
-                return None;
-            };
-            Some(slotted_code(slotted, slot))
-        }
-        One::Builtin => {
-            let Some(kind) = read_builtin(word) else {
-                return None;
-            };
-            Some(Code::Builtin(kind))
-        }
-        One::Constrain => {
-            let Some(kind) = read_constraint(word) else {
-                return None;
-            };
-            Some(Code::Constrain(kind))
-        }
-        One::Label => {
-            let Some(order) = read_order(word) else {
-                return None;
-            };
-            Some(Code::Label(order))
-        }
+        One::UnifyVariable => Some(Code::UnifyVariable(read_register(word)?)),
+        One::UnifyValue => Some(Code::UnifyValue(read_register(word)?)),
+        One::UnifyConstant => Some(Code::UnifyConstant(read_atom_number(word)?)),
+        One::UnifyInteger => Some(Code::UnifyInteger(read_integer(word)?)),
+        One::Counted(counted) => Some(counted_code(counted, read_number(word)?)),
+        One::Slotted(slotted) => Some(slotted_code(slotted, read_slot(word)?)),
+        One::Builtin => Some(Code::Builtin(read_builtin(word)?)),
+        One::Constrain => Some(Code::Constrain(read_constraint(word)?)),
+        One::Label => Some(Code::Label(read_order(word)?)),
     }
 }
 
@@ -160,45 +115,23 @@ pub(crate) fn read_two(two: Two, first: &[u8], second: &[u8]) -> Option<Code>
 {
     match two {
         Two::Variable(side) => {
-            let (Some(register), Some(argument)) = (read_register(first), read_argument(second))
-            else {
-                return None;
-            };
-            Some(variable_code(side, register, argument))
+            let register = read_register(first)?;
+            Some(variable_code(side, register, read_argument(second)?))
         }
         Two::Value(side) => {
-            let (Some(register), Some(argument)) = (read_register(first), read_argument(second))
-            else {
-                return None;
-            };
-            Some(value_code(side, register, argument))
+            let register = read_register(first)?;
+            Some(value_code(side, register, read_argument(second)?))
         }
         Two::Constant(side) => {
-            let (Some(atom), Some(argument)) = (read_atom_number(first), read_argument(second))
-            else {
-                return None;
-            };
-            Some(constant_code(side, atom, argument))
+            let atom = read_atom_number(first)?;
+            Some(constant_code(side, atom, read_argument(second)?))
         }
         Two::Integer(side) => {
-            let (Some(integer), Some(argument)) = (read_integer(first), read_argument(second))
-            else {
-                return None;
-            };
-            Some(integer_code(side, integer, argument))
+            let integer = read_integer(first)?;
+            Some(integer_code(side, integer, read_argument(second)?))
         }
-        Two::Best => {
-            let (Some(order), Some(least)) = (read_order(first), read_aim(second)) else {
-                return None;
-            };
-            Some(Code::Best(order, least))
-        }
-        Two::PostRange => {
-            let (Some(range), Some(count)) = (read_number(first), read_number(second)) else {
-                return None;
-            };
-            Some(Code::PostRange(range, count))
-        }
+        Two::Best => Some(Code::Best(read_order(first)?, read_aim(second)?)),
+        Two::PostRange => Some(Code::PostRange(read_number(first)?, read_number(second)?)),
     }
 }
 
@@ -209,22 +142,14 @@ pub(crate) fn read_three(three: Three, first: &[u8], second: &[u8], third: &[u8]
 {
     match three {
         Three::Structure(side) => {
-            let (Some(functor), Some(arity)) = (read_atom_number(first), read_arity(second)) else {
-                return None;
-            };
-            let Some(argument) = read_argument(third) else {
-                return None;
-            };
-            Some(structure_code(side, functor, arity, argument))
+            let functor = read_atom_number(first)?;
+            let arity = read_arity(second)?;
+            Some(structure_code(side, functor, arity, read_argument(third)?))
         }
         Three::EnterTest => {
-            let (Some(test), Some(above)) = (read_slot(first), read_slot(second)) else {
-                return None;
-            };
-            let Some(to) = read_number(third) else {
-                return None;
-            };
-            Some(Code::EnterTest(test, above, to))
+            let test = read_slot(first)?;
+            let above = read_slot(second)?;
+            Some(Code::EnterTest(test, above, read_number(third)?))
         }
     }
 }
