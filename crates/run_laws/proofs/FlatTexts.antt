@@ -1,5 +1,5 @@
 -- A text has at most 2^24 bytes, so its constraints have at most 2^31 variables.
-use Rattle.std.proofs.Common.{◌≡◌, ℕ, ◌+◌, ◌^◌, ◌≤◌, List, [], ◌∷◌, ◌++◌, length, Option, refl, sym, subst, inl, inr, ◌⊎◌, arith}
+use Rattle.std.proofs.Common.{ℕ, ◌+◌, ◌^◌, ◌≤◌, List, [], ◌∷◌, ◌++◌, length, subst, inl, inr, arith}
 use Rattle.fd_language.specs.Term.{Term, Var, Int, Atom, Comp}
 use Rattle.fd_language.specs.Lists.{Each}
 use Rattle.fd_language.specs.Variables.{variables_of, variables_of_all}
@@ -7,8 +7,8 @@ use Rattle.fd_model.specs.Goal.{Goal, Post, Constrain, Label, Best, Program, Que
 use Rattle.fd_model.specs.ConstraintExpansion.{arguments}
 use Rattle.fd_model.specs.FlatQueries.{IsFlatGoal}
 use Rattle.fd_model.specs.FlatOutput.{FlatParts, FlatVerdict}
-use Rattle.fd_model.specs.Verdict.{accepted, refused, IsVerdict, max_text}
-use Rattle.run_laws.specs.ConstraintSizes.{IsSmall, HasSmallConstraints}
+use Rattle.fd_model.specs.Verdict.{accepted, IsVerdict, max_text}
+use Rattle.run_laws.specs.ConstraintSizes.{IsSmall}
 use Rattle.run_laws.specs.FlatTexts.{IsFlatTextGoal, FlatTextParts}
 use Rattle.run_laws.specs.Laws.{FlatTexts}
 use Rattle.run_laws.proofs.GoalSizes.{small_constraints}

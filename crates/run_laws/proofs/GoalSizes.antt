@@ -1,8 +1,8 @@
 -- The constraints of a program have no more occurrences of variables than the sentences that it was made from.
-use Rattle.std.proofs.Common.{◌≡◌, ℕ, suc, ◌+◌, ◌≤◌, Bool, true, false, cond, List, [], ◌∷◌, ◌++◌, length, map, Option, Some, None, refl, sym, subst, inl, inr, ◌⊎◌, arith, length-append}
+use Rattle.std.proofs.Common.{◌≡◌, ℕ, ◌+◌, ◌≤◌, Bool, List, [], ◌∷◌, length, map, Option, Some, None, subst, inl, inr}
+use Rattle.std.proofs.Common.{arith}
 use Rattle.std.specs.Str.{bytes_eq}
 use Rattle.std.specs.Prelude.{codes}
-use Rattle.std.proofs.lemmas.List.{append-nil}
 use Rattle.fd_language.specs.Term.{Name}
 use Rattle.fd_language.specs.PlacedTerm.{PlacedTerm, var, int, atom, comp, no_parts, part}
 use Rattle.fd_language.specs.Reading.{Sentence, sentences}
@@ -12,7 +12,8 @@ use Rattle.fd_model.specs.Forms.{GoalForm, truth, failure, unification, posting,
 use Rattle.fd_model.specs.Refusals.{SentenceKind, query, clause, directive, fact, form_of, functor_of, second_part, Refusal, first_refusal}
 use Rattle.fd_model.specs.Queries.{either_way, best_of, first_part, goal_by_form, goal_named, form_of_functor, goal_of, followed, body_goals, body_of}
 use Rattle.fd_model.specs.Queries.{queries_by, queries_of, clauses_by, clauses_of, program_of}
-use Rattle.fd_model.specs.Goal.{Goal, Goals, no_goals, goal, listed, True, Fail, Unify, Post, Constrain, Label, Call, Either, Builtin, Cut, If, IfElse, Not, Best}
+use Rattle.fd_model.specs.Goal.{Goals, no_goals, goal, listed, True, Fail, Unify, Post, Constrain, Label, Call, Either, Builtin, Cut, If, IfElse, Not}
+use Rattle.fd_model.specs.Goal.{Best}
 use Rattle.fd_model.specs.Goal.{Clause, Query, Program}
 use Rattle.fd_model.specs.Verdict.{accepted, refused, sentences_verdict, reading_verdict}
 use Rattle.fd_model.proofs.Lemmas.{either}

@@ -1,3 +1,14 @@
 mod TermSizes
 mod GoalSizes
 mod FlatTexts
+mod SeenTwice
+mod PostKinds
+mod SamePosted
+mod LabelNames
+mod RowNames
+mod Scopes
+mod Pairs
+mod Offers
+mod Leaves
+mod AnyRuns
+mod AnyOutputs

@@ -1,5 +1,5 @@
 -- Each variable of a term that is read is a token of its own, and each token has a byte.
-use Rattle.std.proofs.Common.{◌≡◌, ℕ, suc, ◌+◌, ◌<◌, ◌≤◌, List, [], ◌∷◌, ◌++◌, length, map, Bool, refl, sym, ap, subst, ◌∙◌, arith, length-append, append_assoc}
+use Rattle.std.proofs.Common.{◌≡◌, ℕ, suc, ◌+◌, ◌≤◌, List, [], ◌∷◌, length, map, refl, ap, subst, ◌∙◌, arith, length-append}
 use Rattle.std.specs.Prelude.{reverse}
 use mathlib.Core.List.{reverse_aux}
 use Rattle.std.proofs.lemmas.List.{append-nil, reverse-reverse}
@@ -11,7 +11,7 @@ use Rattle.fd_language.specs.TokenSlices.{AreSlices}
 use Rattle.fd_language.specs.Terminals.{Terminal}
 use Rattle.fd_language.specs.Grammar.{nil_name, list_of, Reads, an_integer, a_negative, a_variable, an_atom, empty_list, empty_curly, named_call, operator_call}
 use Rattle.fd_language.specs.Grammar.{in_parens, operator_in_parens, a_list, a_list_tail, in_curly, a_prefix, an_infix, Arg, a_term, an_operator, Args, last}
-use Rattle.fd_language.specs.Grammar.{more, Sentences, none, next, IsText}
+use Rattle.fd_language.specs.Grammar.{more, Sentences, none, next}
 use Rattle.fd_language.specs.Reading.{terminals, names_behind, Sentence, IsSentences}
 use Rattle.fd_language.proofs.Lemmas.{tokens_are_slices}
 

@@ -1,9 +1,9 @@
 -- How many variables occur in the constraints of goals and of programs.
-use Rattle.std.specs.Prelude.{ℕ, ◌≤◌, List, length}
-use Rattle.fd_language.specs.Term.{Term}
+use Rattle.std.specs.Prelude.{ℕ, ◌≤◌, length}
 use Rattle.fd_language.specs.Variables.{variables_of}
 use Rattle.fd_language.specs.Lists.{Each}
-use Rattle.fd_model.specs.Goal.{Goal, Goals, no_goals, goal, True, Fail, Unify, Post, Constrain, Label, Call, Either, Builtin, Cut, If, IfElse, Not, Best, Program}
+use Rattle.fd_model.specs.Goal.{Goal, Goals, no_goals, goal, True, Fail, Unify, Post, Constrain, Label, Call, Either, Builtin, Cut, If, IfElse, Not, Best}
+use Rattle.fd_model.specs.Goal.{Program}
 
 -- each constraint in the goal, however deep it stands, has at most n occurrences of variables
 abbrev mutual

@@ -1,3 +1,4 @@
 pub mod ConstraintSizes
 pub mod FlatTexts
+pub mod AnyUnifiers
 pub mod Laws

@@ -1,4 +1,4 @@
-//! Laws of whole texts.
+//! Laws of runs and of whole texts.
 #![tactic(auto)]
 
 pub mod laws;
