@@ -1,18 +1,21 @@
 //! The flat query that a text is.
 
-ghost use Rattle.std.specs.Prelude.{◌≡◌, ◌<◌, ◌≤◌, length, map, not, All, IfOk, MatchResult, Some};
+ghost use Rattle.std.specs.Prelude.{◌≡◌, ◌⊎◌, ◌<◌, ◌≤◌, length, map, not, All, IfOk, MatchResult, Some};
 ghost use Rattle.std.specs.List.{list_all};
+ghost use Rattle.char_tokens.specs.declared.token.TokenFault.TheVariants as token;
 ghost use Rattle.fd_language.specs.Reading.{Reading};
 ghost use Rattle.fd_language.specs.Spelling.{least_place};
 ghost use Rattle.fd_model.specs.Queries.{is_shown};
 ghost use Rattle.fd_model.specs.Refusals.{form_of};
 ghost use Rattle.term_pool.specs.Contents.{atom_name};
 ghost use Rattle.term_pool.specs.PlacedTerms.{placed_of};
+ghost use Rattle.term_reader.specs.declared.reader.ReaderFault.TheVariants as reader;
 ghost use Rattle.term_reader.specs.Sentences.{sentence_of, sentences_of, AreOwn, IsFaultFor, IsSentence};
 ghost use Rattle.answer_check.specs.FlatForm.{first_hidden, flat_by, flat_query, hidden_places, name_at};
 ghost use Rattle.answer_check.specs.Goals.{StopsAt};
 ghost use Rattle.answer_check.specs.Queries.{lesser, FindsFlat, FindsQuery, ReadsQuery, StopsQuery, StopsReading};
 ghost use Rattle.answer_check.specs.declared.outcome.Reason.TheVariants as reason;
+ghost use Rattle.answer_check.specs.declared.outcome.Stop.TheVariants as stop;
 
 use crate::goals::{Goals, not_flat_text, read_goals};
 use crate::outcome::{Reason, Stop};
@@ -34,7 +37,9 @@ pub(crate) struct FlatQuery {
 
 /// The refusal of a text that is no list of sentences.
 fn unread(fault: ReaderFault) -> Stop
-    ensures { (r : Reading) → IsFaultFor r fault → StopsReading r result }
+    ensures fault { (r : Reading) → IsFaultFor r fault → StopsReading r result }
+    ensures memory { result ≡ stop.NoMemory
+        → (fault ≡ reader.NoMemory) ⊎ (fault ≡ reader.Token token.NoMemory) }
 {
     match fault {
         ReaderFault::Token(TokenFault::At { place, cause }) => Stop::Refused {

@@ -9,11 +9,9 @@ ghost use Rattle.branch_goals.specs.Labels.{Labels, IsVariableOf};
 
 use crate::variable_selection::find_member;
 use branch_state::BranchState;
-use fd_language::NoMemory;
 use fd_model::kinds::{Order, QueryFault};
 use heap_cells::{Cell, Heap, Seen};
 use propagate_queue::Agenda;
-use std::alloc::Global;
 
 /// What a labelling does.
 #[derive(Clone, Copy)]
@@ -40,24 +38,18 @@ pub(crate) fn variable_of(heap: &Heap, c: Cell) -> usize
 
 /// What the labelling of the list in a cell does: by `Leftmost` it takes the first open member, by `FirstFail` the first of those
 /// with the fewest values. A variable of the store with one value counts as that integer, and a variable that the store doesn't have
-/// has all values from 0 to the greatest. The error is want of memory.
-pub fn label<A: Agenda + Drop>(
-    _alloc: Global,
-    branch: &BranchState<A>,
-    order: Order,
-    list: Cell,
-) -> Result<Labelling, NoMemory>
+/// has all values from 0 to the greatest. No memory.
+pub fn label<A: Agenda + Drop>(branch: &BranchState<A>, order: Order, list: Cell) -> Labelling
     requires sound { IsSound branch.now }
     requires list { IsCell branch.now list }
-    ensures { IfOk result (λ l. (name : Naming) → IsListNaming name
-        → Labels name branch.now order list l) }
+    ensures { (name : Naming) → IsListNaming name → Labels name branch.now order list result }
 {
     let heap = branch.heap();
     let store = branch.store();
     store.known();
     match find_member(heap, store, branch.infinity(), order, list) {
-        Err(fault) => Ok(Labelling::Fault(fault)),
-        Ok(Some(taken)) => Ok(Labelling::Takes(variable_of(heap, taken.cell))),
-        Ok(None) => Ok(Labelling::Done),
+        Err(fault) => Labelling::Fault(fault),
+        Ok(Some(taken)) => Labelling::Takes(variable_of(heap, taken.cell)),
+        Ok(None) => Labelling::Done,
     }
 }

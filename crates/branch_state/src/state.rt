@@ -86,7 +86,7 @@ impl<A: Agenda + Drop> Model for BranchState<A> {
 fn first_heap(alloc: Global) -> Result<Heap, NoMemory>
     ensures { IfOk result (λ h. h ≡ first_heaps) }
 {
-    let mut heap = Heap::new(alloc)?;
+    let mut heap = Heap::new(alloc);
     heap.mark()?;
     Ok(heap)
 }

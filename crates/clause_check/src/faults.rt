@@ -5,7 +5,7 @@ ghost use Rattle.fd_language.specs.PlacedTerm.{place};
 ghost use Rattle.fd_model.specs.Refusals.{refused_at};
 ghost use Rattle.term_pool.specs.PlacedTerms.{placed_of};
 ghost use Rattle.clause_check.specs.Causes.{cause_text, IsCauseAt, RefusedBy};
-ghost use Rattle.clause_check.specs.declared.faults.Fault.TheVariants.{NoMemory};
+ghost use Rattle.clause_check.specs.declared.faults.Fault.TheVariants as faults;
 
 use fd_language::NoMemory;
 use monotone_check::CheckFault;
@@ -53,7 +53,7 @@ pub(crate) enum Fault {
 }
 
 impl From<NoMemory> for Fault {
-    ghost from_gives = { λ _ fault. fault ≡ NoMemory };
+    ghost from_gives = { λ _ fault. fault ≡ faults.NoMemory };
 
     fn from(_error: NoMemory) -> Fault {
         Fault::NoMemory
@@ -61,7 +61,7 @@ impl From<NoMemory> for Fault {
 }
 
 impl<T: Drop> From<AllocFailed<T>> for Fault {
-    ghost from_gives = { λ _ fault. fault ≡ NoMemory };
+    ghost from_gives = { λ _ fault. fault ≡ faults.NoMemory };
 
     fn from(_error: AllocFailed<T>) -> Fault {
         Fault::NoMemory
@@ -72,8 +72,9 @@ impl<T: Drop> From<AllocFailed<T>> for Fault {
 pub(crate) fn refused(pool: &Pool, t: TermId, cause: Cause) -> Fault
     requires term { t.number < length pool.now.entries }
     requires cause { IsCauseAt pool.now (place (placed_of pool.now t)) cause }
-    ensures { RefusedBy pool.now (Some (refused_at (place (placed_of pool.now t))
+    ensures fault { RefusedBy pool.now (Some (refused_at (place (placed_of pool.now t))
         (cause_text pool.now cause))) result }
+    ensures memory { result ≡ faults.NoMemory → ⊥ }
 {
     Fault::Refused {
         place: pool.place(t),

@@ -9,6 +9,7 @@ ghost use Rattle.term_pool.specs.Terms.{term_of};
 ghost use Rattle.term_pool.specs.PlacedTerms.{placed_of};
 ghost use Rattle.term_reader.specs.Sentences.{AreOwn};
 ghost use Rattle.clause_check.specs.Causes.{RefusedBy};
+ghost use Rattle.clause_check.specs.declared.faults.Fault.TheVariants as fault;
 ghost use Rattle.clause_check.specs.Forms.{order_in, HasFormArity};
 ghost use Rattle.clause_check.specs.declared.forms.GoalKind.TheVariants.{Optimum};
 ghost use Rattle.clause_check.specs.GoalStores.{flat_part, joined_by, start_in, IsClosed, IsDenied, IsJoined, IsRead, IsStore, IsTaken, IsTask, IsTurned};
@@ -84,6 +85,7 @@ fn best_goal(pool: &Pool, t: TermId, least: bool) -> Result<FlatGoal, Fault>
         (Optimum least) ranges ranges g) }
     ensures fault { IfErr result (RefusedBy pool.now (labelling_refusal (model.first_part (placed_of
         pool.now t)))) }
+    ensures memory { IfErr result (λ e. e ≡ fault.NoMemory → ⊥) }
 {
     let labelling = first_part(pool, t);
     match labelling_order(pool, labelling) {

@@ -1,8 +1,9 @@
 //! What is written of a line.
 
-ghost use Rattle.std.specs.Prelude.{◌≡◌, ◌++◌, IfOk, OnOk, string_bytes};
+ghost use Rattle.std.specs.Prelude.{◌≡◌, ◌++◌, IfErr, IfOk, OnOk, string_bytes};
 ghost use Rattle.byte_ports.specs.Ends.{sink_at};
 ghost use Rattle.clpwhere.specs.Endings.{Wrote};
+ghost use Rattle.clpwhere.specs.declared.outcome.Fault.TheVariants as fault;
 ghost use Rattle.clpwhere.specs.MarkedLines.{caret_lines, explained, is_refusal, marked_line, place_line, told_at};
 ghost use Rattle.clpwhere.specs.Places.{characters, column_number, cut_mark, line_number, shown_before, shown_character, shown_characters, shown_from};
 ghost use Rattle.clpwhere.specs.Refusals.{seen};
@@ -149,9 +150,10 @@ fn explained(alloc: Global, text: &NamedText, refusal: &Refusal<'_>) -> Result<V
 
 /// Writes a piece.
 fn put<K: Sink>(sink: &mut K, piece: &[u8]) -> Result<(), Fault>
-    ensures { Wrote (sink_at (K.written sink.old) (K.faults sink.old))
+    ensures wrote { Wrote (sink_at (K.written sink.old) (K.faults sink.old))
         (sink_at (K.written sink.new) (K.faults sink.new))
         result piece.now }
+    ensures memory { IfErr result (λ e. e ≡ fault.WriteFault) }
 {
     Ok(write_all(sink, piece)?)
 }

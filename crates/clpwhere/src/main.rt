@@ -4,6 +4,7 @@
 ghost use Rattle.std.specs.Prelude.{◌≡◌, drop, IfOk, string_bytes};
 ghost use Rattle.std.specs.Vec.Iter.{into_iter_items};
 ghost use Rattle.byte_ports.specs.Ends.{ends, sink_at};
+ghost use Rattle.clpwhere.specs.declared.outcome.Status.TheVariants as ended;
 ghost use Rattle.clpwhere.specs.Endings.{Ending};
 ghost use Rattle.clpwhere.specs.Headline.{unreadable, Headline, NeedsNoInput};
 
@@ -32,9 +33,10 @@ use std::process::ExitCode;
 
 /// Writes the last piece of an output.
 fn put_last<K: Sink>(sink: &mut K, piece: &[u8], status: Status) -> Status
-    ensures { Ending (sink_at (K.written sink.old) (K.faults sink.old))
+    ensures wrote { Ending (sink_at (K.written sink.old) (K.faults sink.old))
         (sink_at (K.written sink.new) (K.faults sink.new))
         result status piece.now }
+    ensures memory { result ≡ ended.NoMemory → status ≡ ended.NoMemory }
 {
     match write_all(sink, piece) {
         Ok(()) => status,

@@ -1,17 +1,19 @@
 //! Warnings of a text.
 
-ghost use Rattle.std.specs.Prelude.{◌≡◌, ◌++◌, ◌<◌, ℕ, List, length, map, All, IfOk, IfErr, OnOk};
+ghost use Rattle.std.specs.Prelude.{◌≡◌, ◌⊎◌, ◌++◌, ◌<◌, ℕ, List, length, map, All, IfOk, IfErr, OnOk};
 ghost use Rattle.std.specs.List.Sorted.{IsNonDecreasingBy};
 ghost use Rattle.byte_ports.specs.Ends.{sink_at};
 ghost use Rattle.char_tokens.specs.Views.{cause_of};
+ghost use Rattle.char_tokens.specs.declared.token.TokenFault.TheVariants as token;
 ghost use Rattle.fd_language.specs.Reading.{IsReading, sentences};
 ghost use Rattle.fd_model.specs.Refusals.{functor_name, refused_at};
 ghost use Rattle.fd_model.specs.Verdict.{cause_name};
 ghost use Rattle.term_pool.specs.Contents.{Contents};
 ghost use Rattle.term_reader.specs.Sentences.{sentences_of, AreOwn, IsFaultOf};
-ghost use Rattle.term_reader.specs.declared.reader.ReaderFault.TheVariants.{Token};
+ghost use Rattle.term_reader.specs.declared.reader.ReaderFault.TheVariants as reader;
 ghost use Rattle.text_warnings.specs.WarningViews.{concern_in, warning_in, IsConcernWithin, IsWarningWithin};
 ghost use Rattle.text_warnings.specs.Terms.{functor_in};
+ghost use Rattle.clpwhere.specs.declared.warnings.Unread.TheVariants as unread;
 ghost use Rattle.clpwhere.specs.Headline.{WarnEnds, WroteOutput};
 ghost use Rattle.clpwhere.specs.Places.{line_number};
 ghost use Rattle.clpwhere.specs.Faults.{IsGrammarFault, IsUnreadBy};
@@ -56,7 +58,9 @@ fn token_reason(cause: TokenCause) -> &'static str
 
 /// Why a text isn't read whose tokens have this fault.
 fn token_unread(fault: TokenFault) -> Unread
-    ensures { (text : List ℕ) → IsFaultOf text (Token fault) → IsGrammarFault text result }
+    ensures fault { (text : List ℕ) → IsFaultOf text (reader.Token fault)
+        → IsGrammarFault text result }
+    ensures memory { result ≡ unread.NoMemory → fault ≡ token.NoMemory }
 {
     match fault {
         TokenFault::At { place, cause } => Unread::Refused {
@@ -69,7 +73,9 @@ fn token_unread(fault: TokenFault) -> Unread
 
 /// Why a text of characters isn't read, by its first fault.
 fn why_unread(fault: ReaderFault) -> Unread
-    ensures { (text : List ℕ) → IsFaultOf text fault → IsGrammarFault text result }
+    ensures fault { (text : List ℕ) → IsFaultOf text fault → IsGrammarFault text result }
+    ensures memory { result ≡ unread.NoMemory
+        → (fault ≡ reader.NoMemory) ⊎ (fault ≡ reader.Token token.NoMemory) }
 {
     match fault {
         ReaderFault::Token(inner) => token_unread(inner),

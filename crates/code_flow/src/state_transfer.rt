@@ -337,26 +337,24 @@ impl Handed {
     }
 
     /// A slot becomes a level.
-    fn mark(&mut self, number: usize) -> Result<(), NoMemory>
-        ensures { OnOk result (self.new ≡ effect.with_level self.old number) }
+    fn mark(&mut self, number: usize)
+        ensures { self.new ≡ effect.with_level self.old number }
     {
         let Some(slots) = &mut self.frame else {
-            return Ok(());
+            return;
         };
         if number == 0 || number > slots.len() {
-            return Ok(());
+            return;
         }
         slots[number - 1] = Slot::Level;
-        Ok(())
     }
 
     /// Two slots become levels.
-    fn mark_both(&mut self, one: usize, two: usize) -> Result<(), NoMemory>
-        ensures { OnOk result
-            (self.new ≡ effect.with_level (effect.with_level self.old one) two) }
+    fn mark_both(&mut self, one: usize, two: usize)
+        ensures { self.new ≡ effect.with_level (effect.with_level self.old one) two }
     {
-        self.mark(one)?;
-        self.mark(two)
+        self.mark(one);
+        self.mark(two);
     }
 
     /// The frame becomes one of so many slots, all unset.
@@ -369,19 +367,17 @@ impl Handed {
     }
 
     /// So many arguments are owed.
-    fn owe(&mut self, count: usize) -> Result<(), NoMemory>
-        ensures { OnOk result (self.new ≡ effect.with_owed self.old count) }
+    fn owe(&mut self, count: usize)
+        ensures { self.new ≡ effect.with_owed self.old count }
     {
         self.owed = count;
-        Ok(())
     }
 
     /// So many arguments fewer are owed.
-    fn pay(&mut self, count: usize) -> Result<(), NoMemory>
-        ensures { OnOk result (self.new ≡ effect.with_owed self.old (self.old.owed - count)) }
+    fn pay(&mut self, count: usize)
+        ensures { self.new ≡ effect.with_owed self.old (self.old.owed - count) }
     {
         self.owed = self.owed.saturating_sub(count);
-        Ok(())
     }
 
     /// One argument fewer is owed, and a register becomes a cell.
@@ -389,7 +385,7 @@ impl Handed {
         ensures { OnOk result (IsSame self.new (effect.with_set
             (effect.with_owed self.old (self.old.owed - 1)) register)) }
     {
-        self.pay(1)?;
+        self.pay(1);
         self.put(register)
     }
 
@@ -408,23 +404,22 @@ impl Handed {
             (IsSame self.new (effect.with_owed (effect.with_set self.old register) count)) }
     {
         self.put(register)?;
-        self.owe(count)
+        self.owe(count);
+        Ok(())
     }
 
     /// There is no frame.
-    fn close(&mut self) -> Result<(), NoMemory>
-        ensures { OnOk result (self.new ≡ record self.old { frame = None }) }
+    fn close(&mut self)
+        ensures { self.new ≡ record self.old { frame = None } }
     {
         self.frame = None;
-        Ok(())
     }
 
     /// No argument register is set.
-    fn forget(&mut self, alloc: Global) -> Result<(), NoMemory>
-        ensures { OnOk result (self.new ≡ record self.old { regs = [] }) }
+    fn forget(&mut self, alloc: Global)
+        ensures { self.new ≡ record self.old { regs = [] } }
     {
         self.regs = IndexSet::new(alloc);
-        Ok(())
     }
 
     /// What an instruction changes, where it found what it needs.
@@ -432,26 +427,27 @@ impl Handed {
         ensures { OnOk result (IsSame self.new (changed code self.old)) }
     {
         match code {
-            Code::GetVariable(r, _) => self.put(r),
+            Code::GetVariable(r, _) => self.put(r)?,
             Code::GetStructure(_, n, _) => self.owe(n as usize),
-            Code::PutVariable(r, a) => self.put_both(r, Register::X(a)),
-            Code::PutValue(_, a) => self.put(Register::X(a)),
-            Code::PutConstant(_, a) => self.put(Register::X(a)),
-            Code::PutInteger(_, a) => self.put(Register::X(a)),
-            Code::PutStructure(_, n, a) => self.put_owing(Register::X(a), n as usize),
-            Code::Allocate(n) => self.open(alloc, n),
+            Code::PutVariable(r, a) => self.put_both(r, Register::X(a))?,
+            Code::PutValue(_, a) => self.put(Register::X(a))?,
+            Code::PutConstant(_, a) => self.put(Register::X(a))?,
+            Code::PutInteger(_, a) => self.put(Register::X(a))?,
+            Code::PutStructure(_, n, a) => self.put_owing(Register::X(a), n as usize)?,
+            Code::Allocate(n) => self.open(alloc, n)?,
             Code::Deallocate => self.close(),
             Code::Call(_) => self.forget(alloc),
             Code::Level(n) => self.mark(n),
             Code::TestOnly(n) => self.mark(n),
             Code::EnterTest(n, m, _) => self.mark_both(n, m),
-            Code::UnifyVariable(r) => self.pay_with(r),
+            Code::UnifyVariable(r) => self.pay_with(r)?,
             Code::UnifyValue(_) => self.pay(1),
             Code::UnifyConstant(_) => self.pay(1),
             Code::UnifyInteger(_) => self.pay(1),
             Code::UnifyVoid(n) => self.pay(n),
-            _ => Ok(()),
+            _ => {}
         }
+        Ok(())
     }
 
     /// Whether it covers the state of a place, which has these registers: the same frame and number

@@ -56,8 +56,7 @@ fn lead_once<A: Agenda + Drop>(
         branch.new) }
 {
     pool_of(code);
-    let alloc = *touches.allocator();
-    match label(alloc, branch, order, list)? {
+    match label(branch, order, list) {
         Labelling::Done => Ok(Some(Next::On(behind(code, at)))),
         Labelling::Fault(fault) => Ok(Some(Next::Fault(fault))),
         Labelling::Takes(variable) => {

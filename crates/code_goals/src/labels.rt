@@ -156,7 +156,7 @@ pub fn take_label<A: Agenda + Drop>(
     pool_of(code);
     let alloc = *touches.allocator();
     let list = areas.register(1);
-    match label(alloc, branch, order, list)? {
+    match label(branch, order, list) {
         Labelling::Done => Ok(Labelled::Took(Next::On(behind(code, at)))),
         Labelling::Fault(fault) => Ok(Labelled::Took(Next::Fault(fault))),
         Labelling::Takes(variable) => {

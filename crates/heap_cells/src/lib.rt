@@ -260,17 +260,17 @@ fn restore(variables: &mut Vec<Variable>, trail: &mut Vec<Saved>, length: usize)
 }
 
 impl Heap {
-    /// A heap with nothing in it, and none below. The error is want of memory.
-    pub fn new(alloc: Global) -> Result<Heap, NoMemory>
-        ensures empty { IfOk result (λ h. h ≡ record { now = no_cells; below = [] }) }
+    /// A heap with nothing in it, and none below. No memory.
+    pub fn new(alloc: Global) -> Heap
+        ensures { result ≡ record { now = no_cells; below = [] } }
     {
-        Ok(Heap {
+        Heap {
             variables: Vec::new(alloc),
             args: Vec::new(alloc),
             structures: Vec::new(alloc),
             trail: Vec::new(alloc),
             marks: Vec::new(alloc),
-        })
+        }
     }
 
     /// How many variables there are. No memory.

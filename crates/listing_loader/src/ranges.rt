@@ -1,6 +1,6 @@
 //! The ranges of a sheet, made ready to be posted.
 
-ghost use Rattle.std.specs.Prelude.{◌≡◌, map, Option, None, IsTrue, IfOk, IfErr, OnOk, MatchOption};
+ghost use Rattle.std.specs.Prelude.{◌≡◌, map, Option, None, IsTrue, IfOk, IfErr, OnErr, OnOk, MatchOption};
 ghost use Rattle.fd_language.specs.declared.range_node.Offence.{Offence};
 ghost use Rattle.fd_language.specs.PostfixRanges.{spelled_range};
 ghost use Rattle.fd_language.specs.RangeVerdict.{is_accepted};
@@ -19,7 +19,8 @@ use std::rc::Rc;
 
 /// Nothing, where the check refuses a range and memory wasn't wanting.
 fn refused(fault: CheckFault) -> Result<(), NoMemory>
-    ensures { OnOk result ((o : Option Offence) → IsFaultOf o fault → ¬ (o ≡ None)) }
+    ensures offence { OnOk result ((o : Option Offence) → IsFaultOf o fault → ¬ (o ≡ None)) }
+    ensures memory { OnErr result (fault ≡ CheckFault.NoMemory) }
 {
     match fault {
         CheckFault::NotMonotone { .. } => Ok(()),

@@ -7,6 +7,7 @@ ghost use Rattle.fd_language.specs.PostfixRanges.{nodes_of};
 ghost use Rattle.fd_language.specs.Needs.{needs as needs_of};
 ghost use Rattle.fd_language.specs.RangeVerdict.{verdict, is_accepted};
 ghost use Rattle.monotone_check.specs.Faults.{IsFaultOf};
+ghost use Rattle.monotone_check.specs.declared.CheckFault.TheVariants as fault;
 
 mod clash;
 mod node_walk;
@@ -92,7 +93,8 @@ impl Checked {
 }
 
 fn fault_of(offence: Offence) -> CheckFault
-    ensures { IsFaultOf (Some offence) result }
+    ensures fault { IsFaultOf (Some offence) result }
+    ensures memory { result ≡ fault.NoMemory → ⊥ }
 {
     match offence {
         Offence::NotMonotone(place) => CheckFault::NotMonotone { place },

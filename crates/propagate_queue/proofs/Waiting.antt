@@ -1,6 +1,6 @@
 -- Marks that wait: copies of the current level in front of the levels below.
 use Rattle.std.proofs.Common.{◌≡◌, ℕ, zero, suc, ◌+◌, ◌-◌, ◌≤◌, Bool, List, [], ◌∷◌, ◌++◌, length, replicate, drop, refl, ap, sym, ◌∙◌, arith}
-use Rattle.std.proofs.lemmas.List.{length-replicate, drop-replicate, drop-append-le}
+use Rattle.std.proofs.lemmas.List.{length-append, length-replicate, drop-replicate, drop-append-le}
 use Rattle.std.proofs.Math.Seq.{drop-append-add}
 use Rattle.fd_model.specs.Levels.{Level, Levels}
 
@@ -14,6 +14,10 @@ one_waits w v l ls e =
 pub one_made : (v : ℕ) (l : Level) (ls : List Level) → replicate v l ++ l ∷ ls ≡ l ∷ (replicate v l ++ ls)
 one_made zero l ls = refl
 one_made (suc v) l ls = ap (λ ms. l ∷ ms) (one_made v l ls)
+
+-- as many levels below as marks wait, at least
+pub many_wait : (n w : ℕ) (l : Level) (ls : List Level) → n ≤ suc w → n ≤ suc (length (replicate w l ++ ls))
+many_wait n w l ls h = omega (arith, length-append (replicate w l) ls, length-replicate w l, h)
 
 -- some of them dropped, or all and some of the others
 pub waiting_dropped : (n w : ℕ) (l : Level) (ls : List Level) → n ≤ w → drop n (replicate w l ++ ls) ≡ replicate (w - n) l ++ ls

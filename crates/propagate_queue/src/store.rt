@@ -3,7 +3,7 @@
 //! A mark is made only when the current level is to change. Until then it waits: the levels below begin with as many copies of the current
 //! one as marks wait.
 
-ghost use Rattle.std.specs.Prelude.{◌≡◌, ◌<◌, ◌≤◌, ◌+◌, ◌++◌, ◌∷◌, [], true, false, drop, length, replicate, All, IfOk, OnOk, OnErr};
+ghost use Rattle.std.specs.Prelude.{◌≡◌, ◌⊎◌, ◌<◌, ◌≤◌, ◌+◌, ◌^◌, ◌++◌, ◌∷◌, [], true, false, suc, drop, length, replicate, All, IfOk, OnOk, OnErr};
 ghost use Rattle.fd_language.specs.declared.TheConstants.{INFINITY as TOP};
 ghost use Rattle.fd_language.specs.Monotonicity.{IsMonotone};
 ghost use Rattle.fd_model.specs.ClosedFamilies.{AllPosted};
@@ -198,8 +198,9 @@ impl<A: Agenda + Drop> Store<A> {
         self.made.give_up();
     }
 
-    /// Puts an equal level below the current one, which hasn't failed. `NoMemory`: there is no room for the mark, or memory
-    /// was wanting before; the levels are then as they were.
+    /// Puts an equal level below the current one, which hasn't failed. `NoMemory`: memory was wanting before, or there are as many
+    /// levels below as a number of 64 bits can count; the levels are then as they were. No memory.
+    #[tactic(auto, using(crate::proofs::Waiting::many_wait))]
     pub fn push_mark(&mut self) -> Result<(), NoMemory>
         requires { self.old.current.failed ≡ false }
         ensures marked { OnOk result (self.new ≡ record self.old {
@@ -207,8 +208,13 @@ impl<A: Agenda + Drop> Store<A> {
         }) }
         ensures unspent { OnOk result (self.old.spent ≡ false) }
         ensures spent { OnErr result (self.new ≡ record self.old { spent = true }) }
+        ensures many { OnErr result (self.old.spent ≡ true
+            ⊎ 2 ^ 64 ≤ suc (length self.old.below)) }
     {
-        if self.made.spent() || self.waiting == usize::MAX {
+        if self.made.spent() {
+            return Err(NoMemory);
+        }
+        if self.waiting == usize::MAX {
             self.made.give_up();
             return Err(NoMemory);
         }

@@ -6,7 +6,7 @@ ghost use Rattle.fd_language.specs.Reading.{terminal_of, IsSentences};
 ghost use Rattle.fd_language.specs.GrammarFaults.{open_behind, deepest};
 ghost use Rattle.fd_language.specs.Term.{Name};
 ghost use Rattle.char_tokens.specs.Views.{lexeme_of};
-ghost use Rattle.term_reader.specs.declared.reader.ReaderFault.TheVariants.{NoMemory};
+ghost use Rattle.term_reader.specs.declared.reader.ReaderFault.TheVariants as faults;
 ghost use Rattle.term_reader.specs.GrammarTokens.{HasNatural};
 ghost use Rattle.term_reader.specs.Sentences.{HasRead, HasReadText, IsReader, IsStop, Took, AreOwn, IsFaultOf, fault_of, sentences_of};
 
@@ -62,7 +62,7 @@ impl From<TokenFault> for ReaderFault {
 }
 
 impl From<NoMemory> for ReaderFault {
-    ghost from_gives = { λ _ e. e ≡ NoMemory };
+    ghost from_gives = { λ _ e. e ≡ faults.NoMemory };
 
     fn from(_error: NoMemory) -> ReaderFault {
         ReaderFault::NoMemory
@@ -168,6 +168,7 @@ impl Reader {
         ensures found { IfOk result (λ s. IsSentences text.now (sentences_of s)) }
         ensures own { IfOk result AreOwn }
         ensures fault { IfErr result (IsFaultOf text.now) }
+        ensures memory { IfErr result (λ e. e ≡ faults.NoMemory → ⊥) }
     {
         if !self.parser.is_between() {
             return Err(ReaderFault::Syntax { place: text.len() });

@@ -20,4 +20,4 @@ returns-in-Usage-clause-headline g c =
       source_faults = g.S.Source.faults c.args.source.now;
       sink_faults = g.K.Sink.faults c.put_last.new.sink;
     } in
-    subst (λ (a : Asked). Headline a old new c.put_last.result) (sym c.in-Usage.is) (run_line Usage old new c.put_last.result tt refl refl c.put_last.ensures)
+    subst (λ (a : Asked). Headline a old new c.put_last.result) (sym c.in-Usage.is) (run_line Usage old new c.put_last.result tt refl refl c.put_last.ensures.wrote)

@@ -9,4 +9,4 @@ returns-in-Ok c = reads_text c.args.text.now (sentences_of c.in-Ok.sentences) c.
 pub returns-in-Err : goal.returns-in-Err
 returns-in-Err c =
     let read = each_is_read c.args.text.now in
-    (read.0, read.1, stops_as read.0 c.unread.result (c.unread.ensures read.0 (c.in-Err.ensures.only read.0 read.1)))
+    (read.0, read.1, stops_as read.0 c.unread.result (c.unread.ensures.fault read.0 (c.in-Err.ensures.only read.0 read.1)))

@@ -24,7 +24,7 @@ behind-requires g c = within_code c.args.code.now c.args.at (step.Best c.args.or
 pub equate-requires-clause-own_a : goal.equate-requires-clause-own_a
 equate-requires-clause-own_a g c =
     let told = subst (list.Labels (names_of c.args.code.now) c.args.branch.now c.args.order c.args.list) c.in-Takes.is
-    (c.in_ok-label.ensures (names_of c.args.code.now) (list_naming c.args.code.now c.pool_of.ensures.valid)) in
+    (c.label.ensures (names_of c.args.code.now) (list_naming c.args.code.now c.pool_of.ensures.valid)) in
     (told.1, tt)
 
 pub returns-in-Done-clause-safe : goal.returns-in-Done-clause-safe
@@ -35,7 +35,7 @@ returns-in-Done-clause-safe g c =
 pub returns-in-Done-clause-leads : goal.returns-in-Done-clause-leads
 returns-in-Done-clause-leads g c =
     let told = subst (list.Labels (names_of c.args.code.now) c.args.branch.now c.args.order c.args.list) c.in-Done.is
-    (c.in_ok-label.ensures (names_of c.args.code.now) (list_naming c.args.code.now c.pool_of.ensures.valid)) in
+    (c.label.ensures (names_of c.args.code.now) (list_naming c.args.code.now c.pool_of.ensures.valid)) in
     subst (λ n. ((most : ℕ) → IsThere c.args.code.now c.args.branch.now c.args.at c.args.areas.now c.args.order c.args.least c.args.values.now c.args.branch.now
     most (On n)) × LeadsNext c.args.at (On n)) (sym c.behind.ensures)
     (there_done c.args.code.now c.pool_of.ensures.valid c.args.branch.now c.args.at c.args.areas.now c.requires.safe c.args.order c.args.least c.args.list c.requires.list c.args.values.now told, refl)
@@ -43,7 +43,7 @@ returns-in-Done-clause-leads g c =
 pub returns-in-Fault-clause-leads : goal.returns-in-Fault-clause-leads
 returns-in-Fault-clause-leads g c =
     let told = subst (list.Labels (names_of c.args.code.now) c.args.branch.now c.args.order c.args.list) c.in-Fault.is
-    (c.in_ok-label.ensures (names_of c.args.code.now) (list_naming c.args.code.now c.pool_of.ensures.valid)) in (
+    (c.label.ensures (names_of c.args.code.now) (list_naming c.args.code.now c.pool_of.ensures.valid)) in (
       there_fault c.args.code.now c.pool_of.ensures.valid c.args.branch.now c.args.at c.args.areas.now c.requires.safe c.args.order c.args.least c.args.list
           c.requires.list c.args.values.now c.in-Fault.fault told,
       tt,
@@ -59,7 +59,7 @@ returns-then-branch-clause-safe g c =
 pub returns-then-branch-clause-leads : goal.returns-then-branch-clause-leads
 returns-then-branch-clause-leads g c =
     let told = subst (list.Labels (names_of c.args.code.now) c.args.branch.now c.args.order c.args.list) c.in-Takes.is
-    (c.in_ok-label.ensures (names_of c.args.code.now) (list_naming c.args.code.now c.pool_of.ensures.valid)) in
+    (c.label.ensures (names_of c.args.code.now) (list_naming c.args.code.now c.pool_of.ensures.valid)) in
     let fits : to_z w64 (of_z w64 c.from.result) ≡ pos c.value_for.result = search rules in
     let number : to_z w64 (of_z w64 c.from.result) ≡ pos (value_for c.args.values.now c.in-Takes.variable) = fits ∙ ap pos c.value_for.ensures in
     let e = subst (λ z. Equates c.args.branch.now (cell.Ref c.in-Takes.variable) (cell.Int z) c.equate.new.branch true) number
@@ -76,7 +76,7 @@ returns-else-branch-clause-safe g c =
 pub returns-else-branch-clause-leads : goal.returns-else-branch-clause-leads
 returns-else-branch-clause-leads g c =
     let told = subst (list.Labels (names_of c.args.code.now) c.args.branch.now c.args.order c.args.list) c.in-Takes.is
-    (c.in_ok-label.ensures (names_of c.args.code.now) (list_naming c.args.code.now c.pool_of.ensures.valid)) in
+    (c.label.ensures (names_of c.args.code.now) (list_naming c.args.code.now c.pool_of.ensures.valid)) in
     let fits : to_z w64 (of_z w64 c.from.result) ≡ pos c.value_for.result = search rules in
     let number : to_z w64 (of_z w64 c.from.result) ≡ pos (value_for c.args.values.now c.in-Takes.variable) = fits ∙ ap pos c.value_for.ensures in
     let e = subst (λ z. Equates c.args.branch.now (cell.Ref c.in-Takes.variable) (cell.Int z) c.equate.new.branch false) number

@@ -32,7 +32,7 @@ pub returns-in-Done-clause-labels : goal.returns-in-Done-clause-labels
 returns-in-Done-clause-labels g c =
     let s = c.args.branch.now in
     let told = subst (list.Labels (names_of c.args.code.now) s c.args.order c.register-list.result) c.in-Done.is
-    (c.in_ok-label.ensures (names_of c.args.code.now) (list_naming c.args.code.now c.pool_of.ensures.valid)) in
+    (c.label.ensures (names_of c.args.code.now) (list_naming c.args.code.now c.pool_of.ensures.valid)) in
     subst (λ n. Labels c.args.code.now s c.args.at c.args.areas.now s c.args.areas.now (Took (On n))) (sym c.behind.ensures)
     (label_done c.args.code.now s c.args.at c.args.areas.now c.requires.safe c.args.order c.requires.holds c.register-list.result c.register-list.ensures told)
 
@@ -40,7 +40,7 @@ pub returns-in-Fault-clause-labels : goal.returns-in-Fault-clause-labels
 returns-in-Fault-clause-labels g c =
     let s = c.args.branch.now in
     let told = subst (list.Labels (names_of c.args.code.now) s c.args.order c.register-list.result) c.in-Fault.is
-    (c.in_ok-label.ensures (names_of c.args.code.now) (list_naming c.args.code.now c.pool_of.ensures.valid)) in
+    (c.label.ensures (names_of c.args.code.now) (list_naming c.args.code.now c.pool_of.ensures.valid)) in
     label_faults c.args.code.now s c.args.at c.args.areas.now c.requires.safe c.args.order c.requires.holds c.register-list.result c.register-list.ensures c.in-Fault.fault told
 
 pub values-requires-clause-sound : goal.values-requires-clause-sound
@@ -49,13 +49,13 @@ values-requires-clause-sound g c = c.requires.safe.sound
 pub values-requires-clause-own : goal.values-requires-clause-own
 values-requires-clause-own g c =
     let told = subst (list.Labels (names_of c.args.code.now) c.args.branch.now c.args.order c.register-list.result) c.in-Takes.is
-    (c.in_ok-label.ensures (names_of c.args.code.now) (list_naming c.args.code.now c.pool_of.ensures.valid)) in
+    (c.label.ensures (names_of c.args.code.now) (list_naming c.args.code.now c.pool_of.ensures.valid)) in
     told.1
 
 pub values-requires-clause-variable : goal.values-requires-clause-variable
 values-requires-clause-variable g c =
     let told = subst (list.Labels (names_of c.args.code.now) c.args.branch.now c.args.order c.register-list.result) c.in-Takes.is
-    (c.in_ok-label.ensures (names_of c.args.code.now) (list_naming c.args.code.now c.pool_of.ensures.valid)) in
+    (c.label.ensures (names_of c.args.code.now) (list_naming c.args.code.now c.pool_of.ensures.valid)) in
     (names_of c.args.code.now, told.2)
 
 pub try_value-requires-clause-safe : goal.try_value-requires-clause-safe
@@ -64,7 +64,7 @@ try_value-requires-clause-safe g c = c.requires.safe
 pub try_value-requires-clause-opened : goal.try_value-requires-clause-opened
 try_value-requires-clause-opened g c =
     let told = subst (list.Labels (names_of c.args.code.now) c.args.branch.now c.args.order c.register-list.result) c.in-Takes.is
-    (c.in_ok-label.ensures (names_of c.args.code.now) (list_naming c.args.code.now c.pool_of.ensures.valid)) in
+    (c.label.ensures (names_of c.args.code.now) (list_naming c.args.code.now c.pool_of.ensures.valid)) in
     record { own = told.1; term = told.2 }
 
 pub returns-in_ok-tried-in-Takes-clause-safe : goal.returns-in_ok-tried-in-Takes-clause-safe
@@ -74,7 +74,7 @@ pub returns-in_ok-tried-in-Takes-clause-labels : goal.returns-in_ok-tried-in-Tak
 returns-in_ok-tried-in-Takes-clause-labels g c =
     let s = c.args.branch.now in
     let told = subst (list.Labels (names_of c.args.code.now) s c.args.order c.register-list.result) c.in-Takes.is
-    (c.in_ok-label.ensures (names_of c.args.code.now) (list_naming c.args.code.now c.pool_of.ensures.valid)) in
+    (c.label.ensures (names_of c.args.code.now) (list_naming c.args.code.now c.pool_of.ensures.valid)) in
     label_tries c.args.code.now s c.args.at c.args.areas.now c.requires.safe c.args.order c.requires.holds c.register-list.result c.register-list.ensures
     c.in-Takes.variable told.0 c.in_ok-values-in-Takes.values c.in_ok-values-in-Takes.ensures.values c.in_ok-values-in-Takes.ensures.rising
     (record { variable = c.in-Takes.variable; values = c.in_ok-values-in-Takes.values; from = 0 }) refl refl c.try_value.new.branch c.try_value.new.areas
