@@ -17,7 +17,7 @@ ghost use Rattle.branch_state.specs.Constraints.{firsts, store_variable, row_tou
 ghost use Rattle.branch_state.specs.LinkedRows.{IsRowReady};
 ghost use Rattle.branch_state.specs.StoreVariables.{OwnLinks, with_level_sets};
 
-use crate::posting_lists::{list_ranges, variable_of};
+use crate::posting_lists::{Recent, list_ranges, variable_of};
 use constraint_expand::{ExpandFault, Expansion, ListCause, expand};
 use fd_language::NoMemory;
 use fd_model::kinds::{ConstraintKind, QueryFault};
@@ -31,6 +31,9 @@ use unify_core::Touch;
 
 /// No memory holds so many variables or terms.
 const LIMIT: usize = 1 << 60;
+
+/// A pool with so many terms isn't kept for another goal.
+const MANY: usize = 1000;
 
 /// What a constraint posts: ranges, and variables of the store that get integers.
 #[derive(Drop)]
@@ -54,20 +57,6 @@ pub(crate) fn fault_of(fault: ExpandFault) -> Result<QueryFault, NoMemory>
     }
 }
 
-/// How many variables the heap has.
-pub(crate) fn count_variables(heap: &mut Heap) -> Result<usize, NoMemory>
-    ensures count { IfOk result (λ n. n ≡ length heap.old.now.slots) }
-    ensures same { OnOk result (heap.new ≡ heap.old) }
-{
-    heap.mark()?;
-    let next = heap.new_var()?;
-    heap.undo_to_mark();
-    match next {
-        Cell::Ref(count) => Ok(count),
-        _ => Ok(0),
-    }
-}
-
 /// The arguments of a term.
 fn arguments(pool: &Pool, t: TermId) -> &[TermId]
     requires own { t.number < length pool.now.entries }
@@ -83,7 +72,7 @@ fn arguments(pool: &Pool, t: TermId) -> &[TermId]
 }
 
 /// What a constraint becomes whose goal is the term of a cell, as the heap and the store show it. Fresh variables are the next of the
-/// heap.
+/// heap. `kept` is the pool of an earlier goal, which is used again.
 pub(crate) fn expand_goal<A: Agenda + Drop>(
     alloc: Global,
     heap: &Heap,
@@ -91,23 +80,29 @@ pub(crate) fn expand_goal<A: Agenda + Drop>(
     from: &Pool,
     kind: ConstraintKind,
     goal: Cell,
-    fresh: usize,
+    kept: &mut Option<Pool>,
 ) -> Result<Expansion, ExpandFault>
     requires own { IsOf heap.now.now goal }
     requires atoms { HasAtomsBelow (length from.now.names) heap.now.now }
     requires atom { IsAtomBelow (length from.now.names) goal }
     requires linked { HasLinksBelow (length store.now.current.sets) heap.now.now }
     ensures row { Expands (expanded INFINITY kind (arguments_of (seen_term
-        (name_in from.now.names) heap.now.now (family_of store.now.current.sets) goal)) fresh)
-        result }
+        (name_in from.now.names) heap.now.now (family_of store.now.current.sets) goal))
+        (length heap.now.now.slots)) result }
     ensures words { IfOk result (λ x. AreWords x.equated) }
 {
-    let mut terms = Pool::new(alloc)?;
+    let mut terms = match kept.take() {
+        Some(terms) => terms,
+        None => Pool::new(alloc)?,
+    };
     let goal = read_back(heap, alloc, from, goal, store, &mut terms)?;
+    let fresh = heap.variable_count();
     if fresh >= LIMIT || goal.number >= LIMIT {
         return Err(ExpandFault::NoMemory);
     }
-    expand(alloc, &terms, kind, arguments(&terms, goal), fresh as u64)
+    let expanded = expand(alloc, &terms, kind, arguments(&terms, goal), fresh as u64);
+    *kept = (goal.number < MANY).then_some(terms);
+    expanded
 }
 
 /// Gives the heap new variables, from a number on that is the next up to another.
@@ -151,16 +146,14 @@ fn bind_all(heap: &mut Heap, from: usize, equated: &[(u64, i64)]) -> Result<(), 
     Ok(())
 }
 
-/// Links what a constraint becomes, and binds the equated variables. `fresh` is the number of the heap's variables. The error is want of
-/// memory; heap and store are then to be given up.
+/// Links what a constraint becomes, and binds the equated variables. The error is want of memory; heap and store are then to be given up.
 pub(crate) fn prepare_row<A: Agenda + Drop>(
     alloc: Global,
     heap: &mut Heap,
     store: &mut Store<A>,
-    fresh: usize,
+    recent: &mut Recent,
     expansion: Expansion,
 ) -> Result<Listed, NoMemory>
-    requires fresh { fresh ≡ length heap.old.now.slots }
     requires links { OwnLinks (length store.old.current.sets) heap.old.now }
     requires words { AreWords expansion.equated }
     requires row { IsRowOf heap.old.now expansion }
@@ -170,8 +163,9 @@ pub(crate) fn prepare_row<A: Agenda + Drop>(
         expansion heap.new.now store.new.current.sets listed.list.items listed.fixed.items) }
 {
     let mut expansion = expansion;
+    let fresh = heap.variable_count();
     add_variables(heap, fresh as u64, expansion.added())?;
-    let list = list_ranges(alloc, heap, store, &mut expansion)?;
+    let list = list_ranges(alloc, heap, store, recent, &mut expansion)?;
     let fixed = touches(alloc, heap, expansion.equated())?;
     bind_all(heap, fresh, expansion.equated())?;
     Ok(Listed { list, fixed })

@@ -18,21 +18,23 @@ use monotone_check::Checked;
 use propagate_queue::{Agenda, Instance, Store};
 use range_code::{Arg, RangeCode, Shape, compile_shape};
 use std::alloc::Global;
-use std::mem::replace;
 use std::rc::Rc;
 
-/// The last two codes that were made. A constraint's ranges are alike one after the other, or every second one.
+/// How many codes are kept.
+const KEPT: usize = 8;
+
+/// The last codes that were made, the oldest first. A constraint's ranges are alike one after the other, or every second one, and those of
+/// a clause's constraints are alike each time that the clause is called.
 #[derive(Drop)]
 pub(crate) struct Recent {
-    last: Option<Rc<RangeCode>>,
-    before: Option<Rc<RangeCode>>,
+    codes: Vec<Rc<RangeCode>>,
 }
 
 impl Recent {
-    fn new() -> Recent {
+    /// No codes.
+    pub(crate) fn new(alloc: Global) -> Recent {
         Recent {
-            last: None,
-            before: None,
+            codes: Vec::new(alloc),
         }
     }
 
@@ -41,14 +43,9 @@ impl Recent {
         ensures { IfOk result (λ found. IfSome found (λ code. (r : Range)
             → IsShapeOf r shape.now → IsAlike code.value r)) }
     {
-        if let Some(last) = &self.last {
-            if last.has_shape(shape) {
-                return Ok(Some(Rc::clone(last)?));
-            }
-        }
-        if let Some(before) = &self.before {
-            if before.has_shape(shape) {
-                return Ok(Some(Rc::clone(before)?));
+        for code in self.codes.iter().rev() {
+            if code.has_shape(shape) {
+                return Ok(Some(Rc::clone(code)?));
             }
         }
         Ok(None)
@@ -59,8 +56,10 @@ impl Recent {
         ensures { IfOk result (λ kept. kept.value ≡ code) }
     {
         let made = Rc::new(alloc, code)?;
-        let kept = Rc::clone(&made)?;
-        self.before = replace(&mut self.last, Some(kept));
+        if self.codes.len() >= KEPT {
+            self.codes.remove(0);
+        }
+        self.codes.push(Rc::clone(&made)?)?;
         Ok(made)
     }
 
@@ -80,13 +79,6 @@ impl Recent {
         let code = compile_shape(alloc, range, shape)?;
         self.keep(alloc, code)
     }
-}
-
-/// The ranges that are listed so far, and the last codes among theirs.
-#[derive(Drop)]
-pub(crate) struct Listing {
-    pub list: Vec<Instance>,
-    pub recent: Recent,
 }
 
 /// Makes a variable of the heap one of the store, unless it is one.
@@ -177,7 +169,8 @@ fn list_range<A: Agenda + Drop>(
     alloc: Global,
     heap: &mut Heap,
     store: &mut Store<A>,
-    listing: &mut Listing,
+    recent: &mut Recent,
+    list: &mut Vec<Instance>,
     target: u64,
     range: &Checked,
 ) -> Result<(), NoMemory>
@@ -191,13 +184,13 @@ fn list_range<A: Agenda + Drop>(
         heap.new.now store.new.current.sets) }
     ensures listed { OnOk result (AreListed heap.new.now
         (record { target = target; range = range.now } ∷ [])
-        listing.old.list.items listing.new.list.items) }
+        list.old.items list.new.items) }
 {
     let shape = Shape::new(alloc, range)?;
     link(heap, store, target)?;
     link_all(heap, store, shape.slots())?;
-    let instance = instance(alloc, heap, &mut listing.recent, target, range, shape)?;
-    listing.list.push(instance)?;
+    let instance = instance(alloc, heap, recent, target, range, shape)?;
+    list.push(instance)?;
     Ok(())
 }
 
@@ -206,7 +199,8 @@ fn list_piece<A: Agenda + Drop>(
     alloc: Global,
     heap: &mut Heap,
     store: &mut Store<A>,
-    listing: &mut Listing,
+    recent: &mut Recent,
+    list: &mut Vec<Instance>,
     piece: &[(u64, Checked)],
 ) -> Result<(), NoMemory>
     requires unbound { AreUnbound heap.old.now (variables_in (indexicals piece.now)) }
@@ -216,10 +210,10 @@ fn list_piece<A: Agenda + Drop>(
     ensures linked { OnOk result (LinksMore heap.old.now store.old.current.sets
         (variables_in (indexicals piece.now)) heap.new.now store.new.current.sets) }
     ensures listed { OnOk result (AreListed heap.new.now (indexicals piece.now)
-        listing.old.list.items listing.new.list.items) }
+        list.old.items list.new.items) }
 {
     for range in piece {
-        list_range(alloc, heap, store, listing, range.0, &range.1)?;
+        list_range(alloc, heap, store, recent, list, range.0, &range.1)?;
     }
     Ok(())
 }
@@ -230,6 +224,7 @@ pub(crate) fn list_ranges<A: Agenda + Drop>(
     alloc: Global,
     heap: &mut Heap,
     store: &mut Store<A>,
+    recent: &mut Recent,
     expansion: &mut Expansion,
 ) -> Result<Vec<Instance>, NoMemory>
     requires unbound { AreUnbound heap.old.now (variables_in expansion.old.ranges) }
@@ -242,12 +237,9 @@ pub(crate) fn list_ranges<A: Agenda + Drop>(
     ensures listed { IfOk result (λ list. AreSamePostings (map posting list.items)
         (map (row_posting (store_variable heap.new.now)) expansion.old.ranges)) }
 {
-    let mut listing = Listing {
-        list: Vec::new(alloc),
-        recent: Recent::new(),
-    };
+    let mut list = Vec::new(alloc);
     while let Some(piece) = expansion.next_piece()? {
-        list_piece(alloc, heap, store, &mut listing, &piece)?;
+        list_piece(alloc, heap, store, recent, &mut list, &piece)?;
     }
-    Ok(listing.list)
+    Ok(list)
 }

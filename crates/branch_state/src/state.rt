@@ -21,10 +21,11 @@ use crate::bounds::NewVars;
 use crate::cell_looks::{find_cells_offence, look_cell};
 use crate::cells::prepare_cells;
 use crate::codes::{bound_code, exact_code, know_code, same_code};
-use crate::constraints::{count_variables, expand_goal, fault_of, prepare_row};
+use crate::constraints::{expand_goal, fault_of, prepare_row};
 use crate::heap_facts::know;
 use crate::open_vars::add_bounded;
 use crate::posting::{post_all, post_prepared, post_rows};
+use crate::posting_lists::Recent;
 use crate::shown_terms::show_cells;
 use crate::step::{Step, step_of};
 use bound_search::best;
@@ -56,6 +57,8 @@ pub struct BranchState<A: Agenda + Drop> {
     exact: Rc<RangeCode>,
     same: Rc<RangeCode>,
     bound: Rc<RangeCode>,
+    recent: Recent,
+    terms: Option<Pool>,
 }
 
 impl<A: Agenda + Drop> Model for BranchState<A> {
@@ -126,6 +129,8 @@ impl<A: Agenda + Drop> BranchState<A> {
             exact: exact_code(alloc)?,
             same: same_code(alloc)?,
             bound: bound_code(alloc)?,
+            recent: Recent::new(alloc),
+            terms: None,
         })
     }
 
@@ -392,8 +397,15 @@ impl<A: Agenda + Drop> BranchState<A> {
         ensures step { IfOk result (Constrains pool.now.names self.old kind goal self.new) }
         ensures same { OnOk result (IsSameBelow self.old self.new) }
     {
-        let fresh = count_variables(&mut self.heap)?;
-        let expanded = expand_goal(self.alloc, &self.heap, &self.store, pool, kind, goal, fresh);
+        let expanded = expand_goal(
+            self.alloc,
+            &self.heap,
+            &self.store,
+            pool,
+            kind,
+            goal,
+            &mut self.terms,
+        );
         let expansion = match expanded {
             Ok(expansion) => expansion,
             Err(fault) => return Ok(Step::Fault(fault_of(fault)?)),
@@ -406,7 +418,7 @@ impl<A: Agenda + Drop> BranchState<A> {
             self.alloc,
             &mut self.heap,
             &mut self.store,
-            fresh,
+            &mut self.recent,
             expansion,
         )?;
         know(&self.heap);

@@ -11,7 +11,8 @@ list_ranges-requires-clause-unbound g c =
     let h = c.args.heap.now.now in
     let y = c.args.expansion in
     let grown : c.add_variables.new.heap.now ≡ with_variables (y.fresh - length h.slots) h =
-    ap (λ (x : Heaps). x.now) c.in_ok-add_variables.ensures.added ∙ ap (λ n. with_variables (n - c.args.fresh) h) c.added.ensures ∙ ap (λ n. with_variables (y.fresh - n) h) c.requires.fresh in
+    ap (λ (x : Heaps). x.now) c.in_ok-add_variables.ensures.added ∙ ap (λ n. with_variables (n - c.variable_count-fresh.result) h) c.added.ensures
+    ∙ ap (λ n. with_variables (y.fresh - n) h) c.variable_count-fresh.ensures in
     all_unbound h c.args.store.now.current.sets c.requires.links y c.requires.row c.add_variables.new.heap.now grown (variables_in y.ranges) refl
 
 pub list_ranges-requires-clause-links : goal.list_ranges-requires-clause-links
@@ -19,7 +20,8 @@ list_ranges-requires-clause-links g c =
     let h = c.args.heap.now.now in
     let y = c.args.expansion in
     let grown : c.add_variables.new.heap.now ≡ with_variables (y.fresh - length h.slots) h =
-    ap (λ (x : Heaps). x.now) c.in_ok-add_variables.ensures.added ∙ ap (λ n. with_variables (n - c.args.fresh) h) c.added.ensures ∙ ap (λ n. with_variables (y.fresh - n) h) c.requires.fresh in
+    ap (λ (x : Heaps). x.now) c.in_ok-add_variables.ensures.added ∙ ap (λ n. with_variables (n - c.variable_count-fresh.result) h) c.added.ensures
+    ∙ ap (λ n. with_variables (y.fresh - n) h) c.variable_count-fresh.ensures in
     wider_links h c.args.store.now.current.sets c.requires.links y c.requires.row c.add_variables.new.heap.now grown
 
 pub touches-requires-clause-linked : goal.touches-requires-clause-linked
@@ -27,7 +29,8 @@ touches-requires-clause-linked g c =
     let h = c.args.heap.now.now in
     let y = c.args.expansion in
     let grown : c.add_variables.new.heap.now ≡ with_variables (y.fresh - length h.slots) h =
-    ap (λ (x : Heaps). x.now) c.in_ok-add_variables.ensures.added ∙ ap (λ n. with_variables (n - c.args.fresh) h) c.added.ensures ∙ ap (λ n. with_variables (y.fresh - n) h) c.requires.fresh in
+    ap (λ (x : Heaps). x.now) c.in_ok-add_variables.ensures.added ∙ ap (λ n. with_variables (n - c.variable_count-fresh.result) h) c.added.ensures
+    ∙ ap (λ n. with_variables (y.fresh - n) h) c.variable_count-fresh.ensures in
     let sets = c.args.store.now.current.sets in
     let middle = c.list_ranges.new.heap.now in
     let S = c.list_ranges.new.store.current.sets in
@@ -40,12 +43,13 @@ bind_all-requires-clause-unbound g c =
     let h = c.args.heap.now.now in
     let y = c.args.expansion in
     let grown : c.add_variables.new.heap.now ≡ with_variables (y.fresh - length h.slots) h =
-    ap (λ (x : Heaps). x.now) c.in_ok-add_variables.ensures.added ∙ ap (λ n. with_variables (n - c.args.fresh) h) c.added.ensures ∙ ap (λ n. with_variables (y.fresh - n) h) c.requires.fresh in
+    ap (λ (x : Heaps). x.now) c.in_ok-add_variables.ensures.added ∙ ap (λ n. with_variables (n - c.variable_count-fresh.result) h) c.added.ensures
+    ∙ ap (λ n. with_variables (y.fresh - n) h) c.variable_count-fresh.ensures in
     let sets = c.args.store.now.current.sets in
     let middle = c.list_ranges.new.heap.now in
     let S = c.list_ranges.new.store.current.sets in
     let w : IsNaming Var (with_variables (y.fresh - length h.slots) h) sets (variables_in y.ranges) middle S [] [] =
     subst (λ (x : Cells). IsNaming Var x sets (variables_in y.ranges) middle S [] []) grown c.in_ok-list.ensures.linked in
-    subst (λ n. AreOpen n c.equated-2.result.now middle) (sym c.requires.fresh)
+    subst (λ n. AreOpen n c.equated-2.result.now middle) (sym c.variable_count-fresh.ensures)
     (subst (λ l. AreOpen (length h.slots) l middle) (sym (c.equated-2.ensures ∙ c.list_ranges.ensures.equated))
     (equated_open h sets c.requires.links y c.requires.row middle S w))

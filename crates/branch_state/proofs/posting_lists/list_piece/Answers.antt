@@ -14,7 +14,7 @@ loop-range-init g c = record {
   store = refl;
   below = refl;
   linked = links_none c.args.heap.now.now c.args.store.now.current.sets;
-  listed = none_listed c.args.heap.now.now c.args.listing.now.list.items;
+  listed = none_listed c.args.heap.now.now c.args.list.now.items;
 }
 
 pub list_range-requires-clause-unbound : goal.list_range-requires-clause-unbound
@@ -38,12 +38,12 @@ loop-range-preserved g c =
     let now = c.list_range.new.heap.now in
     let T = c.list_range.new.store.current.sets in
     let b = subst (λ (p : Indexical). LinksMore middle S (variables_in (p ∷ [])) now T) is c.in_ok-list_range.ensures.linked in
-    let y = subst (λ (p : Indexical). AreListed now (p ∷ []) c.loop-range.listing.list.items c.list_range.new.listing.list.items) is c.in_ok-list_range.ensures.listed in
+    let y = subst (λ (p : Indexical). AreListed now (p ∷ []) c.loop-range.list.items c.list_range.new.list.items) is c.in_ok-list_range.ensures.listed in
     record {
       store = c.in_ok-list_range.ensures.store ∙ ap (λ (l : Levels). with_level_sets l T) c.loop-range.invariant.store;
       below = c.list_range.ensures.below ∙ c.loop-range.invariant.below;
       linked = piece_links h sets c.requires.links c.args.piece.now c.loop-range.range-index c.range-item.result c.loop-range-test.true middle S c.loop-range.invariant.linked now T b;
       listed = piece_listed h sets c.requires.links c.args.piece.now c.loop-range.range-index c.range-item.result c.loop-range-test.true middle S c.loop-range.invariant.linked now T b
-          (links_own h sets c.requires.links _ middle S c.loop-range.invariant.linked) c.args.listing.now.list.items c.loop-range.listing.list.items
-          c.list_range.new.listing.list.items c.loop-range.invariant.listed y;
+          (links_own h sets c.requires.links _ middle S c.loop-range.invariant.linked) c.args.list.now.items c.loop-range.list.items
+          c.list_range.new.list.items c.loop-range.invariant.listed y;
     }

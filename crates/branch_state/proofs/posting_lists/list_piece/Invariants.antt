@@ -10,5 +10,5 @@ invariant-loop-range g l = record {
   store : l.store ≡ with_level_sets l.fn.store l.store.current.sets;
   below : l.heap.below ≡ l.fn.heap.below;
   linked : LinksMore l.fn.heap.now l.fn.store.current.sets (variables_in (indexicals (take l.range-index l.piece))) l.heap.now l.store.current.sets;
-  listed : AreListed l.heap.now (indexicals (take l.range-index l.piece)) l.fn.listing.list.items l.listing.list.items;
+  listed : AreListed l.heap.now (indexicals (take l.range-index l.piece)) l.fn.list.items l.list.items;
 }

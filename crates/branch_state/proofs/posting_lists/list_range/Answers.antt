@@ -47,4 +47,4 @@ returns-clause-linked g c =
 pub returns-clause-listed : goal.returns-clause-listed
 returns-clause-listed g c =
     let p : Indexical = record { target = c.args.target; range = c.args.range.now } in
-    one_listed c.link_all.new.heap.now p p c.args.listing.now.list.items c.push.new.self.items c.in_ok-instance.instance c.in_ok-instance.ensures refl c.in_ok-push.ensures.items
+    one_listed c.link_all.new.heap.now p p c.args.list.now.items c.push.new.self.items c.in_ok-instance.instance c.in_ok-instance.ensures refl c.in_ok-push.ensures.items

@@ -9,56 +9,56 @@ use Rattle.branch_state.proofs.ConstraintLinks.{links_own}
 use Rattle.branch_state.proofs.PostingLists.{none_given, given_unbound, given_more, given_named, given_same}
 use Rattle.branch_state.proofs.posting_lists.list_ranges.Goals as goal
 
-pub loop-listing-init : goal.loop-listing-init
-loop-listing-init g c = record {
+pub loop-list-init : goal.loop-list-init
+loop-list-init g c = record {
   store = refl;
   below = refl;
   equated = refl;
-  given = none_given c.args.heap.now.now c.args.store.now.current.sets c.args.expansion.now.ranges c.new.result.items c.new.ensures.items;
+  given = none_given c.args.heap.now.now c.args.store.now.current.sets c.args.expansion.now.ranges c.new-list.result.items c.new-list.ensures.items;
 }
 
 pub list_piece-requires-clause-unbound : goal.list_piece-requires-clause-unbound
 list_piece-requires-clause-unbound g c =
     let p = rw c.in-Some.is at c.in_ok-piece.ensures.piece in
-    subst (λ (l : List (ℕ × Range)). AreUnbound c.loop-listing.heap.now (variables_in (indexicals l))) (sym c.deref.ensures.value)
-    (given_unbound c.args.heap.now.now c.args.store.now.current.sets c.requires.links c.args.expansion.now.ranges c.loop-listing.expansion.ranges
-    c.loop-listing.heap.now c.loop-listing.store.current.sets c.loop-listing.listing.list.items c.loop-listing.invariant.given
+    subst (λ (l : List (ℕ × Range)). AreUnbound c.loop-list.heap.now (variables_in (indexicals l))) (sym c.deref.ensures.value)
+    (given_unbound c.args.heap.now.now c.args.store.now.current.sets c.requires.links c.args.expansion.now.ranges c.loop-list.expansion.ranges
+    c.loop-list.heap.now c.loop-list.store.current.sets c.loop-list.list.items c.loop-list.invariant.given
     c.next_piece.new.self.ranges c.in-Some.piece.items p c.requires.unbound)
 
 pub list_piece-requires-clause-links : goal.list_piece-requires-clause-links
 list_piece-requires-clause-links g c =
-    links_own c.args.heap.now.now c.args.store.now.current.sets c.requires.links _ c.loop-listing.heap.now c.loop-listing.store.current.sets c.loop-listing.invariant.given.linked
+    links_own c.args.heap.now.now c.args.store.now.current.sets c.requires.links _ c.loop-list.heap.now c.loop-list.store.current.sets c.loop-list.invariant.given.linked
 
-pub loop-listing-preserved : goal.loop-listing-preserved
-loop-listing-preserved g c =
+pub loop-list-preserved : goal.loop-list-preserved
+loop-list-preserved g c =
     let p = rw c.in-Some.is at c.in_ok-piece.ensures.piece in
-    let links = links_own c.args.heap.now.now c.args.store.now.current.sets c.requires.links _ c.loop-listing.heap.now c.loop-listing.store.current.sets c.loop-listing.invariant.given.linked in
+    let links = links_own c.args.heap.now.now c.args.store.now.current.sets c.requires.links _ c.loop-list.heap.now c.loop-list.store.current.sets c.loop-list.invariant.given.linked in
     let now = c.list_piece.new.heap.now in
     let T = c.list_piece.new.store.current.sets in
-    let b = subst (λ (l : List (ℕ × Range)). LinksMore c.loop-listing.heap.now c.loop-listing.store.current.sets (variables_in (indexicals l)) now T)
+    let b = subst (λ (l : List (ℕ × Range)). LinksMore c.loop-list.heap.now c.loop-list.store.current.sets (variables_in (indexicals l)) now T)
     c.deref.ensures.value c.in_ok-list_piece.ensures.linked in
-    let y = subst (λ (l : List (ℕ × Range)). AreListed now (indexicals l) c.loop-listing.listing.list.items c.list_piece.new.listing.list.items)
+    let y = subst (λ (l : List (ℕ × Range)). AreListed now (indexicals l) c.loop-list.list.items c.list_piece.new.list.items)
     c.deref.ensures.value c.in_ok-list_piece.ensures.listed in
     record {
-      store = c.in_ok-list_piece.ensures.store ∙ ap (λ (l : Levels). with_level_sets l T) c.loop-listing.invariant.store;
-      below = c.list_piece.ensures.below ∙ c.loop-listing.invariant.below;
-      equated = c.next_piece.ensures.rest.equated ∙ c.loop-listing.invariant.equated;
-      given = given_more c.args.heap.now.now c.args.store.now.current.sets c.requires.links c.args.expansion.now.ranges c.loop-listing.expansion.ranges
-          c.loop-listing.heap.now c.loop-listing.store.current.sets c.loop-listing.listing.list.items c.loop-listing.invariant.given
-          c.next_piece.new.self.ranges c.in-Some.piece.items p links now T b c.list_piece.new.listing.list.items y;
+      store = c.in_ok-list_piece.ensures.store ∙ ap (λ (l : Levels). with_level_sets l T) c.loop-list.invariant.store;
+      below = c.list_piece.ensures.below ∙ c.loop-list.invariant.below;
+      equated = c.next_piece.ensures.rest.equated ∙ c.loop-list.invariant.equated;
+      given = given_more c.args.heap.now.now c.args.store.now.current.sets c.requires.links c.args.expansion.now.ranges c.loop-list.expansion.ranges
+          c.loop-list.heap.now c.loop-list.store.current.sets c.loop-list.list.items c.loop-list.invariant.given
+          c.next_piece.new.self.ranges c.in-Some.piece.items p links now T b c.list_piece.new.list.items y;
     }
 
-pub loop-listing-smaller : goal.loop-listing-smaller
-loop-listing-smaller g c = (rw c.in-Some.is at c.in_ok-piece.ensures.piece).some
+pub loop-list-smaller : goal.loop-list-smaller
+loop-list-smaller g c = (rw c.in-Some.is at c.in_ok-piece.ensures.piece).some
 
 pub returns-clause-linked : goal.returns-clause-linked
 returns-clause-linked g c =
     let p = rw c.in_default.is at c.in_ok-piece.ensures.piece in
-    given_named c.args.heap.now.now c.args.store.now.current.sets c.requires.links c.args.expansion.now.ranges c.loop-listing.expansion.ranges
-    c.loop-listing.heap.now c.loop-listing.store.current.sets c.loop-listing.listing.list.items c.loop-listing.invariant.given p.0
+    given_named c.args.heap.now.now c.args.store.now.current.sets c.requires.links c.args.expansion.now.ranges c.loop-list.expansion.ranges
+    c.loop-list.heap.now c.loop-list.store.current.sets c.loop-list.list.items c.loop-list.invariant.given p.0
 
 pub returns-clause-listed : goal.returns-clause-listed
 returns-clause-listed g c =
     let p = rw c.in_default.is at c.in_ok-piece.ensures.piece in
-    given_same c.args.heap.now.now c.args.store.now.current.sets c.requires.links c.args.expansion.now.ranges c.loop-listing.expansion.ranges
-    c.loop-listing.heap.now c.loop-listing.store.current.sets c.loop-listing.listing.list.items c.loop-listing.invariant.given p.0
+    given_same c.args.heap.now.now c.args.store.now.current.sets c.requires.links c.args.expansion.now.ranges c.loop-list.expansion.ranges
+    c.loop-list.heap.now c.loop-list.store.current.sets c.loop-list.list.items c.loop-list.invariant.given p.0

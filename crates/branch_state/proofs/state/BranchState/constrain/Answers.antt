@@ -1,14 +1,6 @@
 use Rattle.std.proofs.Common.{◌≡◌, ◌∙◌, ap, sym, subst, length, Ok, Err, refl}
-use Rattle.fd_language.specs.declared.TheConstants.{INFINITY}
-use Rattle.fd_model.specs.ConstraintExpansion.{arguments, expand}
-use Rattle.heap_cells.specs.Cells.{Heaps}
-use Rattle.heap_cells.specs.SeenTerms.{seen_term}
-use Rattle.range_code.specs.Frames.{family_of}
-use Rattle.term_pool.specs.Contents.{name_in}
-use Rattle.branch_lemmas.specs.Frames.{link_in}
 use Rattle.branch_state.specs.Constraints.{row_of, Constrains, IsRowOf}
 use Rattle.branch_state.specs.LinkedRows.{IsRowReady}
-use Rattle.branch_state.specs.StoreVariables.{OwnLinks}
 use Rattle.branch_state.specs.States.{State, IsSound, IsCell}
 use Rattle.branch_state.proofs.ConstraintStates.{own_links, constraint_step, list_fits, fixed_fits, row_of_heap, row_read, fault_read}
 use Rattle.branch_state.proofs.state.BranchState.constrain.Goals as goal
@@ -17,7 +9,7 @@ pub expand_goal-expanded-requires-clause-linked : goal.expand_goal-expanded-requ
 expand_goal-expanded-requires-clause-linked g c =
     let now : State = record { atoms = c.self.inside.atoms; infinity = c.self.inside.infinity; heaps = c.self.inside.heap; levels = c.self.inside.store } in
     let o : IsSound now = subst IsSound (sym c.self.view_is) c.requires.sound in
-    λ i k e. o.now.linked i k (ap (λ (x : Heaps). link_in x.now i) (sym c.in_ok-fresh.ensures.same) ∙ e)
+    o.now.linked
 
 pub returns-in-Err-clause-step : goal.returns-in-Err-clause-step
 returns-in-Err-clause-step g c =
@@ -28,21 +20,16 @@ returns-in-Err-clause-step g c =
     let cell = c.args.goal in
     let atoms : length names ≡ now.atoms = c.requires.atoms ∙ sym (ap (λ (s : State). s.atoms) c.self.view_is) in
     let own : IsCell now cell = subst (λ (s : State). IsCell s cell) (sym c.self.view_is) c.requires.cell in
-    let same : c.count_variables.new.heap ≡ now.heaps = c.in_ok-fresh.ensures.same in
-    let fresh = c.in_ok-fresh.fresh in
-    let read = row_read names now o atoms kind cell own fresh c.in_ok-fresh.ensures.count in
-    let moved = ap (λ (x : Heaps). expand INFINITY kind (arguments (seen_term (name_in names) x.now (family_of now.levels.current.sets) cell)) fresh) (sym same) in
-    let fault : row_of names now kind cell ≡ Err c.in_ok-fault_of-in-Err.field-0 = sym read ∙ moved
+    let read = row_read names now o atoms kind cell own _ refl in
+    let fault : row_of names now kind cell ≡ Err c.in_ok-fault_of-in-Err.field-0 = sym read
     ∙ fault_read _ c.in-Err.fault c.in_ok-fault_of-in-Err.field-0 c.in-Err.ensures.row c.in_ok-fault_of-in-Err.ensures.fault in
-    let unmoved : record { atoms = now.atoms; infinity = now.infinity; heaps = c.count_variables.new.heap; levels = now.levels } ≡ now = ap
-    (λ (x : Heaps). record { atoms = now.atoms; infinity = now.infinity; heaps = x; levels = now.levels }) same in
-    (subst (λ (v : State). row_of names v kind cell ≡ Err c.in_ok-fault_of-in-Err.field-0) c.self.view_is fault, unmoved ∙ c.self.view_is)
+    (subst (λ (v : State). row_of names v kind cell ≡ Err c.in_ok-fault_of-in-Err.field-0) c.self.view_is fault, c.self.view_is)
 
 pub prepare_row-requires-clause-links : goal.prepare_row-requires-clause-links
 prepare_row-requires-clause-links g c =
     let now : State = record { atoms = c.self.inside.atoms; infinity = c.self.inside.infinity; heaps = c.self.inside.heap; levels = c.self.inside.store } in
     let o : IsSound now = subst IsSound (sym c.self.view_is) c.requires.sound in
-    subst (λ (x : Heaps). OwnLinks (length now.levels.current.sets) x.now) (sym c.in_ok-fresh.ensures.same) (own_links now o)
+    own_links now o
 
 pub prepare_row-requires-clause-row : goal.prepare_row-requires-clause-row
 prepare_row-requires-clause-row g c =
@@ -53,14 +40,11 @@ prepare_row-requires-clause-row g c =
     let cell = c.args.goal in
     let atoms : length names ≡ now.atoms = c.requires.atoms ∙ sym (ap (λ (s : State). s.atoms) c.self.view_is) in
     let own : IsCell now cell = subst (λ (s : State). IsCell s cell) (sym c.self.view_is) c.requires.cell in
-    let same : c.count_variables.new.heap ≡ now.heaps = c.in_ok-fresh.ensures.same in
-    let fresh = c.in_ok-fresh.fresh in
-    let read = row_read names now o atoms kind cell own fresh c.in_ok-fresh.ensures.count in
-    let moved = ap (λ (x : Heaps). expand INFINITY kind (arguments (seen_term (name_in names) x.now (family_of now.levels.current.sets) cell)) fresh) (sym same) in
+    let read = row_read names now o atoms kind cell own _ refl in
     let y = c.in-Ok.expansion in
-    let is : row_of names now kind cell ≡ Ok y = sym read ∙ moved ∙ c.in-Ok.ensures.row in
+    let is : row_of names now kind cell ≡ Ok y = sym read ∙ c.in-Ok.ensures.row in
     let row : IsRowOf now.heaps.now y = row_of_heap names now o kind cell own y is in
-    subst (λ (x : Heaps). IsRowOf x.now y) (sym same) row
+    row
 
 pub post_rows-requires-clause-list : goal.post_rows-requires-clause-list
 post_rows-requires-clause-list g c =
@@ -71,18 +55,15 @@ post_rows-requires-clause-list g c =
     let cell = c.args.goal in
     let atoms : length names ≡ now.atoms = c.requires.atoms ∙ sym (ap (λ (s : State). s.atoms) c.self.view_is) in
     let own : IsCell now cell = subst (λ (s : State). IsCell s cell) (sym c.self.view_is) c.requires.cell in
-    let same : c.count_variables.new.heap ≡ now.heaps = c.in_ok-fresh.ensures.same in
-    let fresh = c.in_ok-fresh.fresh in
-    let read = row_read names now o atoms kind cell own fresh c.in_ok-fresh.ensures.count in
-    let moved = ap (λ (x : Heaps). expand INFINITY kind (arguments (seen_term (name_in names) x.now (family_of now.levels.current.sets) cell)) fresh) (sym same) in
+    let read = row_read names now o atoms kind cell own _ refl in
     let y = c.in-Ok.expansion in
-    let is : row_of names now kind cell ≡ Ok y = sym read ∙ moved ∙ c.in-Ok.ensures.row in
+    let is : row_of names now kind cell ≡ Ok y = sym read ∙ c.in-Ok.ensures.row in
     let row : IsRowOf now.heaps.now y = row_of_heap names now o kind cell own y is in
     let S = c.prepare_row.new.store.current.sets in
     let list = c.in_ok-listed.listed.list.items in
     let fixed = c.in_ok-listed.listed.fixed.items in
-    let ready : IsRowReady now.heaps.now now.levels.current.sets y c.prepare_row.new.heap.now S list fixed = subst
-    (λ (x : Heaps). IsRowReady x.now now.levels.current.sets y c.prepare_row.new.heap.now S list fixed) same c.in_ok-listed.ensures.ready in
+    let ready : IsRowReady now.heaps.now now.levels.current.sets y c.prepare_row.new.heap.now S list fixed =
+    c.in_ok-listed.ensures.ready in
     list_fits names now o kind cell y is row c.prepare_row.new.heap.now S list fixed ready
 
 pub post_rows-requires-clause-fixed : goal.post_rows-requires-clause-fixed
@@ -94,18 +75,15 @@ post_rows-requires-clause-fixed g c =
     let cell = c.args.goal in
     let atoms : length names ≡ now.atoms = c.requires.atoms ∙ sym (ap (λ (s : State). s.atoms) c.self.view_is) in
     let own : IsCell now cell = subst (λ (s : State). IsCell s cell) (sym c.self.view_is) c.requires.cell in
-    let same : c.count_variables.new.heap ≡ now.heaps = c.in_ok-fresh.ensures.same in
-    let fresh = c.in_ok-fresh.fresh in
-    let read = row_read names now o atoms kind cell own fresh c.in_ok-fresh.ensures.count in
-    let moved = ap (λ (x : Heaps). expand INFINITY kind (arguments (seen_term (name_in names) x.now (family_of now.levels.current.sets) cell)) fresh) (sym same) in
+    let read = row_read names now o atoms kind cell own _ refl in
     let y = c.in-Ok.expansion in
-    let is : row_of names now kind cell ≡ Ok y = sym read ∙ moved ∙ c.in-Ok.ensures.row in
+    let is : row_of names now kind cell ≡ Ok y = sym read ∙ c.in-Ok.ensures.row in
     let row : IsRowOf now.heaps.now y = row_of_heap names now o kind cell own y is in
     let S = c.prepare_row.new.store.current.sets in
     let list = c.in_ok-listed.listed.list.items in
     let fixed = c.in_ok-listed.listed.fixed.items in
-    let ready : IsRowReady now.heaps.now now.levels.current.sets y c.prepare_row.new.heap.now S list fixed = subst
-    (λ (x : Heaps). IsRowReady x.now now.levels.current.sets y c.prepare_row.new.heap.now S list fixed) same c.in_ok-listed.ensures.ready in
+    let ready : IsRowReady now.heaps.now now.levels.current.sets y c.prepare_row.new.heap.now S list fixed =
+    c.in_ok-listed.ensures.ready in
     fixed_fits names now o kind cell y is row c.prepare_row.new.heap.now S list fixed ready
 
 pub returns-clause-step : goal.returns-clause-step
@@ -117,20 +95,17 @@ returns-clause-step g c =
     let cell = c.args.goal in
     let atoms : length names ≡ now.atoms = c.requires.atoms ∙ sym (ap (λ (s : State). s.atoms) c.self.view_is) in
     let own : IsCell now cell = subst (λ (s : State). IsCell s cell) (sym c.self.view_is) c.requires.cell in
-    let same : c.count_variables.new.heap ≡ now.heaps = c.in_ok-fresh.ensures.same in
-    let fresh = c.in_ok-fresh.fresh in
-    let read = row_read names now o atoms kind cell own fresh c.in_ok-fresh.ensures.count in
-    let moved = ap (λ (x : Heaps). expand INFINITY kind (arguments (seen_term (name_in names) x.now (family_of now.levels.current.sets) cell)) fresh) (sym same) in
+    let read = row_read names now o atoms kind cell own _ refl in
     let y = c.in-Ok.expansion in
-    let is : row_of names now kind cell ≡ Ok y = sym read ∙ moved ∙ c.in-Ok.ensures.row in
+    let is : row_of names now kind cell ≡ Ok y = sym read ∙ c.in-Ok.ensures.row in
     let row : IsRowOf now.heaps.now y = row_of_heap names now o kind cell own y is in
     let S = c.prepare_row.new.store.current.sets in
     let list = c.in_ok-listed.listed.list.items in
     let fixed = c.in_ok-listed.listed.fixed.items in
-    let ready : IsRowReady now.heaps.now now.levels.current.sets y c.prepare_row.new.heap.now S list fixed = subst
-    (λ (x : Heaps). IsRowReady x.now now.levels.current.sets y c.prepare_row.new.heap.now S list fixed) same c.in_ok-listed.ensures.ready in
+    let ready : IsRowReady now.heaps.now now.levels.current.sets y c.prepare_row.new.heap.now S list fixed =
+    c.in_ok-listed.ensures.ready in
     let next : State = record { atoms = now.atoms; infinity = now.infinity; heaps = c.prepare_row.new.heap; levels = c.post_rows.new.store } in
-    let below = c.prepare_row.ensures.below ∙ ap (λ (x : Heaps). x.below) same in
+    let below = c.prepare_row.ensures.below in
     subst (λ (v : State). Constrains names v kind cell next c.step_of.result) c.self.view_is
     (subst (Constrains names now kind cell next) (sym c.step_of.ensures)
     (constraint_step names now o kind cell y is row c.prepare_row.new.heap.now S list fixed ready
