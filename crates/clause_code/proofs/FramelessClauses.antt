@@ -18,7 +18,7 @@ use Rattle.wam_code.specs.declared.instruction.Code.{Code}
 use Rattle.wam_code.specs.declared.instruction.Code.TheVariants.{Execute, Proceed}
 use Rattle.wam_code.specs.Places.{made}
 use Rattle.clause_code.specs.Pieces.{Base, Predicate, past}
-use Rattle.clause_code.specs.Predicates.{Appends, base_in}
+use Rattle.clause_code.specs.Predicates.{ArePredicates, Appends, IsCallOfOne, base_in}
 use Rattle.clause_code.specs.SafeCode.{IsClauseCode}
 use Rattle.clause_code.specs.FramelessClauses.{IsShortBody, last_arguments, ShortCall, IsShort}
 use Rattle.clause_code.specs.SimpleGoals.{IsOwn}
@@ -30,6 +30,7 @@ use Rattle.clause_code.proofs.ClauseAssembly.{Known}
 use Rattle.clause_code.proofs.Bodies.{Fine, goals_nothing}
 use Rattle.clause_code.proofs.Clauses.{Start, Tail, start_short, tail_proceed, tail_execute, whole_clause}
 use Rattle.clause_code.proofs.FramedClauses.{known_of, before_last}
+use Rattle.clause_code.proofs.ProgramFunctors.{call_of_one}
 use Rattle.clause_code.proofs.SimpleGoals.{arguments_suit}
 
 -- Argument registers are homes.
@@ -63,6 +64,11 @@ module _ (p : FlatProgram) (valid : IsProgram p) (c : ℕ) (low : c < length p.c
   pub goals_own : (goal : Option TermId) → IsShortBody p goals goal → IfSome goal (IsOwn p.pool v)
   goals_own None s = tt
   goals_own (Some u) s = goal_own u s
+
+  pub goals_called : (ps : List Predicate) → ArePredicates p ps → (goal : Option TermId) → IsShortBody p goals goal
+      → IfSome goal (λ (t : TermId). IsCallOfOne p.pool ps (term_of p.pool t))
+  goals_called ps all None s = tt
+  goals_called ps all (Some u) s = let e = s.0 in let w = body_within in call_of_one p ps all goals.from u (omega (arith, e, w)) s.1
 
   pub head_own : IsOwn p.pool v (clause_at p c).head
   head_own = let k = valid.clauses c no_clause low in let w = known_of p valid c low in (k.head, w.suits)

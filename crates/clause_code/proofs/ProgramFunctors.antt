@@ -1,26 +1,30 @@
 -- The functors of a program, as they are gathered.
-use Rattle.std.proofs.Common.{◌≡◌, ℕ, zero, suc, ◌+◌, ◌<◌, ◌≤◌, Bool, true, false, if◌then◌else◌, ◌||◌, List, [], ◌∷◌, ◌++◌, map, Option, Some, None}
+use Rattle.std.proofs.Common.{◌≡◌, ℕ, zero, suc, ◌+◌, ◌<◌, ◌≤◌, Bool, true, false, if◌then◌else◌, ◌||◌, List, [], ◌∷◌, ◌++◌, map, Option, Some, None, ℤ, is_some, IfNone}
 use Rattle.std.proofs.Common.{option_map, length, slice_get, refl, ap, ap₂, sym, ◌∙◌, subst, arith, inl, inr}
-use Rattle.std.specs.Prelude.{Result, Ok, Err, OnOk}
 use Rattle.std.specs.List.{list_any}
 use Rattle.std.proofs.lemmas.Bool.{true≢false, cases_eq}
 use Rattle.std.proofs.lemmas.Option.{slice_get-map}
-use Rattle.fd_language.specs.Term.{Name, Term, Terms, Comp, no_terms, term, term_count}
+use Rattle.fd_language.specs.Term.{Name, Term, Terms, Var, Int, Atom, Comp, no_terms, term, term_count}
 use Rattle.fd_model.specs.ConstraintExpansion.{arguments}
 use Rattle.term_pool.specs.declared.AtomId.{AtomId}
 use Rattle.term_pool.specs.declared.TermId.{TermId}
 use Rattle.term_pool.specs.Contents.{Contents, atom_name}
+use Rattle.term_pool.specs.PoolInvariant.{IsPool}
 use Rattle.term_pool.specs.Terms.{term_of, terms_by}
 use Rattle.indexmap.specs.IndexSet.{insert_key}
+use Rattle.clause_check.specs.declared.program.FlatGoal.{FlatGoal}
 use Rattle.clause_check.specs.declared.program.FlatGoal.TheVariants.{Call}
-use Rattle.clause_check.specs.Programs.{FlatProgram, clause_at, goal_at}
+use Rattle.clause_check.specs.Programs.{FlatProgram, clause_at, goal_at, no_clause, IsNamed, IsProgram}
 use Rattle.wam_code.specs.Places.{made}
 use Rattle.clause_code.specs.Pieces.{Predicate}
-use Rattle.clause_code.specs.Predicates.{predicate_in, IsOfOne, ArePredicates, HasFunctor, HasOne, AreFunctors, Gathers, Gathered}
+use Rattle.clause_code.specs.Predicates.{predicate_in, IsOfOne, IsCallOfOne, ArePredicates, HasFunctor, HasOne, AreFunctors, Gathers, Gathered}
+use Rattle.clause_code.specs.SimpleGoals.{IsCalled}
+use Rattle.clause_code.specs.Steps.{atom_of, Suits}
 use Rattle.clause_code.specs.declared.predicates.Functor.{Functor}
 use Rattle.clause_code.proofs.Numbers.{same_functor, same_means, functor_itself}
 use Rattle.clause_code.proofs.StateFlow.{get_last, get_only, get_both, into_left}
 use Rattle.clause_code.proofs.Rests.{count_terms}
+use Rattle.clause_code.proofs.FramedClauses.{known_of}
 
 -- ---- the functor of a term
 
@@ -40,6 +44,97 @@ compound_functor c t a ids n e l k low high =
       own = l;
       few = high;
     }
+
+-- Neither a variable nor an integer has one, nor has a compound term without arguments or with too many.
+made_other : (f : Name) (ts : Terms) (x : ℕ) → Var x ≡ made f ts → ⊥
+made_other f no_terms x e = cc
+made_other f (term t ts) x e = cc
+
+made_integer : (f : Name) (ts : Terms) (z : ℤ) → Int z ≡ made f ts → ⊥
+made_integer f no_terms z e = cc
+made_integer f (term t ts) z e = cc
+
+pub variable_functor : (c : Contents) (t : Term) (x : ℕ) → t ≡ Var x → (f : Functor) → HasFunctor c t f → ⊥
+variable_functor c t x e f h = let o = h.of in made_other (atom_name c f.name) (arguments t) x (sym e ∙ o.name)
+
+pub integer_functor : (c : Contents) (t : Term) (z : ℤ) → t ≡ Int z → (f : Functor) → HasFunctor c t f → ⊥
+integer_functor c t z e f h = let o = h.of in made_integer (atom_name c f.name) (arguments t) z (sym e ∙ o.name)
+
+empty_made : (a f : Name) (ts : Terms) → term_count ts ≡ 0 → Comp a ts ≡ made f ts → ⊥
+empty_made a f no_terms k e = cc
+empty_made a f (term t ts) k e = omega (arith, k)
+
+pub compound_without : (c : Contents) (t : Term) (a : AtomId) (ids : List TermId) → t ≡ Comp (atom_name c a) (terms_by (term_of c) ids)
+    → ((1 ≤ length ids) × (length ids ≤ 255) → ⊥) → (f : Functor) → HasFunctor c t f → ⊥
+compound_without c t a ids e outside f h =
+    let ts : Terms = terms_by (term_of c) ids in
+    let o = h.of in
+    let few = h.few in
+    let m : term_count ts ≡ length ids = count_terms (term_of c) ids in
+    let k : term_count ts ≡ f.arity = ap (λ u. term_count (arguments u)) (sym e) ∙ o.arity in
+    by (term_count ts) refl
+    (λ z. empty_made (atom_name c a) (atom_name c f.name) ts z (sym e ∙ o.name ∙ ap (λ u. made (atom_name c f.name) (arguments u)) e))
+    (λ z. outside (omega (arith, z, m), omega (arith, k, m, few)))
+  where
+    by : (n : ℕ) → term_count (terms_by (term_of c) ids) ≡ n → (term_count (terms_by (term_of c) ids) ≡ 0 → ⊥) → (1 ≤ term_count (terms_by (term_of c) ids) → ⊥) → ⊥
+    by zero z none some = none z
+    by (suc n) z none some = some (omega (arith, z))
+
+-- A term has one alone.
+same_name : (f g : Name) (ts : Terms) → made f ts ≡ made g ts → f ≡ g
+same_name f g no_terms e = cc
+same_name f g (term t ts) e = cc
+
+abbrev functor_named : AtomId → ℕ → Functor
+functor_named n m = record { name = n; arity = m }
+
+one_functor : (c : Contents) (t : Term) (f g : Functor) → IsPool c → HasFunctor c t f → HasFunctor c t g → f ≡ g
+one_functor c t f g valid h k =
+    let a = h.of in
+    let b = k.of in
+    let names : f.name ≡ g.name =
+    valid.distinct f.name g.name h.own k.own (same_name (atom_name c f.name) (atom_name c g.name) (arguments t) (sym a.name ∙ b.name)) in
+    ap₂ functor_named names (sym a.arity ∙ b.arity)
+
+pub some_functor : (c : Contents) (t : Term) (r : Option Functor) → (f : Functor) × HasFunctor c t f → IfNone r ((f : Functor) → HasFunctor c t f → ⊥) → is_some r ≡ true
+some_functor c t None w none = absurd (none w.0 w.1)
+some_functor c t (Some f) w none = refl
+
+-- Heads have one.
+suiting_functor : (c : Contents) (v : ℕ) (t : Term) → IsNamed t → Suits c v t → (f : Functor) × HasFunctor c t f
+suiting_functor c v (Var x) n s = absurd n.1
+suiting_functor c v (Int z) n s = absurd n.1
+suiting_functor c v (Atom a) n s = (functor_named (atom_of c a) 0, record { of = record { name = ap Atom (sym s.name); arity = refl }; own = s.within; few = omega arith })
+suiting_functor c v (Comp a no_terms) n s = let l = s.1 in absurd (omega (arith, l))
+suiting_functor c v (Comp a (term t ts)) n s =
+    let k = s.0 in
+    (functor_named (atom_of c a) (suc (term_count ts)), record { of = record { name = ap (λ b. Comp b (term t ts)) (sym k.name); arity = refl }; own = k.within; few = s.2 })
+
+pub head_functor : (p : FlatProgram) → IsProgram p → (c : ℕ) → c < length p.clauses → (f : Functor) × HasFunctor p.pool (term_of p.pool (clause_at p c).head) f
+head_functor p valid c low =
+    let k = valid.clauses c no_clause low in
+    suiting_functor p.pool (clause_at p c).variables (term_of p.pool (clause_at p c).head) k.named (known_of p valid c low).suits
+
+-- ---- the number of a user goal's predicate
+
+pub call_functor : (c : Contents) (ps : List Predicate) (t : Term) → IsCallOfOne c ps t → (f : Functor) × HasFunctor c t f × (n : ℕ) × (slice_get ps n ≡ Some (predicate_in f))
+call_functor c ps t one = let (n, s, g, o, own, few) = one in (functor_named s.name s.arity, record { of = o; own = own; few = few }, n, g)
+
+pub some_number : (c : Contents) (ps : List Predicate) (t : Term) (f : Functor) (r : Option ℕ) → IsPool c → IsCallOfOne c ps t → HasFunctor c t f
+    → IfNone r ((n : ℕ) → slice_get ps n ≡ Some (predicate_in f) → ⊥) → is_some r ≡ true
+some_number c ps t f None valid one h none =
+    let w = call_functor c ps t one in
+    absurd (none w.2 (w.3 ∙ ap (λ (g : Functor). Some (predicate_in g)) (one_functor c t w.0 f valid w.1 h)))
+some_number c ps t f (Some n) valid one h none = refl
+
+-- The goals of a program are of one of its predicates.
+pub call_of_one : (p : FlatProgram) (ps : List Predicate) → ArePredicates p ps → (i : ℕ) (t : TermId) → i < length p.goals → goal_at p i ≡ Call t
+    → IsCallOfOne p.pool ps (term_of p.pool t)
+call_of_one p ps all i t l e = let (n, s, g, o) = all.calls i t l e in (n, s, g, o, all.atoms n s g, all.narrow n s g)
+
+pub is_called : (p : FlatProgram) (ps : List Predicate) → ArePredicates p ps → (i : ℕ) (g : FlatGoal) → i < length p.goals → goal_at p i ≡ g → IsCalled p ps g
+is_called p ps all i (Call t) l e = call_of_one p ps all i t l e
+is_called p ps all i _ l e = tt
 
 -- ---- one more functor
 
@@ -161,10 +256,3 @@ predicates_gathered p fs ps e w = subst (ArePredicates p) (sym e) (record {
   atoms = λ n s a. let x = back fs n s a in subst (λ (k : Predicate). k.name.number < length p.pool.names) x.2 (w.functors.own n x.0 x.1);
   narrow = λ n s a. let x = back fs n s a in subst (λ (k : Predicate). k.arity ≤ 255) x.2 (w.functors.few n x.0 x.1);
 })
-
--- ---- numbers
-
-pub call_added : {A E : Type 0} (r : Result A E) (p : FlatProgram) (i : ℕ) (t : TermId) (old new : List Functor) → goal_at p i ≡ Call t
-    → OnOk r (Gathers p.pool (term_of p.pool t) old new) → OnOk r ((heads : ℕ) → Gathered p heads i old → Gathered p heads (i + 1) new)
-call_added (Ok x) p i t old new is g = λ heads w. one_call p heads i t old new is g w
-call_added (Err x) p i t old new is g = tt

@@ -32,6 +32,10 @@ predicate_at ps n = slice_index_or ps n no_predicate
 abbrev pub IsNumberOf : Contents → List Predicate → Term → ℕ → Type 0
 IsNumberOf c ps t n = (s : Predicate) × (slice_get ps n ≡ Some s) × IsOf c t s
 
+-- and of one of these whose name is the pool's, and which has 255 arguments at most
+abbrev pub IsCallOfOne : Contents → List Predicate → Term → Type 0
+IsCallOfOne c ps t = (n : ℕ) × (s : Predicate) × (slice_get ps n ≡ Some s) × IsOf c t s × (s.name.number < length c.names) × (s.arity ≤ 255)
+
 -- no two numbers have one predicate
 abbrev pub AreApart : List Predicate → Type 0
 AreApart ps = (n m : ℕ) (s : Predicate) → slice_get ps n ≡ Some s → slice_get ps m ≡ Some s → n ≡ m

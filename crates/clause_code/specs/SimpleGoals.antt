@@ -14,7 +14,7 @@ use Rattle.wam_code.specs.declared.instruction.Register.{Register}
 use Rattle.wam_code.specs.declared.instruction.Code.{Code}
 use Rattle.wam_code.specs.declared.instruction.Code.TheVariants.{Call, Builtin, Constrain, Label, Best, PostRange, Either, TestOnly, EnterTest, CutTo}
 use Rattle.clause_code.specs.Pieces.{Predicate}
-use Rattle.clause_code.specs.Predicates.{IsOf, IsNumberOf}
+use Rattle.clause_code.specs.Predicates.{IsOf, IsCallOfOne, IsNumberOf}
 use Rattle.clause_code.specs.Bodies.{Levels}
 use Rattle.clause_code.specs.Steps.{is_made, code_of, puts, Suits}
 
@@ -87,3 +87,8 @@ IsWritable p v (flat.Call t) = IsOwn p.pool v t
 IsWritable p v (flat.Builtin k t) = IsOwn p.pool v t
 IsWritable p v (flat.Best o least t u) = IsOwn p.pool v t × IsOwn p.pool v u
 IsWritable p v _ = Unit {0}
+
+-- a user goal is of one of the predicates
+abbrev pub IsCalled : FlatProgram → List Predicate → FlatGoal → Type 0
+IsCalled p ps (flat.Call t) = IsCallOfOne p.pool ps (term_of p.pool t)
+IsCalled p ps _ = Unit {0}

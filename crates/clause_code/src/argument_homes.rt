@@ -1,6 +1,6 @@
 //! Which variables of a clause without a frame stay in argument registers.
 
-ghost use Rattle.std.specs.Prelude.{◌≡◌, ◌+◌, ◌<◌, ◌≤◌, [], length, All, IfOk, OnOk, ◌^◌, MatchResult};
+ghost use Rattle.std.specs.Prelude.{◌≡◌, ◌+◌, ◌<◌, ◌≤◌, [], length, All, IfOk, OnErr, OnOk, ◌^◌, MatchResult};
 ghost use Rattle.fd_model.specs.ConstraintExpansion.{arguments};
 ghost use Rattle.branch_meaning.specs.Heap.{AllOf};
 ghost use Rattle.term_pool.specs.Terms.{term_of, terms_by};
@@ -85,6 +85,7 @@ fn leave(
     requires behind { last < first }
     ensures back { OnOk result (MovedBack homes.old.items homes.new.items first) }
     ensures outside { OnOk result (IsOutside homes.new.items least last x) }
+    ensures memory { OnErr result (2 ^ 64 ≤ first + x) }
 {
     if let Register::X(home) = homes[x] {
         if least <= home && home <= last {

@@ -66,6 +66,7 @@ fn write_clause(
     levels: Levels,
 ) -> Result<(), NoMemory>
     requires clause { c < length program.now.clauses }
+    requires predicates { ArePredicates program.now predicates.now }
     requires slots { slots ≡ (clause_at program.now c).variables
         + each_need (clause_in program.now (clause_at program.now c)).body }
     requires levels { levels ≡ levels_behind (clause_at program.now c).variables
@@ -125,6 +126,7 @@ fn compile_framed(
     code: &mut Vec<Code>,
 ) -> Result<(), NoMemory>
     requires clause { c < length program.now.clauses }
+    requires predicates { ArePredicates program.now predicates.now }
     requires needs { AreNeeds program.now (length program.now.goals) needs.now }
     requires ranges { map (λ r. r.value) ranges.now ≡ program.now.ranges }
     ensures { OnOk result (Appends code.old.items code.new.items

@@ -4,7 +4,7 @@ ghost use Rattle.std.specs.Prelude.{◌≡◌, ◌+◌, ◌<◌, [], ◌++◌, l
 ghost use Rattle.fd_model.specs.ConstraintExpansion.{arguments};
 ghost use Rattle.term_pool.specs.Terms.{term_of, terms_by};
 ghost use Rattle.clause_check.specs.Programs.{IsPart, clause_at, clause_in};
-ghost use Rattle.clause_code.specs.Predicates.{Appends, base_in};
+ghost use Rattle.clause_code.specs.Predicates.{ArePredicates, Appends, IsCallOfOne, base_in};
 ghost use Rattle.clause_code.specs.SafeCode.{IsClauseCode};
 ghost use Rattle.clause_code.specs.FramelessClauses.{GoesOn, IsBody, IsShort, IsShortBody, last_arguments};
 ghost use Rattle.clause_code.specs.SimpleGoals.{IsOwn};
@@ -96,12 +96,13 @@ fn go_on(
     free: usize,
 ) -> Result<(), NoMemory>
     requires own { IsOwn pool.now (length homes.now) t }
+    requires one { IsCallOfOne pool.now predicates.now (term_of pool.now t) }
     requires long { length made.old.items ≡ length homes.now }
     requires works { works.old.items ≡ [] }
     ensures { OnOk result (GoesOn pool.now predicates.now homes.now free made.old.items t
         code.old.items code.new.items) }
 {
-    let number = predicates.number_of_goal(pool, t).ok_or(NoMemory)?;
+    let number = predicates.number_of_goal(pool, t);
     put_arguments(pool, homes, made, code, works, t, free)?;
     code.push(Code::Execute(number))?;
     Ok(())
@@ -121,6 +122,7 @@ fn write_short(
 ) -> Result<(), NoMemory>
     requires own { IsOwn pool.now (length homes.now) head }
     requires goal { IfSome goal (IsOwn pool.now (length homes.now)) }
+    requires one { IfSome goal (λ t. IsCallOfOne pool.now predicates.now (term_of pool.now t)) }
     requires made { made.old.items ≡ unmade homes.now }
     requires works { works.old.items ≡ [] }
     ensures { OnOk result (IsShort pool.now predicates.now homes.now free head goal
@@ -145,6 +147,7 @@ pub(crate) fn compile_short(
     code: &mut Vec<Code>,
 ) -> Result<(), NoMemory>
     requires clause { c < length program.now.clauses }
+    requires predicates { ArePredicates program.now predicates.now }
     requires body { IsShortBody program.now (clause_at program.now c).body goal }
     ensures { OnOk result (Appends code.old.items code.new.items
         (λ is. IsClauseCode (base_in program.now predicates.now) (start + length code.old.items) is

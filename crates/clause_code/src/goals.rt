@@ -11,8 +11,8 @@ ghost use Rattle.wam_code.specs.declared.instruction.Code.TheVariants.{PostRange
 ghost use Rattle.clause_code.specs.Bodies.{AreFree, IsGoalsCode};
 ghost use Rattle.clause_code.specs.CodablePrograms.{EachCodable};
 ghost use Rattle.clause_code.specs.LevelSlots.{EachFits};
-ghost use Rattle.clause_code.specs.Predicates.{Appends, base_in};
-ghost use Rattle.clause_code.specs.SimpleGoals.{variables, loads, AreMade, CallWritten, GoalWritten, IsOwn, IsWritable};
+ghost use Rattle.clause_code.specs.Predicates.{ArePredicates, Appends, IsCallOfOne, base_in};
+ghost use Rattle.clause_code.specs.SimpleGoals.{variables, loads, AreMade, CallWritten, GoalWritten, IsCalled, IsOwn, IsWritable};
 ghost use Rattle.clause_code.specs.Steps.{puts, AllSuit};
 ghost use Rattle.clause_code.specs.ClauseParts.{AreSlots, Executes};
 ghost use Rattle.clause_code.specs.BuildStack.{Writes};
@@ -152,6 +152,7 @@ fn call(
     t: TermId,
 ) -> Result<(), NoMemory>
     requires own { IsOwn pool.now (length homes.now) t }
+    requires one { IsCallOfOne pool.now predicates.now (term_of pool.now t) }
     requires long { length made.old.items ≡ length homes.now }
     requires made { AreMade made.old.items }
     requires works { works.old.items ≡ [] }
@@ -160,7 +161,7 @@ fn call(
     ensures made { OnOk result (made.new.items ≡ made.old.items) }
     ensures works { OnOk result (works.new.items ≡ []) }
 {
-    let number = predicates.number_of_goal(pool, t).ok_or(NoMemory)?;
+    let number = predicates.number_of_goal(pool, t);
     load_arguments(pool, homes, made, code, works, t, Code::Call(number))?;
     Ok(())
 }
@@ -176,13 +177,14 @@ pub(crate) fn execute(
     t: TermId,
 ) -> Result<(), NoMemory>
     requires own { IsOwn pool.now (length homes.now) t }
+    requires one { IsCallOfOne pool.now predicates.now (term_of pool.now t) }
     requires long { length made.old.items ≡ length homes.now }
     requires made { AreMade made.old.items }
     requires works { works.old.items ≡ [] }
     ensures { OnOk result (Executes pool.now predicates.now homes.now made.old.items t
         code.old.items code.new.items) }
 {
-    let number = predicates.number_of_goal(pool, t).ok_or(NoMemory)?;
+    let number = predicates.number_of_goal(pool, t);
     load_arguments(pool, homes, made, code, works, t, Code::Deallocate)?;
     code.push(Code::Execute(number))?;
     Ok(())
@@ -201,6 +203,7 @@ fn write_goal(
     goal: FlatGoal,
 ) -> Result<(), NoMemory>
     requires writable { IsWritable program.now (length homes.now) goal }
+    requires called { IsCalled program.now predicates.now goal }
     requires ranges { map (λ r. r.value) ranges.now ≡ program.now.ranges }
     requires long { length made.old.items ≡ length homes.now }
     requires made { AreMade made.old.items }
@@ -262,6 +265,7 @@ pub(crate) fn write_goals(
     levels: Levels,
 ) -> Result<(), NoMemory>
     requires within { part.to ≤ length program.now.goals }
+    requires predicates { ArePredicates program.now predicates.now }
     requires below { EachBelow (length homes.now) (goals_in program.now part) }
     requires codable { EachCodable (goals_in program.now part) }
     requires fits { EachFits levels (goals_in program.now part) }

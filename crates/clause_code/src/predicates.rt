@@ -2,10 +2,12 @@
 
 ghost use Rattle.std.specs.Prelude.{◌≡◌, ◌+◌, ◌<◌, ℕ, Some, length, slice_get, IfOk, IfSome, IfNone, OnOk};
 ghost use Rattle.term_pool.specs.Terms.{term_of};
+ghost use Rattle.term_pool.specs.PoolInvariant.{IsPool};
 ghost use Rattle.clause_check.specs.Programs.{program_in};
 ghost use Rattle.clause_code.specs.CodablePrograms.{IsCodable};
 ghost use Rattle.clause_code.specs.Pieces.{Predicate};
-ghost use Rattle.clause_code.specs.Predicates.{ArePredicates, IsNumberOf, HasFunctor, Gathers, Gathered, predicate_at};
+ghost use Rattle.clause_code.specs.declared.predicates.Functor.{Functor};
+ghost use Rattle.clause_code.specs.Predicates.{ArePredicates, IsCallOfOne, IsNumberOf, HasFunctor, Gathered, predicate_at};
 
 use clause_check::{FlatGoal, Program};
 use fd_language::NoMemory;
@@ -56,14 +58,13 @@ impl Predicates {
     }
 
     /// The number of the predicate that a user goal calls.
-    pub(crate) fn number_of_goal(&self, pool: &Pool, t: TermId) -> Option<usize>
-        requires { t.number < length pool.now.entries }
-        ensures { IfSome result (IsNumberOf pool.now self.now (term_of pool.now t)) }
+    pub(crate) fn number_of_goal(&self, pool: &Pool, t: TermId) -> usize
+        requires own { t.number < length pool.now.entries }
+        requires one { IsCallOfOne pool.now self.now (term_of pool.now t) }
+        ensures { IsNumberOf pool.now self.now (term_of pool.now t) result }
     {
-        match functor_of(pool, t) {
-            Some(functor) => self.number_of(functor.name, functor.arity),
-            None => None,
-        }
+        let functor = functor_of(pool, t).unwrap();
+        self.number_of(functor.name, functor.arity).unwrap()
     }
 
     /// The name of the predicate with this number.
@@ -86,7 +87,9 @@ impl Predicates {
 /// The functor of a head or of a user goal, which has 1 to 255 arguments if it is compound.
 fn functor_of(pool: &Pool, t: TermId) -> Option<Functor>
     requires { t.number < length pool.now.entries }
-    ensures { IfSome result (HasFunctor pool.now (term_of pool.now t)) }
+    ensures found { IfSome result (HasFunctor pool.now (term_of pool.now t)) }
+    ensures none { IfNone result ((f : Functor) → HasFunctor pool.now (term_of pool.now t) f → ⊥) }
+    ensures valid { IsPool pool.now }
 {
     match pool.view(t) {
         Node::Atom(name) => Some(Functor { name, arity: 0 }),
@@ -98,36 +101,28 @@ fn functor_of(pool: &Pool, t: TermId) -> Option<Functor>
     }
 }
 
-/// Puts the functor of the term behind the others, unless it is there.
-fn add(functors: &mut IndexSet<Functor>, pool: &Pool, t: TermId) -> Result<(), NoMemory>
-    requires { t.number < length pool.now.entries }
-    ensures { OnOk result (Gathers pool.now (term_of pool.now t) functors.old.keys
-        functors.new.keys) }
-{
-    let functor = functor_of(pool, t).ok_or(NoMemory)?;
-    functors.insert_full(functor)?;
-    Ok(())
-}
-
-/// Adds the functor of the goal i, if it is a user goal.
+/// Adds the functor of the goal i, if it is a user goal and its functor isn't there. No goal of a text is without one.
 fn add_call(functors: &mut IndexSet<Functor>, program: &Program, i: usize) -> Result<(), NoMemory>
     requires { i < length program.now.goals }
     ensures { OnOk result ((heads : ℕ) → Gathered program.now heads i functors.old.keys
         → Gathered program.now heads (i + 1) functors.new.keys) }
 {
-    match program.goal(i) {
-        FlatGoal::Call(t) => add(functors, program.pool(), t),
-        _ => Ok(()),
+    if let FlatGoal::Call(t) = program.goal(i) {
+        let functor = functor_of(program.pool(), t).ok_or(NoMemory)?;
+        functors.insert_full(functor)?;
     }
+    Ok(())
 }
 
 /// The functors of the clauses' heads.
 fn functors_of_heads(alloc: Global, program: &Program) -> Result<IndexSet<Functor>, NoMemory>
     ensures { IfOk result (λ s. Gathered program.now (length program.now.clauses) 0 s.keys) }
 {
+    program.known();
     let mut functors = IndexSet::new(alloc);
     for clause in 0..program.clauses() {
-        add(&mut functors, program.pool(), program.head(clause))?;
+        let functor = functor_of(program.pool(), program.head(clause)).unwrap();
+        functors.insert_full(functor)?;
     }
     Ok(functors)
 }

@@ -1,6 +1,6 @@
 //! The code of one query.
 
-ghost use Rattle.std.specs.Prelude.{◌≡◌, ℕ, ◌<◌, ◌+◌, [], length, map, All, IfOk, OnOk, suc, ◌^◌, ◌≤◌, OnErr};
+ghost use Rattle.std.specs.Prelude.{◌≡◌, ℕ, ◌<◌, ◌+◌, length, map, All, IfOk, OnOk, suc, ◌^◌, ◌≤◌, OnErr};
 ghost use Rattle.clause_check.specs.Programs.{query_at, query_in, program_in};
 ghost use Rattle.wam_code.specs.declared.instruction.Register.TheVariants.{Y};
 ghost use Rattle.clause_code.specs.CodablePrograms.{AreOnce, IsCodable};
@@ -8,14 +8,12 @@ ghost use Rattle.clause_code.specs.LevelSlots.{each_need, AreNeeds};
 ghost use Rattle.clause_code.specs.Predicates.{ArePredicates, Appends, base_in};
 ghost use Rattle.clause_code.specs.SafeCode.{IsQueryPiece};
 ghost use Rattle.clause_code.specs.Slots.{AreAll, AreGiven, AreShown, IsFrame, slot};
-ghost use Rattle.clause_code.specs.ClauseParts.{levels_behind, unmade};
 
+use crate::argument_homes::added;
 use crate::goals::write_goals;
 use crate::heads::{read_arguments, write_levels};
-use crate::levels::Levels;
 use crate::needs::{levels_behind, most_needed};
 use crate::predicates::Predicates;
-use crate::terms::Work;
 use clause_check::Program;
 use fd_language::NoMemory;
 use range_code::RangeCode;
@@ -28,6 +26,15 @@ use wam_code::{Code, Register};
 struct QuerySlots {
     homes: Vec<Register>,
     slots: usize,
+}
+
+/// The places that a query's code uses: the registers of its variables, how many slots these have, and how many are behind them
+/// for levels.
+#[derive(Clone, Copy)]
+struct Frame<'h> {
+    homes: &'h [Register],
+    slots: usize,
+    levels: usize,
 }
 
 /// The slots of the shown variables, from 1 on, by the variables' numbers. The others have 0.
@@ -51,6 +58,7 @@ fn give_one(slots: &mut Vec<usize>, x: usize, next: usize) -> Result<usize, NoMe
     requires within { x < length slots.old.items }
     requires given { AreGiven (length slots.old.items) next slots.old.items }
     ensures given { IfOk result (λ n. AreGiven (length slots.old.items) n slots.new.items) }
+    ensures next { IfOk result (λ n. n ≤ suc next) }
     ensures memory { OnErr result (2 ^ 64 ≤ suc next) }
     ensures here { OnOk result (0 < slot slots.new.items x) }
     ensures kept { (y : ℕ) → 0 < slot slots.old.items y
@@ -67,6 +75,7 @@ fn give_one(slots: &mut Vec<usize>, x: usize, next: usize) -> Result<usize, NoMe
 fn give_others(slots: &mut Vec<usize>, first: usize) -> Result<usize, NoMemory>
     requires { AreGiven (length slots.old.items) first slots.old.items }
     ensures given { IfOk result (λ n. AreGiven (length slots.old.items) n slots.new.items) }
+    ensures memory { OnErr result (2 ^ 64 ≤ first + length slots.old.items) }
     ensures all { OnOk result (AreAll (length slots.old.items) slots.new.items) }
     ensures kept { (y : ℕ) → 0 < slot slots.old.items y
         → slot slots.new.items y ≡ slot slots.old.items y }
@@ -100,33 +109,24 @@ fn frame_of(alloc: Global, variables: usize, shown: &[u64]) -> Result<QuerySlots
     })
 }
 
-/// The code of the query q, whose variables have these homes in the first slots of a frame with so many, behind which are its level
-/// slots.
+/// The code of the query q, whose variables and levels have these places.
 fn write_query(
     alloc: Global,
     program: &Program,
     ranges: &[Rc<RangeCode>],
     predicates: &Predicates,
-    homes: &[Register],
-    given: usize,
-    slots: usize,
-    levels: Levels,
-    made: &mut Vec<bool>,
-    code: &mut Vec<Code>,
-    works: &mut Vec<Work>,
+    frame: Frame<'_>,
     q: usize,
     start: usize,
+    code: &mut Vec<Code>,
 ) -> Result<(), NoMemory>
     requires query { q < length program.now.queries }
-    requires slots { slots ≡ given
-        + each_need (query_in program.now (query_at program.now q)).goals }
-    requires levels { levels ≡ levels_behind given
-        (each_need (query_in program.now (query_at program.now q)).goals) }
+    requires predicates { ArePredicates program.now predicates.now }
     requires ranges { map (λ r. r.value) ranges.now ≡ program.now.ranges }
     requires frame { IsFrame (query_at program.now q).variables (query_at program.now q).shown
-        homes.now given }
-    requires made { made.old.items ≡ unmade homes.now }
-    requires works { works.old.items ≡ [] }
+        frame.homes.now frame.slots }
+    requires levels { frame.levels
+        ≡ each_need (query_in program.now (query_at program.now q)).goals }
     ensures { OnOk result (Appends code.old.items code.new.items
         (λ is. IsQueryPiece (base_in program.now predicates.now) (start + length code.old.items) is
         (query_in program.now (query_at program.now q)))) }
@@ -134,11 +134,17 @@ fn write_query(
     program.known();
     let pool = program.pool();
     let goals = program.goals_of(q);
+    let homes = frame.homes;
+    let slots = added(frame.slots, frame.levels)?;
+    let levels = levels_behind(frame.slots, frame.levels)?;
+    let mut made = vec![in alloc; false; homes.len()]?;
+    let mut works = Vec::new(alloc);
     code.push(Code::Allocate(slots))?;
-    read_arguments(pool, homes, made, code, works, &[])?;
+    read_arguments(pool, homes, &mut made, code, &mut works, &[])?;
     write_levels(code, levels)?;
     write_goals(
-        alloc, program, ranges, predicates, homes, made, code, works, start, goals, levels,
+        alloc, program, ranges, predicates, homes, &mut made, code, &mut works, start, goals,
+        levels,
     )?;
     code.push(Code::AnswerNow)?;
     Ok(())
@@ -166,26 +172,11 @@ pub fn compile_query(
         (query_in program.now (query_at program.now q)))) }
 {
     program.known();
-    let frame = frame_of(alloc, program.variables(q), program.shown(q))?;
-    let homes = frame.homes.as_slice();
-    let count = most_needed(program, needs, program.goals_of(q));
-    let slots = frame.slots.checked_add(count).ok_or(NoMemory)?;
-    let levels = levels_behind(frame.slots, count)?;
-    let mut made = vec![in alloc; false; homes.len()]?;
-    let mut works = Vec::new(alloc);
-    write_query(
-        alloc,
-        program,
-        ranges,
-        predicates,
-        homes,
-        frame.slots,
-        slots,
-        levels,
-        &mut made,
-        code,
-        &mut works,
-        q,
-        start,
-    )
+    let given = frame_of(alloc, program.variables(q), program.shown(q))?;
+    let frame = Frame {
+        homes: given.homes.as_slice(),
+        slots: given.slots,
+        levels: most_needed(program, needs, program.goals_of(q)),
+    };
+    write_query(alloc, program, ranges, predicates, frame, q, start, code)
 }

@@ -1,14 +1,16 @@
-use Rattle.std.proofs.Common.{[], ◌∷◌, ◌++◌, ◌+◌, ◌-◌, true, ap, sym, subst, length, ◌∙◌, append_assoc}
+use Rattle.std.proofs.Common.{[], ◌∷◌, ◌++◌, ◌+◌, ◌-◌, true, ap, sym, subst, length, ◌∙◌, append_assoc, arith}
 use Rattle.term_pool.specs.Contents.{Contents}
+use Rattle.term_pool.specs.Terms.{term_of}
 use Rattle.clause_check.specs.Programs.{clause_at, clause_in, goals_in}
 use Rattle.wam_code.specs.declared.instruction.Code.TheVariants.{Deallocate, Proceed}
 use Rattle.clause_code.specs.Bodies.{Levels, IsGoalsCode}
 use Rattle.clause_code.specs.LevelSlots.{each_need}
-use Rattle.clause_code.specs.Predicates.{Appends, base_in}
+use Rattle.clause_code.specs.Predicates.{Appends, IsCallOfOne, base_in}
 use Rattle.clause_code.specs.SimpleGoals.{AreMade, IsOwn}
 use Rattle.clause_code.specs.ClauseParts.{Executes}
 use Rattle.clause_code.proofs.FramedClauses.{known_of, body_known, head_own, head_begun, body_fits, before_fits, body_free, before_last, in_order_slots}
 use Rattle.clause_code.proofs.FramedClauses.{clause_proceeds, clause_executes}
+use Rattle.clause_code.proofs.ProgramFunctors.{call_of_one}
 use Rattle.clause_code.proofs.clause.write_clause.Goals as goal
 
 pub write_head-requires-clause-own : goal.write_head-requires-clause-own
@@ -51,6 +53,16 @@ execute-requires-clause-own c =
     let o = (before_last c.args.program.now c.known.ensures (length c.args.homes.now) c.body-body.result.from c.body-body.result.to c.in-Some.t
     c.in-Some.ensures.some w.within c.in-Some.ensures.call k.0 k.1).own in
     subst (λ (q : Contents). IsOwn q (length c.args.homes.now) c.in-Some.t) (sym c.pool-pool.ensures) o
+
+pub execute-requires-clause-one : goal.execute-requires-clause-one
+execute-requires-clause-one c =
+    let ps = c.args.predicates.now in
+    let t = c.in-Some.t in
+    let last = c.in-Some.ensures.some in
+    let part = c.body-body.ensures.within in
+    let within = part.within in
+    subst (λ (q : Contents). IsCallOfOne q ps (term_of q t)) (sym c.pool-pool.ensures)
+    (call_of_one c.args.program.now ps c.requires.predicates (c.body-body.result.to - 1) t (omega (arith, last, within)) c.in-Some.ensures.call)
 
 pub write_goals-requires-in-None-clause-below : goal.write_goals-requires-in-None-clause-below
 write_goals-requires-in-None-clause-below c = (body_known c.args.program.now c.known.ensures c.args.homes.now c.args.c c.requires.clause c.requires.homes c.body-body.result c.body-body.ensures.body).0

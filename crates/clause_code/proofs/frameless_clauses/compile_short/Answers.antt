@@ -6,11 +6,12 @@ use Rattle.term_pool.specs.Terms.{term_of, terms_by}
 use Rattle.clause_check.specs.Programs.{clause_at}
 use Rattle.fd_language.specs.Term.{term_count}
 use Rattle.clause_code.specs.FramelessClauses.{last_arguments, IsShort}
+use Rattle.clause_code.specs.Predicates.{IsCallOfOne}
 use Rattle.clause_code.specs.SimpleGoals.{IsOwn}
 use Rattle.clause_code.specs.ArgumentHomes.{AreHomes}
 use Rattle.clause_code.specs.Steps.{AllSuit}
 use Rattle.clause_code.proofs.Rests.{count_terms}
-use Rattle.clause_code.proofs.FramelessClauses.{short_housed, head_here, goals_here, goal_suits, goal_fewer, few_arguments, short_written}
+use Rattle.clause_code.proofs.FramelessClauses.{short_housed, head_here, goals_here, goals_called, goal_suits, goal_fewer, few_arguments, short_written}
 use Rattle.clause_code.proofs.SimpleGoals.{arguments_suit}
 use Rattle.clause_code.proofs.frameless_clauses.compile_short.Goals as goal
 
@@ -51,6 +52,13 @@ write_short-requires-clause-goal c =
     let n = c.variables_of_clause-variables.result in
     let own = goals_here c.args.program.now c.known.ensures c.args.c c.requires.clause q c.pool-pool.ensures n c.variables_of_clause-variables.ensures c.args.goal c.requires.body in
     subst (λ m. IfSome c.args.goal (IsOwn q m)) (sym (ap length c.deref.ensures.value ∙ c.in_ok-homes.ensures.long)) own
+
+pub write_short-requires-clause-one : goal.write_short-requires-clause-one
+write_short-requires-clause-one c =
+    let p = c.args.program.now in
+    let ps = c.args.predicates.now in
+    subst (λ (q : Contents). IfSome c.args.goal (λ (t : TermId). IsCallOfOne q ps (term_of q t))) (sym c.pool-pool.ensures)
+    (goals_called p c.known.ensures c.args.c c.requires.clause ps c.requires.predicates c.args.goal c.requires.body)
 
 pub returns : goal.returns
 returns c =

@@ -4,6 +4,7 @@ use Rattle.clause_code.specs.declared.open_sides.Side.{Side}
 use Rattle.clause_code.specs.Predicates.{base_in}
 use Rattle.clause_code.specs.Sides.{Level, Stands, Enters, sides_turns}
 use Rattle.clause_code.specs.SimpleGoals.{AreMade, IsWritable}
+use Rattle.clause_code.proofs.ProgramFunctors.{is_called}
 use Rattle.clause_code.proofs.Sides.{stands_first, stands_last, stands_writable, place_there, left_behind, entered, entered_less, left_less}
 use Rattle.clause_code.proofs.goals.write_goals.Goals as goal
 
@@ -30,6 +31,15 @@ write_goal-requires-clause-writable c =
     subst (IsWritable p (length c.args.homes.now)) (sym c.goal-goal.ensures.goal)
     (stands_writable p c.known.ensures b c.args.homes.now c.args.start first c.loop-next.sides.items c.loop-next.code.items c.loop-next.next.part
     c.loop-next.next.levels c.loop-next.invariant.stands c.if-next.true).0
+
+pub write_goal-requires-clause-called : goal.write_goal-requires-clause-called
+write_goal-requires-clause-called c =
+    let k = c.loop-next.invariant in
+    let s = k.stands in
+    let within = s.within in
+    let low = c.if-next.true in
+    is_called c.args.program.now c.args.predicates.now c.requires.predicates c.loop-next.next.part.from c.goal-goal.result (omega (arith, within, low))
+    (sym c.goal-goal.ensures.goal)
 
 pub loop-next-preserved-then-next : goal.loop-next-preserved-then-next
 loop-next-preserved-then-next c =
