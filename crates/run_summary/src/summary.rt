@@ -15,6 +15,7 @@ ghost use Rattle.machine_events.specs.Events.{event_of};
 ghost use Rattle.code_machine.specs.States.{StandsFor};
 ghost use Rattle.byte_ports.specs.Ends.{sink_at};
 ghost use Rattle.text_output.specs.Endings.{Ending, IsRunOf};
+ghost use Rattle.text_output.specs.Pieces.{lines_of, HandedEnding};
 ghost use Rattle.run_summary.specs.Summaries.{IsTally};
 
 use crate::queens::queens_text;
@@ -164,9 +165,13 @@ pub fn put_summary<K: Sink>(alloc: Global, size: u32, options: Options, sink: &m
     requires most { size ≤ 12 }
     requires limit { IsLimit options.answers }
     requires infinity { (1 ≤ options.infinity) × (options.infinity ≤ TOP) }
-    ensures { (out : List ℕ) (st : Status) → IsSummary TOP size (asked options) out st
+    ensures output { (out : List ℕ) (st : Status) → IsSummary TOP size (asked options) out st
         → Ending (sink_at (K.written sink.old) (K.faults sink.old)) (sink_at (K.written sink.new)
         (K.faults sink.new)) result st out }
+
+    // Each line was handed over as a piece.
+    ensures pieces { (out : List ℕ) (st : Status) → IsSummary TOP size (asked options) out st
+        → HandedEnding (K.handed sink.old) (K.handed sink.new) result (lines_of out) }
 {
     match summary(alloc, size, options) {
         Ok((text, status)) => put_last(sink, &text, status),

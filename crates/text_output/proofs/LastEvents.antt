@@ -1,16 +1,19 @@
 -- The last events of queries, one after another.
 use Rattle.std.proofs.Common.{◌≡◌, ◌⊎◌, ℕ, ◌+◌, Bool, true, false, List, [], ◌∷◌, ◌++◌, length, slice_get, Some, refl, ap, sym, ◌∙◌, subst, inl, inr}
 use Rattle.std.proofs.Common.{length-append}
-use Rattle.std.specs.Prelude.{◌||◌, Result, IfOk}
+use Rattle.std.specs.Prelude.{◌||◌, Result, Ok, Err, IfOk}
 use Rattle.std.specs.List.{list_any}
 use Rattle.std.proofs.lemmas.List.Folds.{list_any-append}
 use Rattle.fd_model.specs.Output.{or_stop}
 use Rattle.term_pool.proofs.Lemmas.{pushed_at}
 use Rattle.machine_events.specs.declared.Limits.{Limits}
 use Rattle.machine_events.specs.declared.MachineEvent.{MachineEvent}
+use Rattle.machine_events.specs.Events.{event_of}
+use Rattle.branch_meaning.specs.NextEvent.{is_final}
 use Rattle.wam_code.specs.Area.{Area}
+use Rattle.code_machine.specs.States.{State}
 use Rattle.text_output.specs.declared.fault.Fault.{Fault}
-use Rattle.text_output.specs.Endings.{AreLast, EndsBy, HasLast, LastBy, stops}
+use Rattle.text_output.specs.Endings.{AreLast, EndsBy, GivesEvent, HasLast, IsNew, LastBy, LastFrom, Reaches, stops}
 
 -- those of the first queries, so many of them
 pub record AreSome (area : Area) (limits : Limits) (count : ℕ) (stop : Bool) : Type 0 where
@@ -55,7 +58,14 @@ next_last area shared same limits count before here now some last joined =
 pub all_last : (area : Area) (limits : Limits) (count : ℕ) (stop : Bool) → count ≡ length area.queries → AreSome area limits count stop → HasLast area limits stop
 all_last area limits count stop e some = (some.events, some.all ∙ e, some.last)
 
--- the same, told of what is equal
-pub last_same : (r : Result Bool Fault) (a b : Area) (m n : ℕ) (k l : Limits) → a ≡ b → m ≡ n → k ≡ l → IfOk r (LastBy a m k) → IfOk r (LastBy b n l)
-last_same r a b m n k l e f g h =
-    subst (λ (x : Area). IfOk r (LastBy x n l)) e (subst (λ (x : ℕ). IfOk r (LastBy a x l)) f (subst (λ (x : Limits). IfOk r (LastBy a m x)) g h))
+-- ---- one query
+
+-- one event more, and not the last one
+pub reach_more : (a b c : State) (es : List MachineEvent) (e : MachineEvent) → Reaches a es b → GivesEvent b e c → is_final (event_of [] e) ≡ false → Reaches a (es ++ e ∷ []) c
+reach_more a b c [] e h g more = subst (λ (m : State). Reaches m (e ∷ []) c) h (c, g, more, refl)
+reach_more a b c (x ∷ es) e h g more = (h.0, h.1, h.2, reach_more h.0 b c es e h.3 g more)
+
+-- the machine that was made for it has come to its end
+pub last_of : (r : Result Bool Fault) (area : Area) (number : ℕ) (limits : Limits) (m : State) → IsNew area number limits m → IfOk r (LastFrom m) → IfOk r (LastBy area number limits)
+last_of (Ok stopped) area number limits m made h = (h.0, (m, made, h.1), h.2)
+last_of (Err f) area number limits m made h = tt

@@ -3,4 +3,5 @@ mod ProgramCode
 mod Events
 mod LastEvents
 mod Endings
+mod Lines
 pub mod Lemmas

@@ -1,5 +1,5 @@
 -- What was written when a call ends.
-use Rattle.std.specs.Prelude.{◌≡◌, ◌⊎◌, ℕ, List, [], ◌∷◌, Bool, true, false, length, slice_get, Option, Some, None, Result, MatchResult}
+use Rattle.std.specs.Prelude.{◌≡◌, ◌⊎◌, ◌<◌, ℕ, List, [], ◌∷◌, Bool, true, false, length, slice_get, Option, Some, None}
 use Rattle.std.specs.List.{list_any}
 use Rattle.fd_language.specs.declared.TheConstants.{INFINITY}
 use Rattle.fd_model.specs.Goal.{Program, Query, Event, start_of}
@@ -9,12 +9,12 @@ use Rattle.fd_model.specs.RunnablePrograms.{IsScoped, IsRunnableProgram}
 use Rattle.machine_events.specs.declared.Limits.{Limits}
 use Rattle.machine_events.specs.declared.MachineEvent.{MachineEvent}
 use Rattle.machine_events.specs.declared.MachineEvent.TheVariants as event
-use Rattle.machine_events.specs.Events.{event_of}
-use Rattle.branch_meaning.specs.NextEvent.{is_final}
+use Rattle.machine_events.specs.Events.{event_of, HasTerms}
+use Rattle.branch_meaning.specs.NextEvent.{is_final, IsNext}
 use Rattle.clause_check.specs.Programs.{FlatProgram, program_in, query_at, query_in}
 use Rattle.wam_code.specs.Area.{Area}
 use Rattle.wam_code.specs.Tries.{StandsForProgram}
-use Rattle.code_machine.specs.States.{State, MayRun, IsEndOf, IsOfGoal}
+use Rattle.code_machine.specs.States.{State, MayRun, StandsFor, IsEndOf, IsOfGoal, IsSame, counted, left, names_of}
 use Rattle.code_machine.specs.Instructions.{HasGoal}
 use Rattle.fd_model.specs.declared.Status.{Status}
 use Rattle.fd_model.specs.declared.Status.TheVariants.{WriteFault, NoMemory}
@@ -28,16 +28,16 @@ abbrev pub CutBy : SinkState → SinkState → Fault → List ℕ → Type 0
 CutBy old new fault.WriteFault piece = WroteFront old new piece
 CutBy old new fault.NoMemory piece = WrotePart old new piece
 
--- of a call that writes a piece
-abbrev pub Wrote : {A : Type 0} → SinkState → SinkState → Result A Fault → List ℕ → Type 0
-Wrote old new result piece = MatchResult result (λ _. WroteAll old new piece) (λ e. CutBy old new e piece)
-
 -- of a run that writes an output with its status
 abbrev pub Ending : SinkState → SinkState → Status → Status → List ℕ → Type 0
 Ending old new result st out =
     ((result ≡ st) × WroteAll old new out)
     ⊎ (((result ≡ WriteFault) × WroteFront old new out)
     ⊎ ((result ≡ NoMemory) × WrotePart old new out))
+
+-- The same of a run that takes no memory: want of it is never told.
+abbrev pub WroteOutput : SinkState → SinkState → Status → Status → List ℕ → Type 0
+WroteOutput old new result st out = ((result ≡ st) × WroteAll old new out) ⊎ ((result ≡ WriteFault) × WroteFront old new out)
 
 -- the status of a run that was cut short
 abbrev pub fault_status : Fault → Status
@@ -72,21 +72,52 @@ pub record RunsProgram (area : Area) (prog : Program) : Type 0 where
 abbrev pub limits_of : Options → Limits
 limits_of o = record { steps = o.steps; answers = o.answers; infinity = o.infinity }
 
--- Of any code: a machine for the query with a number has ended, with these limits, and says so by the event.
-pub record EndsBy (area : Area) (number : ℕ) (limits : Limits) (e : MachineEvent) : Type 0 where
+-- A machine as `Machine::new` gives it for the query with a number, whatever the code stands for: nothing is spent yet, and no answer given.
+pub record IsNew (area : Area) (number : ℕ) (limits : Limits) (m : State) : Type 0 where
+  pub own : (m.area ≡ area) × (m.query ≡ number) × (m.limits ≡ limits)
+  pub unspent : (m.spent ≡ 0) × (m.answers ≡ 0) × (m.lost ≡ false)
+  pub stands : (es : List Event) (r : ℕ) → IsRunBy limits.infinity area number limits.steps limits.answers es r → StandsFor m es r
+
+-- A call of its `next` gives the event.
+pub record GivesEvent (old : State) (e : MachineEvent) (new : State) : Type 0 where
+  pub same : IsSame old new
+  pub next : IsNext State StandsFor old (event_of (names_of old) e) new
+  pub shown : HasTerms (length (names_of old)) e
+  pub falls : is_final (event_of [] e) ≡ false → left new < left old
+  pub answers : new.answers ≡ counted e old.answers
+  pub whole : new.lost ≡ false
+
+-- So do calls one after another, and none of the events is a last one.
+abbrev pub Reaches : State → List MachineEvent → State → Type 0
+Reaches old [] new = new ≡ old
+Reaches old (e ∷ es) new = (next : State) × GivesEvent old e next × (is_final (event_of [] e) ≡ false) × Reaches next es new
+
+-- From this state a machine comes to its end by calls of `next`, and the last of them gives the event.
+pub record EndsFrom (first : State) (e : MachineEvent) : Type 0 where
+  pub told : List MachineEvent
+  pub before : State
+  pub reached : Reaches first told before
   pub machine : State
-  pub own : (machine.area ≡ area) × (machine.query ≡ number) × (machine.limits ≡ limits)
+  pub gives : GivesEvent before e machine
   pub stage : IsEndOf e machine.stage
   -- its reductions are spent, or its answers given, or it came to a goal
-  pub budget : e ≡ event.Budget → machine.spent ≡ limits.steps
-  pub limit : e ≡ event.Limit → limits.answers ≡ Some machine.answers
-  pub goals : IsOfGoal e → HasGoal area
+  pub budget : e ≡ event.Budget → machine.spent ≡ first.limits.steps
+  pub limit : e ≡ event.Limit → first.limits.answers ≡ Some machine.answers
+  pub goals : IsOfGoal e → HasGoal first.area
+
+-- so does one that is made for the query with a number, with these limits
+abbrev pub EndsBy : Area → ℕ → Limits → MachineEvent → Type 0
+EndsBy area number limits e = (first : State) × IsNew area number limits first × EndsFrom first e
 
 -- whether a last event stops its query
 abbrev pub stops : MachineEvent → Bool
 stops e = is_stop (event_of [] e ∷ [])
 
--- the event of such a machine, and whether it stops its query
+-- the event by which a machine ends, and whether it stops its query
+abbrev pub LastFrom : State → Bool → Type 0
+LastFrom first stopped = (e : MachineEvent) × EndsFrom first e × (stopped ≡ stops e)
+
+-- of one that is made for a query
 abbrev pub LastBy : Area → ℕ → Limits → Bool → Type 0
 LastBy area number limits stopped = (e : MachineEvent) × EndsBy area number limits e × (stopped ≡ stops e)
 

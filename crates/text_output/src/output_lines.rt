@@ -1,17 +1,18 @@
-//! The output of a text, written line by line: its refusal, or the events of its queries.
+//! The output of a text, written line by line, each as one piece: its refusal, or the events of its queries.
 
-ghost use Rattle.std.specs.Prelude.{◌≡◌, ◌<◌, ◌≤◌, ℕ, Bool, List, length, map, All, IfOk};
+ghost use Rattle.std.specs.Prelude.{◌≡◌, ◌<◌, ◌≤◌, ◌∷◌, [], ℕ, Bool, List, length, map, All, IfOk, IsOkUnless};
 ghost use Rattle.fd_language.specs.declared.TheConstants.{INFINITY as TOP};
 ghost use Rattle.fd_model.specs.Goal.{Event, Program as AnyProgram};
 ghost use Rattle.fd_model.specs.Run.{IsLimit};
-ghost use Rattle.fd_model.specs.Lines.{event_bytes, events_bytes};
+ghost use Rattle.fd_model.specs.Lines.{event_bytes};
 ghost use Rattle.machine_events.specs.Events.{HasTerms, event_of};
 ghost use Rattle.fd_model.specs.Output.{Queries, VerdictOutput, is_stop, stop_status};
 ghost use Rattle.term_pool.specs.Contents.{atom_name};
 ghost use Rattle.clause_check.specs.Programs.{program_in};
 ghost use Rattle.code_machine.specs.States.{StandsFor, names_of};
 ghost use Rattle.byte_ports.specs.Ends.{sink_at};
-ghost use Rattle.text_output.specs.Endings.{limits_of, Ending, HasLast, IsEnding, IsRunBy, LastBy, RunsProgram, Wrote};
+ghost use Rattle.text_output.specs.Endings.{limits_of, Ending, HasLast, IsEnding, IsRunBy, LastBy, LastFrom, RunsProgram, WroteOutput};
+ghost use Rattle.text_output.specs.Pieces.{lines_of, first_line, sink_seen, Gave, HandedEnding, QueryPieces, VerdictPieces};
 ghost use Rattle.text_verdict.specs.Verdicts.{verdict_of, HasNames};
 
 use crate::fault::Fault;
@@ -24,6 +25,7 @@ use command_words::{AgendaName, Options};
 use fd_language::NoMemory;
 use fd_model::Status;
 use machine_events::{Limits, MachineEvent};
+use memchr::memchr;
 use propagate_queue::{Agenda, Cheapest, Fifo};
 use std::alloc::Global;
 use std::rc::Rc;
@@ -31,10 +33,14 @@ use term_pool::{AtomId, Pool};
 use text_verdict::Verdict;
 use wam_code::CodeArea;
 
-/// Writes the last lines of an output.
+/// Writes the last lines of an output. Takes no memory.
 pub fn put_last<K: Sink>(sink: &mut K, lines: &[u8], status: Status) -> Status
-    ensures { Ending (sink_at (K.written sink.old) (K.faults sink.old)) (sink_at (K.written
-        sink.new) (K.faults sink.new)) result status lines.now }
+    ensures ending { WroteOutput (sink_at (K.written sink.old) (K.faults sink.old))
+        (sink_at (K.written sink.new) (K.faults sink.new)) result status lines.now }
+
+    // Each line was handed over as a piece.
+    ensures pieces { HandedEnding (K.handed sink.old) (K.handed sink.new) result
+        (lines_of lines.now) }
 {
     match put_lines(sink, lines) {
         Ok(()) => status,
@@ -42,24 +48,42 @@ pub fn put_last<K: Sink>(sink: &mut K, lines: &[u8], status: Status) -> Status
     }
 }
 
+/// The first line, with the newline that ends it if there is one.
+fn first_line(text: &[u8]) -> &[u8]
+    ensures line { result.now ≡ first_line text.now }
+    ensures within { length result.now ≤ length text.now }
+    ensures some { 0 < length text.now → 0 < length result.now }
+{
+    match memchr(b'\n', text) {
+        Some(at) => &text[..at + 1],
+        None => text,
+    }
+}
+
 /// Writes lines, each as a piece of its own.
 fn put_lines<K: Sink>(sink: &mut K, lines: &[u8]) -> Result<(), Fault>
-    ensures { Wrote (sink_at (K.written sink.old) (K.faults sink.old)) (sink_at (K.written sink.new)
-        (K.faults sink.new)) result lines.now }
+    ensures gave { Gave
+        (sink_seen (K.written sink.old) (K.faults sink.old) (K.handed sink.old))
+        (sink_seen (K.written sink.new) (K.faults sink.new) (K.handed sink.new))
+        result (lines_of lines.now) }
+    ensures fault { IsOkUnless result Fault.WriteFault }
 {
     let mut left = lines;
-    'lines: while let Some(end) = left.iter().position(|byte| *byte == b'\n') {
-        let (line, later) = left.split_at(end + 1);
+    'lines: while !left.is_empty() {
+        let line = first_line(left);
         put_line(sink, line)?;
-        left = later;
+        left = &left[line.len()..];
     }
-    put_line(sink, left)
+    Ok(())
 }
 
 /// Writes a line.
 fn put_line<K: Sink>(sink: &mut K, line: &[u8]) -> Result<(), Fault>
-    ensures { Wrote (sink_at (K.written sink.old) (K.faults sink.old)) (sink_at (K.written sink.new)
-        (K.faults sink.new)) result line.now }
+    ensures gave { Gave
+        (sink_seen (K.written sink.old) (K.faults sink.old) (K.handed sink.old))
+        (sink_seen (K.written sink.new) (K.faults sink.new) (K.handed sink.new))
+        result (line.now ∷ []) }
+    ensures fault { IsOkUnless result Fault.WriteFault }
 {
     Ok(write_all(sink, line)?)
 }
@@ -75,7 +99,7 @@ pub fn ending(event: &MachineEvent) -> Option<bool>
     }
 }
 
-/// Writes the line of an event, if it has one, and says how it ends a run, if it does.
+/// Writes the line or the text of an event, and says how it ends a run, if it does.
 fn put_event<K: Sink>(
     alloc: Global,
     pool: &Pool,
@@ -85,9 +109,10 @@ fn put_event<K: Sink>(
 ) -> Result<Option<bool>, Fault>
     requires names { All (λ a. a.number < length pool.now.names) names.now }
     requires terms { HasTerms (length names.now) event }
-    ensures wrote { Wrote (sink_at (K.written sink.old) (K.faults sink.old)) (sink_at (K.written
-        sink.new) (K.faults sink.new)) result
-        (event_bytes (event_of (map (atom_name pool.now) names.now) event)) }
+    ensures gave { Gave
+        (sink_seen (K.written sink.old) (K.faults sink.old) (K.handed sink.old))
+        (sink_seen (K.written sink.new) (K.faults sink.new) (K.handed sink.new))
+        result (event_bytes (event_of (map (atom_name pool.now) names.now) event) ∷ []) }
     ensures ending { IfOk result (IsEnding event) }
 {
     let text = event_text(alloc, pool, names, &event)?;
@@ -106,15 +131,17 @@ fn put_events<A: Agenda + Drop, K: Sink>(
 ) -> Result<bool, Fault>
     requires names { All (λ a. a.number < length pool.now.names) names.now }
     requires own { map (atom_name pool.now) names.now ≡ names_of machine.old }
-    ensures wrote { (es : List Event) (r : ℕ) → StandsFor machine.old es r
-        → Wrote (sink_at (K.written sink.old) (K.faults sink.old)) (sink_at (K.written sink.new)
-        (K.faults sink.new)) result (events_bytes es) }
+    ensures gave { (es : List Event) (r : ℕ) → StandsFor machine.old es r → Gave
+        (sink_seen (K.written sink.old) (K.faults sink.old) (K.handed sink.old))
+        (sink_seen (K.written sink.new) (K.faults sink.new) (K.handed sink.new))
+        result (map event_bytes es) }
     ensures stopped { (es : List Event) (r : ℕ) → StandsFor machine.old es r → IfOk result
         (λ stopped. stopped ≡ is_stop es) }
-    ensures front { (out : List ℕ) × Wrote (sink_at (K.written sink.old) (K.faults sink.old))
-        (sink_at (K.written sink.new) (K.faults sink.new)) result out }
-    ensures last { IfOk result
-        (LastBy machine.old.area machine.old.query machine.old.limits) }
+    ensures front { (pieces : List (List ℕ)) × Gave
+        (sink_seen (K.written sink.old) (K.faults sink.old) (K.handed sink.old))
+        (sink_seen (K.written sink.new) (K.faults sink.new) (K.handed sink.new))
+        result pieces }
+    ensures last { IfOk result (LastFrom machine.old) }
 {
     'events: loop {
         let event = machine.next()?;
@@ -136,15 +163,19 @@ fn put_run<A: Agenda + Drop, K: Sink>(
     requires query { query < length code.now.value.queries }
     requires limit { IsLimit options.answers }
     requires infinity { (1 ≤ options.infinity) × (options.infinity ≤ TOP) }
-    ensures wrote { (es : List Event) (r : ℕ)
+    ensures gave { (es : List Event) (r : ℕ)
         → IsRunBy options.infinity code.now.value query options.steps options.answers es r
-        → Wrote (sink_at (K.written sink.old) (K.faults sink.old)) (sink_at (K.written sink.new)
-        (K.faults sink.new)) result (events_bytes es) }
+        → Gave
+        (sink_seen (K.written sink.old) (K.faults sink.old) (K.handed sink.old))
+        (sink_seen (K.written sink.new) (K.faults sink.new) (K.handed sink.new))
+        result (map event_bytes es) }
     ensures stopped { (es : List Event) (r : ℕ)
         → IsRunBy options.infinity code.now.value query options.steps options.answers es r
         → IfOk result (λ stopped. stopped ≡ is_stop es) }
-    ensures front { (out : List ℕ) × Wrote (sink_at (K.written sink.old) (K.faults sink.old))
-        (sink_at (K.written sink.new) (K.faults sink.new)) result out }
+    ensures front { (pieces : List (List ℕ)) × Gave
+        (sink_seen (K.written sink.old) (K.faults sink.old) (K.handed sink.old))
+        (sink_seen (K.written sink.new) (K.faults sink.new) (K.handed sink.new))
+        result pieces }
     ensures last { IfOk result (LastBy code.now.value query (limits_of options)) }
 {
     let limits = Limits {
@@ -174,15 +205,19 @@ fn put_query<K: Sink>(
     requires query { query < length code.now.value.queries }
     requires limit { IsLimit options.answers }
     requires infinity { (1 ≤ options.infinity) × (options.infinity ≤ TOP) }
-    ensures wrote { (es : List Event) (r : ℕ)
+    ensures gave { (es : List Event) (r : ℕ)
         → IsRunBy options.infinity code.now.value query options.steps options.answers es r
-        → Wrote (sink_at (K.written sink.old) (K.faults sink.old)) (sink_at (K.written sink.new)
-        (K.faults sink.new)) result (events_bytes es) }
+        → Gave
+        (sink_seen (K.written sink.old) (K.faults sink.old) (K.handed sink.old))
+        (sink_seen (K.written sink.new) (K.faults sink.new) (K.handed sink.new))
+        result (map event_bytes es) }
     ensures stopped { (es : List Event) (r : ℕ)
         → IsRunBy options.infinity code.now.value query options.steps options.answers es r
         → IfOk result (λ stopped. stopped ≡ is_stop es) }
-    ensures front { (out : List ℕ) × Wrote (sink_at (K.written sink.old) (K.faults sink.old))
-        (sink_at (K.written sink.new) (K.faults sink.new)) result out }
+    ensures front { (pieces : List (List ℕ)) × Gave
+        (sink_seen (K.written sink.old) (K.faults sink.old) (K.handed sink.old))
+        (sink_seen (K.written sink.new) (K.faults sink.new) (K.handed sink.new))
+        result pieces }
     ensures last { IfOk result (LastBy code.now.value query (limits_of options)) }
 {
     match options.agenda {
@@ -200,15 +235,23 @@ fn put_queries<K: Sink>(
 ) -> Result<bool, Fault>
     requires limit { IsLimit options.answers }
     requires infinity { (1 ≤ options.infinity) × (options.infinity ≤ TOP) }
-    ensures wrote { (prog : AnyProgram) (out : List ℕ) (stop : Bool) → RunsProgram code prog
-        → Queries TOP options.infinity prog options.steps options.answers 1 prog.queries out stop
-        → Wrote (sink_at (K.written sink.old) (K.faults sink.old)) (sink_at (K.written sink.new)
-        (K.faults sink.new)) result out }
-    ensures stopped { (prog : AnyProgram) (out : List ℕ) (stop : Bool) → RunsProgram code prog
-        → Queries TOP options.infinity prog options.steps options.answers 1 prog.queries out stop
+    ensures gave { (prog : AnyProgram) (pieces : List (List ℕ)) (stop : Bool)
+        → RunsProgram code prog
+        → QueryPieces TOP options.infinity prog options.steps options.answers 1 prog.queries pieces
+        stop
+        → Gave
+        (sink_seen (K.written sink.old) (K.faults sink.old) (K.handed sink.old))
+        (sink_seen (K.written sink.new) (K.faults sink.new) (K.handed sink.new))
+        result pieces }
+    ensures stopped { (prog : AnyProgram) (pieces : List (List ℕ)) (stop : Bool)
+        → RunsProgram code prog
+        → QueryPieces TOP options.infinity prog options.steps options.answers 1 prog.queries pieces
+        stop
         → IfOk result (λ stopped. stopped ≡ stop) }
-    ensures front { (out : List ℕ) × Wrote (sink_at (K.written sink.old) (K.faults sink.old))
-        (sink_at (K.written sink.new) (K.faults sink.new)) result out }
+    ensures front { (pieces : List (List ℕ)) × Gave
+        (sink_seen (K.written sink.old) (K.faults sink.old) (K.handed sink.old))
+        (sink_seen (K.written sink.new) (K.faults sink.new) (K.handed sink.new))
+        result pieces }
     ensures last { IfOk result (HasLast code (limits_of options)) }
 {
     let count = code.queries();
@@ -232,6 +275,11 @@ pub fn answer_code<K: Sink>(alloc: Global, code: CodeArea, options: Options, sin
         → Queries TOP options.infinity prog options.steps options.answers 1 prog.queries out stop
         → Ending (sink_at (K.written sink.old) (K.faults sink.old)) (sink_at (K.written sink.new)
         (K.faults sink.new)) result (stop_status stop) out }
+    ensures pieces { (prog : AnyProgram) (pieces : List (List ℕ)) (stop : Bool)
+        → RunsProgram code prog
+        → QueryPieces TOP options.infinity prog options.steps options.answers 1 prog.queries pieces
+        stop
+        → HandedEnding (K.handed sink.old) (K.handed sink.new) result pieces }
     ensures front { (out : List ℕ) × (stop : Bool)
         × Ending (sink_at (K.written sink.old) (K.faults sink.old)) (sink_at (K.written sink.new)
         (K.faults sink.new)) result (stop_status stop) out }
@@ -254,11 +302,15 @@ fn answer_program<K: Sink>(
 ) -> Status
     requires limit { IsLimit options.answers }
     requires infinity { (1 ≤ options.infinity) × (options.infinity ≤ TOP) }
-    ensures { (out : List ℕ) (stop : Bool)
+    ensures output { (out : List ℕ) (stop : Bool)
         → Queries TOP options.infinity (program_in program) options.steps options.answers 1
         (program_in program).queries out stop
         → Ending (sink_at (K.written sink.old) (K.faults sink.old)) (sink_at (K.written sink.new)
         (K.faults sink.new)) result (stop_status stop) out }
+    ensures pieces { (pieces : List (List ℕ)) (stop : Bool)
+        → QueryPieces TOP options.infinity (program_in program) options.steps options.answers 1
+        (program_in program).queries pieces stop
+        → HandedEnding (K.handed sink.old) (K.handed sink.new) result pieces }
 {
     program.known();
     match compile(alloc, program) {
@@ -272,10 +324,15 @@ fn put_output<K: Sink>(alloc: Global, verdict: Verdict, options: Options, sink: 
     requires names { HasNames verdict }
     requires limit { IsLimit options.answers }
     requires infinity { (1 ≤ options.infinity) × (options.infinity ≤ TOP) }
-    ensures { (out : List ℕ) (st : Status) → VerdictOutput TOP options.infinity (verdict_of verdict)
-        options.steps options.answers out st
+    ensures output { (out : List ℕ) (st : Status)
+        → VerdictOutput TOP options.infinity (verdict_of verdict) options.steps options.answers
+        out st
         → Ending (sink_at (K.written sink.old) (K.faults sink.old)) (sink_at (K.written sink.new)
         (K.faults sink.new)) result st out }
+    ensures pieces { (pieces : List (List ℕ))
+        → VerdictPieces TOP options.infinity (verdict_of verdict) options.steps options.answers
+        pieces
+        → HandedEnding (K.handed sink.old) (K.handed sink.new) result pieces }
 {
     match verdict {
         Verdict::Accepted(program) => answer_program(alloc, program, options, sink),
@@ -300,11 +357,15 @@ pub fn answer<K: Sink>(
     requires names { IfOk verdict HasNames }
     requires limit { IsLimit options.answers }
     requires infinity { (1 ≤ options.infinity) × (options.infinity ≤ TOP) }
-    ensures { (out : List ℕ) (st : Status)
+    ensures output { (out : List ℕ) (st : Status)
         → IfOk verdict (λ v. VerdictOutput TOP options.infinity (verdict_of v)
         options.steps options.answers out st)
         → Ending (sink_at (K.written sink.old) (K.faults sink.old)) (sink_at (K.written sink.new)
         (K.faults sink.new)) result st out }
+    ensures pieces { (pieces : List (List ℕ))
+        → IfOk verdict (λ v. VerdictPieces TOP options.infinity (verdict_of v) options.steps
+        options.answers pieces)
+        → HandedEnding (K.handed sink.old) (K.handed sink.new) result pieces }
 {
     match verdict {
         Ok(verdict) => put_output(alloc, verdict, options, sink),

@@ -1,3 +1,4 @@
 mod AcceptedWords
 mod OneOutput
+mod OutputPieces
 mod Endings

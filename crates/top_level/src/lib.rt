@@ -34,7 +34,7 @@ fn answer_source<S: Source, K: Sink>(
         → Headline words
         (ends (S.left source.old) (K.written sink.old) (S.faults source.old) (K.faults sink.old))
         (ends (S.left source.new) (K.written sink.new) (S.faults source.new) (K.faults sink.new))
-        result }
+        (K.handed sink.old) (K.handed sink.new) result }
 {
     match read_text(alloc, source) {
         Ok(text) => {
@@ -60,6 +60,8 @@ fn answer_source<S: Source, K: Sink>(
 /// a generated text (`--gen`), its run is summed up in four lines, and the source isn't touched; nor is it where the
 /// words are refused. Else it is read to its end, in bytes, and what the text is, a program or refused, is settled before
 /// the first byte is written. The status says which case it was: see `Status`.
+///
+/// Each line, and the text of each `write`, is one piece for the sink.
 pub fn run<S: Source, K: Sink>(
     alloc: Global,
     words: &[String],
@@ -69,7 +71,7 @@ pub fn run<S: Source, K: Sink>(
     ensures headline { Headline (map string_bytes words.now)
         (ends (S.left source.old) (K.written sink.old) (S.faults source.old) (K.faults sink.old))
         (ends (S.left source.new) (K.written sink.new) (S.faults source.new) (K.faults sink.new))
-        result }
+        (K.handed sink.old) (K.handed sink.new) result }
     ensures untouched { reads_source (options_of (map string_bytes words.now)) ≡ false
         → source.new ≡ source.old }
 {

@@ -29,7 +29,7 @@ returns-in-Err-TooLarge g c = λ words asks.
     let new : Ends = ends (g.S.Source.left c.read_text.new.src) (g.K.Sink.written c.answer.new.sink) (g.S.Source.faults c.read_text.new.src) (g.K.Sink.faults c.answer.new.sink) in
     let text = text_large old new just in
     with_answer words c.args.task asks old new c.answer.result (just_front _ _ _ just) text.0 text.1 kept
-    (large c.args.task _ c.answer.result text.0 text.2 (c.answer.ensures (refusal max_text (codes "too large")) Refused (large_output c.refused.result c.refused.ensures)))
+    (large c.args.task _ c.answer.result text.0 text.2 (c.answer.ensures.output (refusal max_text (codes "too large")) Refused (large_output c.refused.result c.refused.ensures)))
 
 pub returns-in-Err-NoMemory : goal.returns-in-Err-NoMemory
 returns-in-Err-NoMemory g c = λ words asks.

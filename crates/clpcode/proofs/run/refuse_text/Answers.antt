@@ -5,4 +5,4 @@ use Rattle.answer_text.specs.Reasons.{reason_text}
 use Rattle.clpcode.proofs.run.refuse_text.Goals as goal
 
 pub returns : goal.returns
-returns g c = c.answer.ensures (refusal c.args.place (reason_text c.args.pool c.args.reason)) Refused (refl, refl)
+returns g c = c.answer.ensures.output (refusal c.args.place (reason_text c.args.pool c.args.reason)) Refused (refl, refl)
