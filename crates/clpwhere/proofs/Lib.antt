@@ -1,5 +1,6 @@
 mod ByteParts
 mod PlaceWords
+mod BeforePlace
 mod ShownCharacters
 mod Pieces
 mod LineSteps

@@ -1,9 +1,9 @@
 -- The number of a line by that of a line before it.
-use Rattle.std.proofs.Common.{◌≡◌, ℕ, ◌+◌, ◌≤◌, cond, List, ◌++◌, take, drop, length, sym, ap, ap₂, ◌∙◌, arith}
+use Rattle.std.proofs.Common.{◌≡◌, ℕ, ◌+◌, ◌≤◌, cond, List, take, drop, sym, ap, ◌∙◌, arith}
 use Rattle.std.specs.Prelude.{count_by}
 use Rattle.std.proofs.lemmas.List.{take-append-drop, take-take}
 use Rattle.std.proofs.lemmas.List.Sums.{sum_by-append}
-use Rattle.clpwhere.specs.Lines.{is_newline}
+use Rattle.byte_ports.specs.Lines.{is_newline}
 use Rattle.clpwhere.specs.Places.{line_number}
 
 -- The newlines between two places are more.

@@ -1,13 +1,13 @@
 -- Lines that are read piece by piece.
-use Rattle.std.proofs.Common.{◌≡◌, ℕ, ◌<◌, Bool, true, false, cond, List, [], ◌∷◌, ◌++◌, length, refl, sym, ap, ◌∙◌, subst, arith, append_assoc, append-nil}
+use Rattle.std.proofs.Common.{◌≡◌, ℕ, ◌<◌, Bool, false, cond, List, [], ◌∷◌, ◌++◌, length, refl, sym, ap, ◌∙◌, subst, arith, append_assoc, append-nil}
 use Rattle.std.specs.Prelude.{◌||◌}
 use Rattle.std.specs.List.{flat_map, list_any, onto_first}
 use Rattle.std.proofs.lemmas.List.Folds.{list_any-append}
 use Rattle.std.proofs.lemmas.Bool.{or_parts}
-use Rattle.std.proofs.Math.Bool.{or-false}
+use Rattle.std.proofs.Math.Bool.{or-false, or_assoc}
 use Rattle.clpwhere.specs.declared.outcome.Fault.{Fault}
 use Rattle.clpwhere.specs.Parts.{TextParts}
-use Rattle.clpwhere.specs.Lines.{is_newline, lines_of}
+use Rattle.byte_ports.specs.Lines.{is_newline, lines_of}
 use Rattle.clpwhere.specs.MarkedLines.{is_refusal, is_refused, marked, marked_line}
 use Rattle.byte_ports.specs.Ends.{SinkState, WroteAll, WrotePart}
 use Rattle.clpwhere.specs.Endings.{CutBy, IsOpen, GaveAll}
@@ -81,10 +81,6 @@ pub cut_line : (text : TextParts) (a b : SinkState) (line : List ℕ) (e : Fault
 cut_line text a b line e o h rest = subst (CutBy a b e) (sym (marked-whole text line rest o)) (cut_longer a b (marked_line text (line ++ 10 ∷ [])) (marked text rest) e h)
 
 -- ---- more bytes
-
-or_assoc : (a b c : Bool) → ((a || b) || c) ≡ (a || (b || c))
-or_assoc true b c = refl
-or_assoc false b c = refl
 
 pub gave_then : (text : TextParts) (a b c : SinkState) (bytes line more next : List ℕ) (f g : Bool) → GaveAll text a b bytes line f
     → GaveAll text b c (line ++ more) next g → GaveAll text a c (bytes ++ more) next (f || g)

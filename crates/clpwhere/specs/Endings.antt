@@ -7,7 +7,7 @@ use Rattle.clpwhere.specs.declared.outcome.Fault.{Fault}
 use Rattle.clpwhere.specs.declared.outcome.Fault.TheVariants as fault
 use Rattle.clpwhere.specs.declared.outcome.Status.{Status}
 use Rattle.clpwhere.specs.declared.outcome.Status.TheVariants as status
-use Rattle.clpwhere.specs.Lines.{is_newline}
+use Rattle.byte_ports.specs.Lines.{is_newline}
 use Rattle.clpwhere.specs.MarkedLines.{marked, is_refused}
 use Rattle.clpwhere.specs.Parts.{TextParts}
 

@@ -1,6 +1,7 @@
 pub mod Parts
 pub mod Lines
 pub mod Places
+pub mod BeforePlace
 pub mod Reasons
 pub mod Refusals
 pub mod MarkedLines

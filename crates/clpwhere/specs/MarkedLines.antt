@@ -3,7 +3,9 @@ use Rattle.std.specs.Prelude.{ℕ, Bool, List, ◌++◌, is_some, codes, decimal
 use Rattle.std.specs.List.{flat_map, list_any}
 use Rattle.std.specs.Option.{option_map_or}
 use Rattle.clpwhere.specs.Parts.{TextParts}
-use Rattle.clpwhere.specs.Lines.{lines_of, without_newline}
+use Rattle.byte_ports.specs.Lines.{lines_of}
+use Rattle.clpwhere.specs.Lines.{without_newline}
+use Rattle.clpwhere.specs.BeforePlace.{read_before}
 use Rattle.clpwhere.specs.Places.{line_number, column_number, before_place, characters, from_place, shown_before, shown_from, indent}
 use Rattle.clpwhere.specs.Reasons.{reason_sentence}
 use Rattle.clpwhere.specs.Refusals.{Refusal, refusal_of}
@@ -28,7 +30,7 @@ abbrev pub told_at : TextParts → ℕ → List ℕ → List ℕ → List ℕ
 told_at text place words sentence = place_line text place words ++ (shown_lines text.bytes place ++ (sentence ++ codes "\n"))
 
 abbrev pub explained : TextParts → Refusal → List ℕ
-explained text r = told_at text r.place r.words (reason_sentence r.reason)
+explained text r = told_at text r.place r.words (reason_sentence r.reason (read_before text.bytes r.place))
 
 -- a line that tells a refusal is explained, and any other stays as it is
 abbrev pub marked_line : TextParts → List ℕ → List ℕ

@@ -6,7 +6,7 @@ use Rattle.std.specs.Char.{is_control}
 use Rattle.std.specs.List.{after_last, before_first}
 use Rattle.std.specs.Str.Lossy.{utf8_lossy}
 use Rattle.unicode_width.specs.Width.{str_width}
-use Rattle.clpwhere.specs.Lines.{is_newline}
+use Rattle.byte_ports.specs.Lines.{is_newline}
 
 -- one more than the newlines before the place
 abbrev pub line_number : List ℕ → ℕ → ℕ

@@ -1,13 +1,15 @@
 //! What the words of the command line ask for.
 
-ghost use Rattle.std.specs.Prelude.{◌≡◌, map, string_bytes, option_map, IfOk, MatchResult};
+ghost use Rattle.std.specs.Prelude.{◌≡◌, ◌≢◌, map, string_bytes, option_map, IfOk, OnErr, OnOk, MatchResult};
+ghost use Rattle.std.specs.IoError.{error_kind};
+ghost use Rattle.std.specs.declared.io.ErrorKind.TheVariants as kind;
 ghost use Rattle.clpwhere.specs.Words.{file_word, warn_word, IsWantedBy};
 
 use crate::text::NamedText;
 use fd_language::NoMemory;
 use std::alloc::Global;
 use std::fs;
-use std::io::ErrorKind;
+use std::io::{Error, ErrorKind};
 use std::rt::Files;
 
 /// What the words ask for, where it isn't warnings of a text.
@@ -52,6 +54,17 @@ fn warn_word(words: &[String]) -> Option<&String>
     }
 }
 
+/// Answers want of memory where an error of std is that.
+pub(crate) fn check_memory(error: &Error) -> Result<(), NoMemory>
+    ensures wanting { OnErr result (error_kind error.now ≡ kind.OutOfMemory) }
+    ensures other { OnOk result (error_kind error.now ≢ kind.OutOfMemory) }
+{
+    match error.kind() {
+        ErrorKind::OutOfMemory => Err(NoMemory),
+        _ => Ok(()),
+    }
+}
+
 /// The text of the file with this name, or the name where the file can't be read.
 fn read_file<R: Files + AllocGlobal>(
     rt: &R,
@@ -63,8 +76,10 @@ fn read_file<R: Files + AllocGlobal>(
     let name = String::from_str(rt.alloc(), word)?;
     match fs::read(rt, name.as_str()) {
         Ok(bytes) => Ok(Ok(NamedText::new(name, bytes))),
-        Err(error) if error.kind() == ErrorKind::OutOfMemory => Err(NoMemory),
-        Err(_) => Ok(Err(name)),
+        Err(error) => {
+            check_memory(&error)?;
+            Ok(Err(name))
+        }
     }
 }
 

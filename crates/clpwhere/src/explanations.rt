@@ -144,7 +144,7 @@ fn explained(alloc: Global, text: &NamedText, refusal: &Refusal<'_>) -> Result<V
     ensures { IfOk result (λ out. out.items ≡ explained text.now (seen refusal.now)) }
 {
     let line = text.line(refusal.place);
-    let sentence = refusal.reason.sentence();
+    let sentence = refusal.reason.sentence(text.bytes(), refusal.place);
     told_at(alloc, text, refusal.place, line, refusal.words, sentence)
 }
 

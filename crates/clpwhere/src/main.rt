@@ -8,6 +8,7 @@ ghost use Rattle.clpwhere.specs.declared.outcome.Status.TheVariants as ended;
 ghost use Rattle.clpwhere.specs.Endings.{Ending};
 ghost use Rattle.clpwhere.specs.Headline.{unreadable, Headline, NeedsNoInput};
 
+mod before_place;
 mod command;
 mod copy;
 mod explanations;
@@ -18,6 +19,7 @@ mod refusal;
 mod text;
 mod warnings;
 
+use crate::command::check_memory;
 pub use crate::command::{Asked, Wanted, read_wanted};
 use crate::copy::copy_input;
 pub use crate::outcome::Status;
@@ -28,7 +30,6 @@ use fd_language::NoMemory;
 use std::alloc::Global;
 use std::env;
 use std::env::{Args, Env};
-use std::io::ErrorKind;
 use std::process::ExitCode;
 
 /// Writes the last piece of an output.
@@ -93,8 +94,10 @@ fn behind_name(alloc: Global, mut all: Args) -> Result<Vec<String>, NoMemory>
 fn words<R: Env + AllocGlobal>(rt: &R) -> Result<Vec<String>, NoMemory> {
     match env::args(rt) {
         Ok(all) => behind_name(rt.alloc(), all),
-        Err(error) if error.kind() == ErrorKind::OutOfMemory => Err(NoMemory),
-        Err(_) => Ok(Vec::new(rt.alloc())),
+        Err(error) => {
+            check_memory(&error)?;
+            Ok(Vec::new(rt.alloc()))
+        }
     }
 }
 

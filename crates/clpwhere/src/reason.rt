@@ -1,7 +1,10 @@
 //! The reasons of refusals.
 
 ghost use Rattle.std.specs.Prelude.{◌≡◌};
+ghost use Rattle.clpwhere.specs.BeforePlace.{read_before};
 ghost use Rattle.clpwhere.specs.Reasons.{is_told_by, reason_of, reason_sentence, reason_words};
+
+use crate::before_place::read_before;
 
 /// Why a text is refused.
 #[derive(Clone, Copy, Debug, PartialEq, Eq)]
@@ -105,9 +108,9 @@ impl Reason {
         }
     }
 
-    /// The sentence that explains it.
-    pub fn sentence(self) -> &'static str
-        ensures { result.now ≡ reason_sentence self }
+    /// The sentence that explains it at a place of a text.
+    pub fn sentence(self, text: &[u8], place: usize) -> &'static str
+        ensures { result.now ≡ reason_sentence self (read_before text.now place) }
     {
         match self {
             Reason::TooLarge => "A text has at most 16777216 bytes.",
@@ -120,8 +123,7 @@ impl Reason {
             Reason::FloatOut => "Numbers are integers: none has a fraction.",
             Reason::StringOut =>
                 "Texts in double quotes aren't part of the language; a name may stand in single quotes.",
-            Reason::Syntax =>
-                "Behind a whole term (a name, a variable, a number, closed brackets) this place wants an operator, a comma, a bar, a closing bracket or the full stop, and elsewhere a term. Often a comma or the full stop is missing just before it.",
+            Reason::Syntax => read_before(text, place).sentence(),
             Reason::TooDeep => "At most 1000 brackets may be open at once.",
             Reason::ArityOver255 => "A compound term has at most 255 arguments.",
             Reason::BadHead =>

@@ -68,7 +68,7 @@ fn a_wide_character_moves_the_caret_by_two(rt: HostRuntime) -> Result<(), Fail> 
         rt.alloc(),
         "'漢' :- $.",
         "refused at 9: syntax",
-        "t.pl:1:8: syntax\n'漢' :- $.\n        ^\nBehind a whole term (a name, a variable, a number, closed brackets) this place wants an operator, a comma, a bar, a closing bracket or the full stop, and elsewhere a term. Often a comma or the full stop is missing just before it.\n",
+        "t.pl:1:8: syntax\n'漢' :- $.\n        ^\nBehind an operator this place wants a term, and behind a whole term an operator, a comma, a bar, a closing bracket or the full stop. Often a comma or the full stop is missing just before it.\n",
         Status::Refused,
     )
 }
@@ -76,7 +76,7 @@ fn a_wide_character_moves_the_caret_by_two(rt: HostRuntime) -> Result<(), Fail> 
 #[test]
 fn a_place_at_the_end_is_behind_the_last_line(rt: HostRuntime) -> Result<(), Fail> {
     let sentence =
-        "Behind a whole term (a name, a variable, a number, closed brackets) this place wants an operator, a comma, a bar, a closing bracket or the full stop, and elsewhere a term. Often a comma or the full stop is missing just before it.";
+        "A whole term ends just before this place, which wants an operator, a comma, a bar, a closing bracket or the full stop that fits there. Often a comma or the full stop is missing just before it.";
     let output = format!(in rt.alloc(); "t.pl:2:1: syntax\n\n^\n{sentence}\n")?;
     gives(
         &rt,
@@ -85,6 +85,73 @@ fn a_place_at_the_end_is_behind_the_last_line(rt: HostRuntime) -> Result<(), Fai
         "refused at 13: syntax\n",
         output.as_str(),
         Status::Refused,
+    )
+}
+
+/// A text that is refused as `syntax` at a place has these three lines and the sentence.
+fn tells_syntax(
+    rt: &impl Abort,
+    alloc: Global,
+    text: &str,
+    place: usize,
+    lines: &str,
+    sentence: &str,
+) -> Result<(), Fail> {
+    let input = format!(in alloc; "refused at {place}: syntax\n")?;
+    let output = format!(in alloc; "{lines}{sentence}\n")?;
+    gives(
+        rt,
+        alloc,
+        text,
+        input.as_str(),
+        output.as_str(),
+        Status::Refused,
+    )
+}
+
+#[test]
+fn behind_a_whole_term_the_sentence_names_what_may_follow(rt: HostRuntime) -> Result<(), Fail> {
+    tells_syntax(
+        &rt,
+        rt.alloc(),
+        "p(X) :- q([X]) /* and */\n    r(X).\n",
+        29,
+        "t.pl:2:5: syntax\n    r(X).\n    ^\n",
+        "A whole term ends just before this place, which wants an operator, a comma, a bar, a closing bracket or the full stop that fits there. Often a comma or the full stop is missing just before it.",
+    )
+}
+
+#[test]
+fn behind_a_comma_the_sentence_wants_a_term(rt: HostRuntime) -> Result<(), Fail> {
+    tells_syntax(
+        &rt,
+        rt.alloc(),
+        "p(1, ).\n",
+        5,
+        "t.pl:1:6: syntax\np(1, ).\n     ^\n",
+        "This place wants a term: a name, a variable, a number or an opening bracket.",
+    )
+}
+
+#[test]
+fn behind_a_name_and_inside_a_token_the_sentence_names_both(rt: HostRuntime) -> Result<(), Fail> {
+    let both =
+        "Behind an operator this place wants a term, and behind a whole term an operator, a comma, a bar, a closing bracket or the full stop. Often a comma or the full stop is missing just before it.";
+    tells_syntax(
+        &rt,
+        rt.alloc(),
+        "p :- q r.\n",
+        7,
+        "t.pl:1:8: syntax\np :- q r.\n       ^\n",
+        both,
+    )?;
+    tells_syntax(
+        &rt,
+        rt.alloc(),
+        "p(12).\n",
+        3,
+        "t.pl:1:4: syntax\np(12).\n   ^\n",
+        both,
     )
 }
 

@@ -2,7 +2,7 @@
 
 ghost use Rattle.std.specs.Prelude.{◌≡◌, ◌≤◌, ◌==◌, take, length, count_by, string_bytes};
 ghost use Rattle.std.specs.List.{after_last, before_first};
-ghost use Rattle.clpwhere.specs.Lines.{is_newline};
+ghost use Rattle.byte_ports.specs.Lines.{is_newline};
 ghost use Rattle.clpwhere.specs.Places.{line_number, before_place, from_place};
 
 use memchr::{memchr, memrchr};

@@ -1,4 +1,4 @@
-use Rattle.std.proofs.Common.{◌≡◌, ◌<◌, ◌+◌, ◌≤◌, ◌++◌, ℕ, List, length, map, take, get_or, sym, ap, ◌∙◌, subst, arith, append_assoc}
+use Rattle.std.proofs.Common.{◌+◌, ◌≤◌, ◌++◌, ℕ, List, map, take, get_or, sym, ap, ◌∙◌, subst, arith, append_assoc}
 use Rattle.text_warnings.specs.declared.Warning.{Warning}
 use Rattle.text_warnings.specs.declared.Concern.TheVariants.{Single}
 use Rattle.text_warnings.specs.WarningViews.{warning_in}

@@ -1,7 +1,7 @@
 use Rattle.std.proofs.Common.{◌≡◌, ◌+◌, ◌-◌, ℕ, List, take, drop, length, ap, ap₂, ◌∙◌, arith}
 use Rattle.std.specs.Prelude.{count_by}
 use Rattle.std.proofs.lemmas.List.{drop_min, take_all, length-drop}
-use Rattle.clpwhere.specs.Lines.{is_newline}
+use Rattle.byte_ports.specs.Lines.{is_newline}
 use Rattle.clpwhere.proofs.LineNumbers.{lines_between}
 use Rattle.clpwhere.proofs.text.NamedText.line_behind.Goals as goal
 
