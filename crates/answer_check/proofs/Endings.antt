@@ -1,6 +1,6 @@
 -- How a check ends, from what its last call says.
-use Rattle.std.proofs.Common.{◌≡◌, ℕ, ◌+◌, ◌<◌, ◌≤◌, ◌⊎◌, inl, inr, List, [], ◌∷◌, ◌++◌, map, length, Option, Some, None, IsSome, refl, ap, sym, subst, ◌∙◌}
-use Rattle.std.proofs.Common.{arith, codes, Bool, true, false, length-append, append-nil}
+use Rattle.std.proofs.Common.{◌≡◌, ℕ, ◌+◌, ◌<◌, ◌≤◌, ◌⊎◌, inl, inr, List, [], ◌∷◌, ◌++◌, map, length, Option, refl, ap, sym, subst, ◌∙◌}
+use Rattle.std.proofs.Common.{arith, codes, Bool, true, false}
 use Rattle.std.specs.Prelude.{is_none, ◌&&◌}
 use Rattle.std.specs.List.{list_all}
 use Rattle.fd_language.specs.declared.TheConstants.{INFINITY}
@@ -13,28 +13,7 @@ use Rattle.answer_check.specs.declared.outcome.CheckStatus.TheVariants.{Good, Ba
 use Rattle.answer_check.specs.Headline.{IsDecided, usage, CheckOutput, IsInput, Ending, Headline}
 use Rattle.answer_check.specs.Inputs.{Checks, PutsRefusal}
 use Rattle.answer_check.specs.Judgement.{Judgement, refused, judged, is_in_order, good_status, judgement_output, judgement_status}
-
--- ---- texts
-
--- an input that was read to the end
-pub whole_text : (a b : Option (List ℕ)) (text : List ℕ) → Took a b text → IsAtEnd b → IsSome b → a ≡ Some text
-whole_text a None text t e s = absurd (cc (s))
-whole_text a (Some rest) text t e s = t ∙ ap (λ (r : List ℕ). Some (text ++ r)) e ∙ ap Some (append-nil text)
-
--- an input of which n bytes were read
-pub front_text : (a b : Option (List ℕ)) (n : ℕ) → ReadJust a b n → (text : List ℕ) × (IsSome b → a ≡ Some text) × (n ≤ length text)
-front_text a None n h = (h.0, (λ s. absurd (cc (s))), (let l = h.1 in omega (arith, l)))
-front_text a (Some rest) n h = (h.0 ++ rest, (λ s. h.2), (let l = h.1 in let k = length-append h.0 rest in omega (arith, l, k)))
-
-pub just_front : (a b : Option (List ℕ)) (n : ℕ) → ReadJust a b n → (front : List ℕ) × Took a b front
-just_front a b n h = (h.0, h.2)
-
-pub within_front : (a b : Option (List ℕ)) (n : ℕ) → ReadWithin a b n → (front : List ℕ) × Took a b front
-within_front a b n h = (h.0, h.2)
-
-none_took : (a : Option (List ℕ)) → (front : List ℕ) × Took a a front
-none_took None = ([], tt)
-none_took (Some x) = ([], refl)
+use Rattle.byte_ports.proofs.Lemmas.{whole_text, front_text, just_front, within_front, none_took}
 
 -- ---- the statuses of an output
 

@@ -13,6 +13,7 @@ use Rattle.fd_language.specs.Spelling.{read_range, not_a_range}
 use Rattle.fd_model.specs.Refusals.{range_refusal, or_later, unspelled, offence_refusal}
 use Rattle.answer_check.specs.FlatForm.{is_plain, is_flat_range}
 use Rattle.answer_check.specs.Goals.{is_left_out}
+use Rattle.std.proofs.Math.Bool.{or_assoc}
 
 abbrev any : List RangeNode → Bool
 any ns = list_any is_left_out ns
@@ -21,13 +22,9 @@ none_append : (xs ys : List ℕ) → not (is_none_left (xs ++ ys)) ≡ (not (is_
 none_append [] ys = refl
 none_append (x ∷ xs) ys = refl
 
-or_assoc : (a b c : Bool) → (a || (b || c)) ≡ ((a || b) || c)
-or_assoc true b c = refl
-or_assoc false b c = refl
-
 joined : (d e : Expr) (rest : List RangeNode) → (not (is_none_left (expr_params d)) || (not (is_none_left (expr_params e)) || any rest))
     ≡ (not (is_none_left (expr_params d ++ expr_params e)) || any rest)
-joined d e rest = or_assoc (not (is_none_left (expr_params d))) (not (is_none_left (expr_params e))) (any rest) ∙ ap (λ x. x || any rest) (sym (none_append (expr_params d) (expr_params e)))
+joined d e rest = sym (or_assoc (not (is_none_left (expr_params d))) (not (is_none_left (expr_params e))) (any rest)) ∙ ap (λ x. x || any rest) (sym (none_append (expr_params d) (expr_params e)))
 
 any_expr : (e : Expr) (rest : List RangeNode) → any (expr_nodes e rest) ≡ (not (is_none_left (expr_params e)) || any rest)
 any_expr (Number z) rest = refl

@@ -14,7 +14,7 @@ use Rattle.answer_check.specs.declared.outcome.Reason.TheVariants.{BadAnswer}
 use Rattle.answer_check.specs.declared.outcome.Stop.{Stop}
 use Rattle.answer_check.specs.declared.outcome.Stop.TheVariants.{Refused, NoMemory}
 use Rattle.answer_check.specs.AnswerLines.{is_last_line, behind_last, behind_row, AreAnswers}
-use Rattle.answer_check.specs.Lines.{first_line, lines_of}
+use Rattle.byte_ports.specs.Lines.{first_line, lines_of}
 use Rattle.answer_check.specs.Rows.{value_in, values_in, answer_in, IsRead, all_values, AreRows, StopsRows}
 use Rattle.answer_check.proofs.AnswerWords.{answer_of, no_answer, IsShownAll}
 use Rattle.answer_check.proofs.Lines.{lines_from}

@@ -7,20 +7,13 @@ use Rattle.fd_language.specs.PlacedTerm.{PlacedTerm, comp}
 use Rattle.fd_model.specs.Refusals.{query, clause, directive, fact, form_of, part_count}
 use Rattle.term_pool.specs.declared.TermId.{TermId}
 use Rattle.term_pool.specs.PlacedTerms.{parts_by}
-use Rattle.term_pool.proofs.Lemmas.{same_text}
 use Rattle.answer_check.specs.FlatForm.{conjuncts}
 use Rattle.answer_check.specs.TermShapes.{IsQueryForm}
+use Rattle.term_pool.proofs.Lemmas.{other_name}
 
 pub count_parts : (by : TermId → PlacedTerm) (ts : List TermId) → part_count (parts_by by ts) ≡ length ts
 count_parts by [] = refl
 count_parts by (t ∷ ts) = ap suc (count_parts by ts)
-
-pub other_name : (f g : Name) → (f ≡ g → ⊥) → bytes_eq f g ≡ false
-other_name f g h = go (bytes_eq f g) refl
-  where
-    go : (b : Bool) → bytes_eq f g ≡ b → b ≡ false
-    go true e = absurd (h (same_text f g e))
-    go false e = refl
 
 -- ---- one goal
 

@@ -22,7 +22,7 @@ use Rattle.answer_check.specs.Checks.{CanCheck}
 use Rattle.answer_check.specs.FlatForm.{FlatQuery}
 use Rattle.answer_check.specs.Inputs.{JudgesText, JudgesInput, Lists, Stops, CanTell, Reads, PutsRefusal, Checks}
 use Rattle.answer_check.specs.Judgement.{Judgement, refused, judged, JudgesAnswers, JudgesQuery, JudgesReading, JudgesParts, IsJudged}
-use Rattle.answer_check.specs.Lines.{lines_of}
+use Rattle.byte_ports.specs.Lines.{lines_of}
 use Rattle.answer_check.specs.Parts.{query_line}
 use Rattle.answer_check.specs.InputSplit.{IsSplitAt}
 use Rattle.answer_check.specs.Queries.{IsQuery, ReadsQuery}

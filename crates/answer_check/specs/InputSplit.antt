@@ -1,6 +1,6 @@
 -- An input split at the line that begins its second part.
 use Rattle.std.specs.Prelude.{◌≡◌, ℕ, ◌+◌, ◌≤◌, List, ◌++◌, length, take, drop, Some}
-use Rattle.answer_check.specs.Lines.{lines_of}
+use Rattle.byte_ports.specs.Lines.{lines_of}
 use Rattle.answer_check.specs.Parts.{parts_of, query_line}
 
 -- the line stands at this place

@@ -1,7 +1,7 @@
 -- The two parts of an input: a query's text, and behind the line `query 1` what was written for it.
 use Rattle.std.specs.Prelude.{ℕ, ◌+◌, List, [], ◌∷◌, ◌++◌, length, Option, Some, None, option_map, codes, if◌then◌else◌}
 use Rattle.std.specs.Str.{bytes_eq}
-use Rattle.answer_check.specs.Lines.{lines_of}
+use Rattle.byte_ports.specs.Lines.{lines_of}
 
 pub record Parts : Type 0 where
   pub text : List ℕ

@@ -7,14 +7,14 @@ ghost use Rattle.answer_check.specs.declared.outcome.Reason.TheVariants as reaso
 ghost use Rattle.answer_check.specs.declared.outcome.Stop.TheVariants as stop;
 ghost use Rattle.answer_check.specs.AnswerLines.{is_last_line};
 ghost use Rattle.answer_check.specs.FlatForm.{FlatQuery as Flat};
-ghost use Rattle.answer_check.specs.Lines.{lines_of};
+ghost use Rattle.byte_ports.specs.Lines.{lines_of};
 ghost use Rattle.answer_check.specs.Queries.{IsQuery};
 ghost use Rattle.answer_check.specs.Rows.{answer_in, behind, digits_of, number_in, value_in, FindsRows, IsRead, StopsRows};
 
 use crate::listed_answers::Answers;
 use crate::outcome::{Reason, Stop};
-use crate::parts::first_line;
 use crate::query::FlatQuery;
+use byte_ports::first_line;
 use fd_language::{INFINITY, NoMemory};
 use itoa::Buffer;
 use std::alloc::Global;

@@ -5,7 +5,7 @@ ghost use Rattle.std.specs.Prelude.{◌≡◌, ◌≤◌, ℕ, List, [], length,
 ghost use Rattle.byte_ports.specs.Ends.{ends, sink_at};
 ghost use Rattle.answer_check.specs.Headline.{Ending, Headline};
 ghost use Rattle.answer_check.specs.Inputs.{CanTell, Checks, JudgesInput, JudgesText, Lists, PutsRefusal, Reads, Stops};
-ghost use Rattle.answer_check.specs.Lines.{lines_of};
+ghost use Rattle.byte_ports.specs.Lines.{lines_of};
 ghost use Rattle.answer_check.specs.Refusals.{reason_text};
 
 mod answers;

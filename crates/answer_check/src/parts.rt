@@ -1,24 +1,13 @@
 //! The two parts of an input.
 
 ghost use Rattle.std.specs.Prelude.{◌≡◌, None, MatchOption};
-ghost use Rattle.answer_check.specs.Lines.{first_line, lines_of};
 ghost use Rattle.answer_check.specs.Parts.{parts_of};
 ghost use Rattle.answer_check.specs.InputSplit.{IsSplitAt};
 
-use memchr::memchr;
+use byte_ports::first_line;
 
 /// The line that begins the second part.
 pub(crate) const QUERY_LINE: &[u8] = b"query 1\n";
-
-/// The first line, with the newline that ends it if there is one.
-pub(crate) fn first_line(bytes: &[u8]) -> &[u8]
-    ensures { result.now ≡ first_line bytes.now }
-{
-    match memchr(b'\n', bytes) {
-        Some(at) => &bytes[..at + 1],
-        None => bytes,
-    }
-}
 
 /// The place of the first line that begins the second part.
 pub(crate) fn query_place(input: &[u8]) -> Option<usize>

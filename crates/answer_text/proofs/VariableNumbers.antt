@@ -170,15 +170,6 @@ inserted_twice ks js (v ∷ vs) = inserted_twice ks (with_number js v) vs ∙ ap
 pub inserted_distinct : (ks vs : List ℕ) → inserted ks (distinct vs) ≡ inserted ks vs
 inserted_distinct ks vs = ap (inserted ks) (distinct_append [] vs) ∙ inserted_twice ks [] vs
 
-has_met : (vs : List ℕ) (y : ℕ) → has vs y ≡ met y vs
-has_met [] y = refl
-has_met (v ∷ vs) y = ap (λ (c : Bool). c || has vs y) (same_number v y) ∙ ap (λ (c : Bool). (y == v) || c) (has_met vs y)
-
--- and they are all of them
-pub has_distinct : (vs : List ℕ) (y : ℕ) → has vs y ≡ true → has (distinct vs) y ≡ true
-has_distinct vs y e =
-    has_met (distinct vs) y ∙ ap (met y) (distinct_append [] vs) ∙ inserted_has y [] vs (sym (has_met vs y) ∙ e)
-
 -- ---- the variables of a line
 
 abbrev pub variables_in : List Term → List ℕ

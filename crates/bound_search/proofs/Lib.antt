@@ -7,3 +7,4 @@ mod Steps
 mod Work
 mod SearchSteps
 mod MemberChecks
+pub mod Lemmas

@@ -20,7 +20,7 @@ use Rattle.bound_search.specs.declared.search.Node.{Node}
 use Rattle.bound_search.specs.declared.best_leaf.SoFar.{SoFar}
 use Rattle.bound_search.specs.Members.{bound, Improves, IsNoBetter}
 use Rattle.bound_search.specs.SearchStates.{Wanted, IsNode, IsOpen, values_left, IsBestSoFar, IsSearching}
-use Rattle.bound_search.proofs.Numbers.{filter_from_low}
+use Rattle.domain_ranges.proofs.Lemmas.{filter_from_low}
 use Rattle.bound_search.proofs.Nodes.{node_left, cost_bound}
 
 -- what is among a node's values is worse better than its bound

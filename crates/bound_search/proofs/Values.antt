@@ -6,7 +6,7 @@ use Rattle.fd_model.specs.Members as seen
 use Rattle.label_search.specs.declared.Member.{Member}
 use Rattle.bound_search.specs.Members.{member_of, members_of}
 
-open_both : (ms ns : List seen.Member) → open_ones (ms ++ ns) ≡ open_ones ms ++ open_ones ns
+pub open_both : (ms ns : List seen.Member) → open_ones (ms ++ ns) ≡ open_ones ms ++ open_ones ns
 open_both [] ns = refl
 open_both (seen.Known z ∷ ms) ns = open_both ms ns
 open_both (seen.Open x ∷ ms) ns = ap (λ (xs : List ℕ). x ∷ xs) (open_both ms ns)

@@ -14,7 +14,7 @@ use Rattle.bound_search.specs.declared.search.Node.{Node}
 use Rattle.bound_search.specs.SearchStates.{Wanted, IsNode, IsOpen, values_left}
 use Rattle.bound_search.specs.Work.{open_count, tree_size, node_work, work}
 use Rattle.bound_search.proofs.Nodes.{node_left, node_some}
-use Rattle.bound_search.proofs.Numbers.{filter_from_low, rising_length}
+use Rattle.domain_ranges.proofs.Lemmas.{filter_from_low, rising_length}
 
 tree_next : (h : ℕ) → tree_size (suc h) ≡ (INFINITY + 3) * tree_size h
 unfolding tree_size

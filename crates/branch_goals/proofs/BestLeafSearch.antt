@@ -13,7 +13,7 @@ use Rattle.fd_language.specs.Term.{Term, Var, Int, Atom, Comp}
 use Rattle.fd_language.proofs.Lemmas.{has_map}
 use Rattle.fd_model.specs.declared.kinds.Order.{Order}
 use Rattle.fd_model.specs.declared.kinds.QueryFault.{QueryFault}
-use Rattle.fd_model.specs.declared.kinds.QueryFault.TheVariants.{BadType, Parameter}
+use Rattle.fd_model.specs.declared.kinds.QueryFault.TheVariants.{Parameter}
 use Rattle.fd_model.specs.Bounds.{bound}
 use Rattle.fd_model.specs.BestPosted.{IsCostOf, SoughtValues}
 use Rattle.fd_model.specs.Children.{cost_fault}
@@ -160,11 +160,11 @@ module _ (name : Naming) (h : Cells) (sets : List (List ℕ)) where
 
 -- ---- the cost
 
-pub cost_bad : (ms : List seen.Member) (t : Term) → as_member t ≡ Err BadType → cost_fault ms t ≡ Some BadType
-cost_bad ms (Var x) e = absurd (cc)
-cost_bad ms (Int z) e = absurd (cc)
-cost_bad ms (Atom a) e = refl
-cost_bad ms (Comp f ts) e = refl
+pub cost_bad : (ms : List seen.Member) (t : Term) (f : QueryFault) → as_member t ≡ Err f → cost_fault ms t ≡ Some f
+cost_bad ms (Var x) f e = absurd (cc)
+cost_bad ms (Int z) f e = absurd (cc)
+cost_bad ms (Atom a) f e = cc
+cost_bad ms (Comp g ts) f e = cc
 
 module _ (name : Naming) (h : Cells) (sets : List (List ℕ)) (ms : List seen.Member) (named : Named) (c : Cell) where
   abbrev In : Result Member QueryFault → Type 0

@@ -1,5 +1,5 @@
 -- Lists of a heap, node by node.
-use Rattle.std.proofs.Common.{◌≡◌, ℕ, zero, suc, ◌<◌, true, false, cond, ℤ, pos, codes, List, [], ◌∷◌, ◌++◌, length, get_or, Option, Some, None, Result, Ok}
+use Rattle.std.proofs.Common.{◌≡◌, ℕ, zero, suc, ◌<◌, true, false, cond, ℤ, pos, codes, List, [], ◌∷◌, ◌++◌, length, get_or, Some, None, Result, Ok}
 use Rattle.std.proofs.Common.{Err, inl, inr, refl, ap, sym, ◌∙◌, subst, arith, All}
 use Rattle.std.specs.Str.{bytes_eq}
 use Rattle.std.proofs.lemmas.Bool.{cases_Bool}
@@ -138,10 +138,10 @@ module _ (name : Naming) (h : Cells) (valid : IsHeap h) (sets : List (List ℕ))
   node_compound names f args j (Broken g) e s v = ap read_list (shown_compound name h valid G c f args j e s) ∙ v name names (seen_term name h G)
 
   -- the members by what is seen
-  pub member_free : (i : ℕ) → slot_at h i ≡ free → Same h c (cell.Ref i) → IsMemberOf name h sets c (Some member.Free)
+  pub member_free : (i : ℕ) → slot_at h i ≡ free → Same h c (cell.Ref i) → IsMemberOf name h sets c (Ok member.Free)
   member_free i e s = (seen.Open i, (ap as_member (shown_free name h valid G c i e s), (i, refl, ap link_of e)))
 
-  pub member_int : (z : ℤ) → Same h c (cell.Int z) → IsMemberOf name h sets c (Some (member.Fixed z))
+  pub member_int : (z : ℤ) → Same h c (cell.Int z) → IsMemberOf name h sets c (Ok (member.Fixed z))
   member_int z s = (seen.Known z, (ap as_member (shown_int name h valid G c z s), refl))
 
   open_member : (xs : List ℕ) (i : ℕ) → only xs ≡ None → is_none_left xs ≡ false → (as_member (value_in xs i) ≡ Ok (seen.Open i)) × (1 < length xs)
@@ -149,30 +149,26 @@ module _ (name : Naming) (h : Cells) (valid : IsHeap h) (sets : List (List ℕ))
   open_member (v ∷ []) i e s = absurd (cc)
   open_member (x ∷ y ∷ ys) i e s = (refl, omega arith)
 
-  pub member_fixed : (i k w : ℕ) → slot_at h i ≡ linked k → Same h c (cell.Ref i) → only (G k) ≡ Some w → IsMemberOf name h sets c (Some (member.Fixed (pos w)))
+  pub member_fixed : (i k w : ℕ) → slot_at h i ≡ linked k → Same h c (cell.Ref i) → only (G k) ≡ Some w → IsMemberOf name h sets c (Ok (member.Fixed (pos w)))
   member_fixed i k w e s o = (seen.Known (pos w), (ap as_member (shown_linked name h valid G c i k e s ∙ one_value (G k) w i o), refl))
 
-  pub member_variable : (i k : ℕ) → slot_at h i ≡ linked k → Same h c (cell.Ref i) → k < length sets → HasNoEmpty sets → only (G k) ≡ None → IsMemberOf name h sets c (Some (member.Var k))
+  pub member_variable : (i k : ℕ) → slot_at h i ≡ linked k → Same h c (cell.Ref i) → k < length sets → HasNoEmpty sets → only (G k) ≡ None → IsMemberOf name h sets c (Ok (member.Var k))
   member_variable i k e s low some o =
       let both = open_member (G k) i o (some k) in
       (seen.Open i, (ap as_member (shown_linked name h valid G c i k e s) ∙ both.0, (i, refl, ap link_of e, low, both.1)))
 
-  pub member_atom : (a : AtomId) → Same h c (cell.Atom a) → IsMemberOf name h sets c None
+  pub member_atom : (a : AtomId) → Same h c (cell.Atom a) → IsMemberOf name h sets c (Err BadType)
   member_atom a s = ap as_member (shown_atom name h valid G c a s)
 
-  pub member_compound : (f : AtomId) (args : List Cell) (j : ℕ) → compound_at h j ≡ record { name = f; args = args } → Same h c (cell.Struct j) → IsMemberOf name h sets c None
+  pub member_compound : (f : AtomId) (args : List Cell) (j : ℕ) → compound_at h j ≡ record { name = f; args = args } → Same h c (cell.Struct j) → IsMemberOf name h sets c (Err BadType)
   member_compound f args j e s = ap as_member (shown_compound name h valid G c f args j e s)
 
-  pub member_default : (v : Seen) → IsSeen h c v → ((i : ℕ) → v ≡ looks.Open i → ⊥) → ((i k : ℕ) → v ≡ looks.Constrained i k → ⊥) → ((z : ℤ) → v ≡ looks.Int z → ⊥) → IsMemberOf name h sets c None
+  pub member_default : (v : Seen) → IsSeen h c v → ((i : ℕ) → v ≡ looks.Open i → ⊥) → ((i k : ℕ) → v ≡ looks.Constrained i k → ⊥) → ((z : ℤ) → v ≡ looks.Int z → ⊥) → IsMemberOf name h sets c (Err BadType)
   member_default (looks.Open i) s a b z = absurd (a i refl)
   member_default (looks.Constrained i k) s a b z = absurd (b i k refl)
   member_default (looks.Int i) s a b z = absurd (z i refl)
   member_default (looks.Atom i) s a b z = member_atom i s
   member_default (looks.Struct f args) s a b z = member_compound f args.now s.0 s.2 s.3
-
-pub no_member : (name : Naming) (h : Cells) (sets : List (List ℕ)) (c : Cell) (o : Option Member) → ((m : Member) → o ≡ Some m → ⊥) → IsMemberOf name h sets c o → IsMemberOf name h sets c None
-no_member name h sets c None n i = i
-no_member name h sets c (Some m) n i = absurd (n m refl)
 
 -- ---- the walk
 
@@ -214,7 +210,7 @@ are_more name h sets (d ∷ cs) (y ∷ ms) [] c m s a own i = absurd a
 are_more name h sets (d ∷ cs) (y ∷ ms) (x ∷ ss) c m s a own i = (a.0, a.1, are_more name h sets cs ms ss c m s a.2 own i)
 
 pub walk_more : (name : Naming) (h : Cells) (sets : List (List ℕ)) (list : Cell) (cells : List Cell) (members : List Member) (at a b : Cell) (m : Member)
-    → IsListNaming name → IsWalked name h sets list cells members at → IsNode name h sets at (Pair a b) → IsMemberOf name h sets a (Some m)
+    → IsListNaming name → IsWalked name h sets list cells members at → IsNode name h sets at (Pair a b) → IsMemberOf name h sets a (Ok m)
     → IsWalked name h sets list (cells ++ a ∷ []) (members ++ m ∷ []) b
 walk_more name h sets list cells members at a b m names w n i = record {
   own = n.1;
@@ -229,7 +225,7 @@ walk_more name h sets list cells members at a b m names w n i = record {
 }
 
 pub more_front : (name : Naming) (h : Cells) (sets : List (List ℕ)) (list : Cell) (cells : List Cell) (members : List Member) (at a b : Cell) (m : Member)
-    (names : IsListNaming name) (w : IsWalked name h sets list cells members at) (n : IsNode name h sets at (Pair a b)) (i : IsMemberOf name h sets a (Some m))
+    (names : IsListNaming name) (w : IsWalked name h sets list cells members at) (n : IsNode name h sets at (Pair a b)) (i : IsMemberOf name h sets a (Ok m))
     → (walk_more name h sets list cells members at a b m names w n i).front ≡ w.front ++ i.0 ∷ []
 unfolding walk_more
 more_front name h sets list cells members at a b m names w n i = refl
@@ -237,7 +233,7 @@ more_front name h sets list cells members at a b m names w n i = refl
 -- the same with what two pushes give
 pub walk_pushed : (name : Naming) (h : Cells) (sets : List (List ℕ)) (list : Cell) (cells cells' : List Cell) (members members' : List Member) (at a b : Cell)
     (m : Member) → cells' ≡ cells ++ a ∷ [] → members' ≡ members ++ m ∷ [] → IsListNaming name → IsWalked name h sets list cells members at
-    → IsNode name h sets at (Pair a b) → IsMemberOf name h sets a (Some m)
+    → IsNode name h sets at (Pair a b) → IsMemberOf name h sets a (Ok m)
     → IsWalked name h sets list cells' members' b
 walk_pushed name h sets list cells cells' members members' at a b m e f names w n i =
     subst (λ xs. IsWalked name h sets list xs members' b) (sym e)
@@ -252,18 +248,18 @@ pub walk_broken : (name : Naming) (h : Cells) (sets : List (List ℕ)) (list : C
     → IsWalked name h sets list cells members at → IsNode name h sets at (Broken f) → read_list (seen_term name h (family_of sets) list) ≡ Err f
 walk_broken name h sets list cells members at f w n = w.rest ∙ ap (joined w.front) n
 
-bad_first : (r : Result (List seen.Member) QueryFault) → of_both prepend (Err BadType) r ≡ Err BadType
-bad_first (Err f) = refl
-bad_first (Ok ms) = refl
+bad_first : (f : QueryFault) (r : Result (List seen.Member) QueryFault) → of_both prepend (Err f) r ≡ Err f
+bad_first f (Err g) = refl
+bad_first f (Ok ms) = refl
 
-pub walk_bad : (name : Naming) (h : Cells) (sets : List (List ℕ)) (list : Cell) (cells : List Cell) (members : List Member) (at a b : Cell) → IsListNaming name
-    → IsWalked name h sets list cells members at → IsNode name h sets at (Pair a b) → IsMemberOf name h sets a None
-    → read_list (seen_term name h (family_of sets) list) ≡ Err BadType
-walk_bad name h sets list cells members at a b names w n i =
+pub walk_bad : (name : Naming) (h : Cells) (sets : List (List ℕ)) (list : Cell) (cells : List Cell) (members : List Member) (at a b : Cell) (f : QueryFault)
+    → IsListNaming name → IsWalked name h sets list cells members at → IsNode name h sets at (Pair a b) → IsMemberOf name h sets a (Err f)
+    → read_list (seen_term name h (family_of sets) list) ≡ Err f
+walk_bad name h sets list cells members at a b f names w n i =
     w.rest
     ∙ ap (λ t. joined w.front (read_list t)) n.2
     ∙ ap (joined w.front) (read_pair name names (seen_term name h (family_of sets) a) (seen_term name h (family_of sets) b)
-    ∙ ap (λ r. of_both prepend r (read_list (seen_term name h (family_of sets) b))) i ∙ bad_first (read_list (seen_term name h (family_of sets) b)))
+    ∙ ap (λ r. of_both prepend r (read_list (seen_term name h (family_of sets) b))) i ∙ bad_first f (read_list (seen_term name h (family_of sets) b)))
 
 pub walk_end : (name : Naming) (h : Cells) (sets : List (List ℕ)) (list : Cell) (cells : List Cell) (members : List Member) (at : Cell) → IsListNaming name
     → (w : IsWalked name h sets list cells members at) → IsNode name h sets at Empty → read_list (seen_term name h (family_of sets) list) ≡ Ok w.front

@@ -8,7 +8,6 @@ use Rattle.fd_language.specs.Family.{has}
 use Rattle.fd_language.proofs.Lemmas.{has_either, in_right}
 use Rattle.fd_model.specs.Labelling.{open_ones}
 use Rattle.fd_model.specs.Members as seen
-use Rattle.fd_model.specs.Members.{as_member}
 use Rattle.heap_cells.specs.Cells.{Cells}
 use Rattle.heap_cells.specs.Terms.{Naming}
 use Rattle.branch_lemmas.specs.Frames.{link_in}
@@ -17,6 +16,7 @@ use Rattle.bound_search.specs.Members.{IsOwn, member_of}
 use Rattle.label_search.specs.declared.Member.{Member}
 use Rattle.label_search.specs.declared.Member.TheVariants as member
 use Rattle.branch_goals.specs.Searches.{firsts, own_by, IsOpenCell, AreNamed}
+use Rattle.bound_search.proofs.Lemmas.{open_both}
 
 -- ---- the variables of the store of some of the heap
 
@@ -67,11 +67,6 @@ looked_here (q ∷ ps) (suc i) d v l f h = by_test (q.0 == v) h (λ k. looked_he
 pub firsts_more : (ps : List (ℕ × ℕ)) (c k : ℕ) → firsts (ps ++ (c, k) ∷ []) ≡ firsts ps ++ c ∷ []
 firsts_more ps c k = map-append (λ (p : ℕ × ℕ). p.0) ps ((c, k) ∷ [])
 
-pub open_more : (ms ns : List seen.Member) → open_ones (ms ++ ns) ≡ open_ones ms ++ open_ones ns
-open_more [] ns = refl
-open_more (seen.Open x ∷ ms) ns = ap (λ l. x ∷ l) (open_more ms ns)
-open_more (seen.Known z ∷ ms) ns = open_more ms ns
-
 -- what is among those with one more is among those, or it is the last
 last_or : (xs : List ℕ) (c d : ℕ) → has (xs ++ c ∷ []) d ≡ true → (has xs d ≡ true) ⊎ (c ≡ d)
 last_or xs c d h = elim (has_either xs (c ∷ []) d h) [
@@ -119,7 +114,7 @@ module _ (name : Naming) (h : Cells) (n : ℕ) where
     -- an integer
     pub named_known : (z : ℤ) → AreNamed name h n (ms ++ seen.Known z ∷ []) (list ++ member.Fixed z ∷ []) ps next
     named_known z =
-        let same : open_ones (ms ++ seen.Known z ∷ []) ≡ open_ones ms = open_more ms (seen.Known z ∷ []) ∙ append-nil (open_ones ms) in
+        let same : open_ones (ms ++ seen.Known z ∷ []) ≡ open_ones ms = open_both ms (seen.Known z ∷ []) ∙ append-nil (open_ones ms) in
         let back : (c : ℕ) → has (open_ones (ms ++ seen.Known z ∷ [])) c ≡ true → has (open_ones ms) c ≡ true = (λ c e. subst (λ xs. has xs c ≡ true) same e) in
         record {
           open_are = a.open_are ∙ sym same;
@@ -141,7 +136,7 @@ module _ (name : Naming) (h : Cells) (n : ℕ) where
       ps' = ps ++ (c, k) ∷ []
 
       grown : open_ones (ms ++ seen.Open c ∷ []) ≡ open_ones ms ++ c ∷ []
-      grown = open_more ms (seen.Open c ∷ [])
+      grown = open_both ms (seen.Open c ∷ [])
 
       still : (d : ℕ) → has (open_ones ms) d ≡ true → own_by (ps ++ (c, k) ∷ []) d ≡ own_by ps d
       still d e = own_front ps ((c, k) ∷ []) d (subst (λ xs. has xs d ≡ true) (sym a.open_are) e)

@@ -6,7 +6,6 @@ use Rattle.fd_language.specs.Family.{universe}
 use Rattle.fd_model.specs.declared.kinds.Order.{Order}
 use Rattle.fd_model.specs.declared.kinds.Order.TheVariants.{Leftmost, FirstFail}
 use Rattle.fd_model.specs.declared.kinds.QueryFault.{QueryFault}
-use Rattle.fd_model.specs.declared.kinds.QueryFault.TheVariants.{BadType}
 use Rattle.fd_model.specs.Labelling.{first_open, fewest, unless_fewer, pick}
 use Rattle.fd_model.specs.Members as seen
 use Rattle.heap_cells.specs.declared.Cell.{Cell}
@@ -246,7 +245,7 @@ module _ (N : ℕ) (name : Naming) (h : Cells) (sets : List (List ℕ)) (o : Ord
   }
 
   module _ (names : IsListNaming name) (at : Cell) (taken : Option Taken) (w : IsTakenTo N name h sets o list at taken) where
-    pub taking_more : (a b : Cell) (m : Member) (next : Option Taken) → IsNode name h sets at (Pair a b) → IsMemberOf name h sets a (Some m)
+    pub taking_more : (a b : Cell) (m : Member) (next : Option Taken) → IsNode name h sets at (Pair a b) → IsMemberOf name h sets a (Ok m)
         → ((ss : List seen.Member) (s : seen.Member) → IsOf h a → IsMemberAt name h sets a m s → Takes N name h sets o ss taken → Takes N name h sets o (ss ++ s ∷ []) next)
         → IsTakenTo N name h sets o list b next
     taking_more a b m next n i take = record {
@@ -263,5 +262,5 @@ module _ (N : ℕ) (name : Naming) (h : Cells) (sets : List (List ℕ)) (o : Ord
     pub taking_broken : (f : QueryFault) → IsNode name h sets at (Broken f) → IsFound N name h sets o list (Err f)
     taking_broken f n = walk_broken name h sets list w.cells w.members at f w.walked n
 
-    pub taking_bad : (a b : Cell) → IsNode name h sets at (Pair a b) → IsMemberOf name h sets a None → IsFound N name h sets o list (Err BadType)
-    taking_bad a b n i = walk_bad name h sets list w.cells w.members at a b names w.walked n i
+    pub taking_bad : (a b : Cell) (f : QueryFault) → IsNode name h sets at (Pair a b) → IsMemberOf name h sets a (Err f) → IsFound N name h sets o list (Err f)
+    taking_bad a b f n i = walk_bad name h sets list w.cells w.members at a b f names w.walked n i

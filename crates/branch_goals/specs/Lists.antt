@@ -1,9 +1,8 @@
 -- Lists of a heap, as the sets of a store show them.
-use Rattle.std.specs.Prelude.{◌≡◌, ℕ, ◌<◌, false, codes, List, [], ◌∷◌, length, Option, Some, None, Result, Ok, Err}
+use Rattle.std.specs.Prelude.{◌≡◌, ℕ, ◌<◌, false, codes, List, [], ◌∷◌, length, Some, None, Result, Ok, Err}
 use Rattle.fd_language.specs.Range.{is_none_left}
 use Rattle.fd_language.specs.Term.{Term, Atom, Comp, no_terms, term}
 use Rattle.fd_model.specs.declared.kinds.QueryFault.{QueryFault}
-use Rattle.fd_model.specs.declared.kinds.QueryFault.TheVariants.{BadType}
 use Rattle.fd_model.specs.Labelling.{read_list}
 use Rattle.fd_model.specs.Members as seen
 use Rattle.fd_model.specs.Members.{as_member}
@@ -67,10 +66,10 @@ IsSeenMember h sets Free s = (i : ℕ) × (s ≡ seen.Open i) × (link_in h i �
 abbrev pub IsMemberAt : Naming → Cells → List (List ℕ) → Cell → Member → seen.Member → Type 0
 IsMemberAt name h sets c m s = (as_member (seen_term name h (family_of sets) c) ≡ Ok s) × IsSeenMember h sets m s
 
--- a cell as a member of a list
-abbrev pub IsMemberOf : Naming → Cells → List (List ℕ) → Cell → Option Member → Type 0
-IsMemberOf name h sets c None = as_member (seen_term name h (family_of sets) c) ≡ Err BadType
-IsMemberOf name h sets c (Some m) = (s : seen.Member) × IsMemberAt name h sets c m s
+-- a cell as a member of a list, or the fault that it is none
+abbrev pub IsMemberOf : Naming → Cells → List (List ℕ) → Cell → Result Member QueryFault → Type 0
+IsMemberOf name h sets c (Err f) = as_member (seen_term name h (family_of sets) c) ≡ Err f
+IsMemberOf name h sets c (Ok m) = (s : seen.Member) × IsMemberAt name h sets c m s
 
 -- the cells are members, each as it is seen
 abbrev pub AreMembersAt : Naming → Cells → List (List ℕ) → List Cell → List Member

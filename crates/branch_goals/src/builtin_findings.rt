@@ -256,7 +256,7 @@ pub(crate) fn find_told<A: Agenda + Drop>(
         | BuiltinKind::Atom
         | BuiltinKind::Atomic
         | BuiltinKind::Compound => Ok(Found::Decided(passes(branch, kind, first))),
-        BuiltinKind::FdDom => Err(NoMemory),
+        BuiltinKind::FdDom => unreachable!(),
     }
 }
 

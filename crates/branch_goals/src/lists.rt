@@ -80,21 +80,21 @@ fn compound_node(f: AtomId, args: &[Cell]) -> ListNode
     }
 }
 
-/// What a cell is as a member of a list: `None` for an atom or a compound term.
-pub(crate) fn member_at<V: View>(heap: &Heap, view: &V, at: Cell) -> Option<Member>
+/// What a cell is as a member of a list. An atom and a compound term are none.
+pub(crate) fn member_at<V: View>(heap: &Heap, view: &V, at: Cell) -> Result<Member, QueryFault>
     requires own { IsOf heap.now.now at }
     requires linked { HasLinksBelow (length (V.sets view.now)) heap.now.now }
     requires some { HasNoEmpty (V.sets view.now) }
     ensures { (name : Naming) → IsMemberOf name heap.now.now (V.sets view.now) at result }
 {
     match heap.deref(at) {
-        Seen::Open(_) => Some(Member::Free),
+        Seen::Open(_) => Ok(Member::Free),
         Seen::Constrained(_, k) => match view.domain(k).only_value() {
-            Some(value) => Some(Member::Fixed(i64::from(value))),
-            None => Some(Member::Var(k)),
+            Some(value) => Ok(Member::Fixed(i64::from(value))),
+            None => Ok(Member::Var(k)),
         },
-        Seen::Int(z) => Some(Member::Fixed(z)),
-        _ => None,
+        Seen::Int(z) => Ok(Member::Fixed(z)),
+        _ => Err(QueryFault::BadType),
     }
 }
 
@@ -120,8 +120,9 @@ pub(crate) fn read_members<V: View>(
     'walking: loop {
         match node_at(heap, view, at) {
             ListNode::Pair(head, tail) => {
-                let Some(member) = member_at(heap, view, head) else {
-                    return Ok(Err(QueryFault::BadType));
+                let member = match member_at(heap, view, head) {
+                    Ok(member) => member,
+                    Err(fault) => return Ok(Err(fault)),
                 };
                 cells.push(head)?;
                 members.push(member)?;

@@ -132,9 +132,7 @@ fn cost_in<V: View>(heap: &Heap, view: &V, named: &Named, cost: Cell) -> Result<
         → IsNamed name heap.now.now (length (V.sets view.now)) ms named.now
         → IsCostIn name heap.now.now (V.sets view.now) ms named.now cost result }
 {
-    let Some(member) = member_at(heap, view, cost) else {
-        return Err(QueryFault::BadType);
-    };
+    let member = member_at(heap, view, cost)?;
     match member {
         Member::Fixed(_) => Ok(member),
         _ => match number_of(&named.open_ones, variable_of(heap, cost)) {

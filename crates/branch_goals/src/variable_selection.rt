@@ -97,9 +97,7 @@ pub(crate) fn find_member<V: View>(
     'walking: loop {
         match node_at(heap, view, at) {
             ListNode::Pair(head, tail) => {
-                let Some(member) = member_at(heap, view, head) else {
-                    return Err(QueryFault::BadType);
-                };
+                let member = member_at(heap, view, head)?;
                 taken = take_member(order, taken, head, member, view, infinity);
                 at = tail;
             }

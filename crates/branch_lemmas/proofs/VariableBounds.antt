@@ -1,39 +1,25 @@
 -- A greatest number of variables, as ranges behind those that a store had: the store stands for the same.
-use Rattle.std.proofs.Common.{◌≡◌, ℕ, ◌<◌, ◌≤◌, true, false, cond, ◌==◌, ◌&&◌, int_le, pos, List, [], ◌∷◌, ◌++◌, Option, length, refl, ap, sym, ◌∙◌, subst, inl}
+use Rattle.std.proofs.Common.{◌≡◌, ℕ, ◌<◌, ◌≤◌, true, false, cond, ◌==◌, ◌&&◌, List, [], ◌∷◌, ◌++◌, Option, length, refl, sym, ◌∙◌, subst, inl}
 use Rattle.std.proofs.Common.{inr, arith, eq-eqb, eqb-true}
 use Rattle.std.proofs.lemmas.Bool.{cases_Bool, or_cases, or_left, true≢false}
-use Rattle.std.proofs.lemmas.Int.{ints}
 use Rattle.fd_language.specs.Term.{Var, Substitution}
 use Rattle.fd_language.specs.Unifier.{Equation}
-use Rattle.fd_language.specs.Family.{Family, has, universe, IsFamily, IsRising, IsSubset, IsInside}
-use Rattle.fd_language.specs.Range.{Indexical, set_of, in_set}
-use Rattle.fd_language.proofs.Lemmas.{has_high, has-filter, has-filter_back, in_universe, identity}
-use Rattle.fd_model.specs.Answers.{Somewhere}
+use Rattle.fd_language.specs.Family.{Family, has, universe, IsFamily, IsRising, IsSubset}
+use Rattle.fd_language.specs.Range.{Indexical, set_of}
+use Rattle.fd_language.proofs.Lemmas.{identity}
 use Rattle.fd_model.specs.Bounds.{bound}
 use Rattle.fd_model.specs.ClosedFamilies.{AllPosted, constrained}
 use Rattle.fd_model.specs.Models.{IsModel}
-use Rattle.fd_model.proofs.Lemmas.{closed_without, closed_either, constrained_either, named_left, posted_both}
+use Rattle.fd_model.proofs.Lemmas.{closed_without, named_left, posted_both}
 use Rattle.heap_cells.specs.Cells.{Cells}
 use Rattle.branch_meaning.specs.Store.{IsStored}
 use Rattle.branch_meaning.proofs.Lemmas.{front, holds_agree}
 use Rattle.branch_lemmas.specs.VariableBounds.{IsBounded, AreBounds, IsBoundedMore}
 use Rattle.branch_lemmas.specs.Frames.{link_in, IsKept}
+use Rattle.fd_model.proofs.Lemmas.{bound_in, bound_low}
 
 abbrev Holds : ℕ → Family → List Indexical → Type 0
 Holds M S ps = AllPosted (λ p. IsSubset (S p.target) (set_of M S p.range)) ps
-
--- what a bound says
-pub bound_low : (M N i : ℕ) (S : Family) (x : ℕ) → has (set_of M S (bound N x).range) i ≡ true → i ≤ N
-bound_low M N i S x h = low i N (has-filter_back (in_set M S (bound N x).range) (universe M) i h).1
-  where
-    low : (i N : ℕ) → (int_le (pos 0) (pos i) && int_le (pos i) (pos N)) ≡ true → i ≤ N
-    low i N g = grind (arith, ints)
-
-pub bound_in : (M N i : ℕ) (S : Family) (x : ℕ) → i ≤ N → N ≤ M → has (set_of M S (bound N x).range) i ≡ true
-bound_in M N i S x l h = has-filter (in_set M S (bound N x).range) (universe M) i (in_universe M i (omega arith)) (both i N l)
-  where
-    both : (i N : ℕ) → i ≤ N → (int_le (pos 0) (pos i) && int_le (pos i) (pos N)) ≡ true
-    both i N l = grind (arith, ints)
 
 -- a bounded variable has no number beyond the bound
 pub bounded_at : (M N : ℕ) (qs : List Indexical) (T : Family) (x : ℕ) → Holds M T qs → IsBounded N qs x → (i : ℕ) → has (T x) i ≡ true → i ≤ N

@@ -1,39 +1,14 @@
 -- What an answer shows: the open cells of the heap's terms are the open variables of the seen terms, one for one and with the same sets.
-use Rattle.std.proofs.Common.{◌≡◌, ℕ, true, false, ◌==◌, List, [], ◌∷◌, ◌++◌, Option, Some, None, eqb-true, ap, sym, ◌∙◌, inl, inr}
-use Rattle.std.proofs.lemmas.Bool.{or_cases, true≢false}
-use Rattle.fd_language.specs.Term.{Term, Terms, Var, Int, Atom, Comp, no_terms, term, Substitution, apply, apply_all}
+use Rattle.std.proofs.Common.{◌≡◌, ℕ, true, List, [], ◌∷◌, ◌++◌, Option, Some, None, ap, sym, ◌∙◌}
+use Rattle.fd_language.specs.Term.{Term, Var, Int, Atom, Comp, Substitution, apply}
 use Rattle.fd_language.specs.Unifier.{Equation}
 use Rattle.fd_language.specs.Family.{Family, has}
 use Rattle.fd_language.specs.Range.{Indexical}
 use Rattle.fd_model.specs.ClosedFamilies.{constrained}
 use Rattle.fd_model.specs.BranchViews.{IsView, seen, set_at, by_set}
-use Rattle.fd_language.specs.Variables.{variables_of, variables_of_all}
 use Rattle.fd_model.specs.Models.{IsModel}
-use Rattle.fd_language.proofs.Lemmas.{has_either}
-use Rattle.fd_model.proofs.Lemmas.{var_from}
 use Rattle.branch_meaning.specs.Store.{IsStored, shown_set, linked_set}
 use Rattle.branch_meaning.proofs.SeenTerms.{some_found, found}
-
-abbrev pub Pair : Substitution → Substitution → ℕ → Type 0
-Pair look back y = (c : ℕ) × (look y ≡ Var c) × (back c ≡ Var y)
-
--- a term that comes back as it was has its variables one for one
-mutual
-  pub one_for_one : (look back : Substitution) (t : Term) → apply back (apply look t) ≡ t → (y : ℕ) → has (variables_of t) y ≡ true → Pair look back y
-  one_for_one look back (Var x) e y h =
-      let same : x ≡ y = elim (or_cases (x == y) false h) [ inl g ↦ eqb-true x y g | inr g ↦ absurd (true≢false (sym g)) ] in
-      let v = var_from back (look x) x e in
-      (v.0, ap look (sym same) ∙ v.1, sym (ap (apply back) v.1) ∙ e ∙ ap Var same)
-  one_for_one look back (Int z) e y h = absurd (true≢false (sym h))
-  one_for_one look back (Atom a) e y h = absurd (true≢false (sym h))
-  one_for_one look back (Comp f ts) e y h = one_for_all look back ts (let g : apply_all back (apply_all look ts) ≡ ts = cc in g) y h
-
-  pub one_for_all : (look back : Substitution) (ts : Terms) → apply_all back (apply_all look ts) ≡ ts → (y : ℕ) → has (variables_of_all ts) y ≡ true → Pair look back y
-  one_for_all look back no_terms e y h = absurd (true≢false (sym h))
-  one_for_all look back (term t ts) e y h = elim (has_either (variables_of t) (variables_of_all ts) y h) [
-    | inl g ↦ one_for_one look back t (let k : apply back (apply look t) ≡ t = cc in k) y g
-    | inr g ↦ one_for_all look back ts (let k : apply_all back (apply_all look ts) ≡ ts = cc in k) y g
-  ]
 
 module _ (M N : ℕ) (es ds : List Equation) (ps : List Indexical) (s : Substitution) (D : Family) (v : IsView M N es ps s D)
     (P : ℕ → Type 0) (h : ℕ) (look : Substitution) (link : ℕ → Option ℕ) (slot : ℕ → ℕ) (qs : List Indexical)

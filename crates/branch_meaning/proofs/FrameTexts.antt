@@ -1,7 +1,7 @@
 -- The texts, labellings and rows of constraints by a frame whose store is at rest are those by the branch's view.
 use Rattle.fd_model.specs.declared.kinds.BuiltinKind.{BuiltinKind}
 use Rattle.fd_model.specs.Builtins.{found}
-use Rattle.fd_model.proofs.Lemmas.{SameFinding, found_renamed, first_member, spelled_same, place_same, variables_apply_all}
+use Rattle.fd_model.proofs.Lemmas.{SameFinding, found_renamed, first_member, number, one_for_all, spelled_same, place_same, variables_apply_all}
 use Rattle.std.proofs.Common.{◌≡◌, ℕ, suc, ◌<◌, ◌≤◌, arith, true, List, [], ◌∷◌, ◌++◌, map, Option, Some, None, codes, refl, ap, sym, subst, ◌∙◌}
 use Rattle.std.proofs.lemmas.Bool.{true≢false}
 use Rattle.fd_model.specs.declared.kinds.ConstraintKind.{ConstraintKind}
@@ -29,7 +29,6 @@ use Rattle.branch_meaning.proofs.SplitRenaming.{expand_renamed}
 use Rattle.branch_meaning.proofs.HeapExtension.{still_of}
 use Rattle.branch_meaning.proofs.VariableScope.{at_variable}
 use Rattle.branch_meaning.proofs.LabelRenaming.{labelled_renamed, label_in}
-use Rattle.branch_meaning.proofs.AnswerVariables.{one_for_all}
 use Rattle.branch_meaning.proofs.Views.{view_back, view_look, view_set_there, view_set_back}
 
 abbrev pub Known : (ℕ → Type 0) → List ℕ → Type 0
@@ -90,10 +89,6 @@ module _ (M N : ℕ) (f : HeldState) (es : List Equation) (ps : List Indexical) 
       by_sets (Some xs) None a b = absurd (let w = view_set_there M N f es ps P look h T rest s D v c d y xs e a in let g : None ≡ Some w.0 = sym b ∙ w.1 in cc)
       by_sets (Some xs) (Some k) a b = let w = view_set_there M N f es ps P look h T rest s D v c d y xs e a in let g : Some k ≡ Some w.0 = sym b ∙ w.1 in
           let j : k ≡ w.0 = cc in ap Some (sym w.2 ∙ ap T (sym j))
-
-  abbrev pub number : Term → ℕ
-  number (Var z) = z
-  number _ = 0
 
   abbrev pub cell : ℕ → ℕ
   cell y = number (look y)

@@ -1,7 +1,7 @@
 -- A labelling by other names of the open variables, which have the same values.
 use Rattle.std.proofs.Common.{◌≡◌, ℕ, Bool, true, false, cond, ltb, ◌==◌, List, [], ◌∷◌, length, Option, Some, None, Result, Ok, Err, codes, refl, ap, sym, ◌∙◌}
-use Rattle.std.proofs.Common.{subst, eq-eqb}
-use Rattle.std.proofs.lemmas.Bool.{or_left}
+use Rattle.std.proofs.Common.{eq-eqb, inl, inr}
+use Rattle.std.proofs.lemmas.Bool.{or_cases, or_left, or_right}
 use Rattle.std.specs.Str.{bytes_eq}
 use Rattle.fd_model.specs.declared.kinds.Order.{Order}
 use Rattle.fd_model.specs.declared.kinds.Order.TheVariants.{Leftmost, FirstFail}
@@ -11,9 +11,10 @@ use Rattle.fd_model.specs.declared.kinds.QueryFault.TheVariants.{BadType}
 use Rattle.fd_model.specs.Linear.{of_both}
 use Rattle.fd_language.specs.Family.{has}
 use Rattle.fd_language.specs.Variables.{variables_of, variables_of_all}
-use Rattle.fd_language.proofs.Lemmas.{two, in_left, in_right}
+use Rattle.fd_language.proofs.Lemmas.{two, first_member, in_left, in_right}
+use Rattle.fd_model.proofs.Lemmas.{among_picked}
 use Rattle.fd_model.specs.Members.{Member, Open, Known, as_member, prepend}
-use Rattle.fd_model.specs.Labelling.{read_list, first_open, unless_fewer, fewest, pick}
+use Rattle.fd_model.specs.Labelling.{read_list, first_open, unless_fewer, fewest, open_ones, pick}
 use Rattle.branch_meaning.specs.Labelling.{by_picked, by_listing, labels, labelled, rename_labelled}
 
 abbrev pub rename_member : (ℕ → ℕ) → Member → Member
@@ -31,6 +32,46 @@ rename_one f (Ok m) = Ok (rename_member f m)
 abbrev pub rename_listing : (ℕ → ℕ) → Result (List Member) QueryFault → Result (List Member) QueryFault
 rename_listing f (Err e) = Err e
 rename_listing f (Ok ms) = Ok (rename_members f ms)
+
+-- the open members stand among vs
+abbrev pub AllIn : List ℕ → List Member → Type 0
+AllIn vs ms = (y : ℕ) → has (open_ones ms) y ≡ true → has vs y ≡ true
+
+abbrev pub ListedIn : List ℕ → Result (List Member) QueryFault → Type 0
+ListedIn vs (Err e) = Unit {0}
+ListedIn vs (Ok ms) = AllIn vs ms
+
+listed_more : (vs ws : List ℕ) → ((y : ℕ) → has vs y ≡ true → has ws y ≡ true) → (l : Result (List Member) QueryFault) → ListedIn vs l → ListedIn ws l
+listed_more vs ws h (Err e) i = tt
+listed_more vs ws h (Ok ms) i = λ y c. h y (i y c)
+
+both_in : (vs : List ℕ) (t : Term) → ((y : ℕ) → has (variables_of t) y ≡ true → has vs y ≡ true) → (l : Result (List Member) QueryFault) → ListedIn vs l
+    → ListedIn vs (of_both prepend (as_member t) l)
+both_in vs (Var x) h (Err e) i = tt
+both_in vs (Var x) h (Ok ms) i = λ y c. elim (or_cases (x == y) (has (open_ones ms) y) c) [ inl e ↦ h y (or_left (x == y) false e) | inr e ↦ i y e ]
+both_in vs (Int z) h (Err e) i = tt
+both_in vs (Int z) h (Ok ms) i = i
+both_in vs (Atom a) h l i = tt
+both_in vs (Comp g ts) h l i = tt
+
+by_name_in : (vs : List ℕ) (b : Bool) (l m : Result (List Member) QueryFault) → ListedIn vs l → ListedIn vs m → ListedIn vs (cond b l m)
+by_name_in vs true l m i j = i
+by_name_in vs false l m i j = j
+
+pub list_in : (t : Term) → ListedIn (variables_of t) (read_list t)
+list_in (Var x) = tt
+list_in (Int z) = tt
+list_in (Atom a) = by_name_in [] (bytes_eq a (codes "[]")) (Ok []) (Err BadType) (λ y c. c) tt
+list_in (Comp g no_terms) = tt
+list_in (Comp g (term t no_terms)) = tt
+list_in (Comp g (term t (term r no_terms))) =
+    let vs = variables_of_all (term t (term r no_terms)) in
+    by_name_in vs (bytes_eq g (codes ".")) (of_both prepend (as_member t) (read_list r)) (Err BadType)
+    (both_in vs t (λ y c. in_left (variables_of t) (variables_of_all (term r no_terms)) y c) (read_list r)
+    (listed_more (variables_of r) vs (λ y c. in_right (variables_of t) (variables_of_all (term r no_terms)) y (in_left (variables_of r) [] y c))
+    (read_list r) (list_in r)))
+    tt
+list_in (Comp g (term t (term r (term x xs)))) = tt
 
 module _ (u : Substitution) (f : ℕ → ℕ) where
   abbrev Named : List ℕ → Type 0
@@ -67,13 +108,11 @@ module _ (u : Substitution) (f : ℕ → ℕ) where
 
   module _ (here there : ℕ → List ℕ) where
     abbrev Same : List Member → Type 0
-    Same [] = Unit {0}
-    Same (Open x ∷ ms) = (there (f x) ≡ here x) × Same ms
-    Same (Known z ∷ ms) = Same ms
+    Same ms = (y : ℕ) → has (open_ones ms) y ≡ true → there (f y) ≡ here y
 
     first_renamed : (ms : List Member) → Same ms → by_picked there (first_open (rename_members f ms)) ≡ rename_labelled f (by_picked here (first_open ms))
     first_renamed [] h = refl
-    first_renamed (Open x ∷ ms) h = ap (labels (f x)) h.0
+    first_renamed (Open x ∷ ms) h = ap (labels (f x)) (h x (first_member x (open_ones ms)))
     first_renamed (Known z ∷ ms) h = first_renamed ms h
 
     -- the picked member and its values
@@ -86,20 +125,23 @@ module _ (u : Substitution) (f : ℕ → ℕ) where
     unfolding Kept
     fewest_kept [] h = tt
     fewest_kept (Known z ∷ ms) h = fewest_kept ms h
-    fewest_kept (Open x ∷ ms) h = by_rest (fewest here ms) (fewest there (rename_members f ms)) (fewest_kept ms h.1)
+    fewest_kept (Open x ∷ ms) h = by_rest (fewest here ms) (fewest there (rename_members f ms)) (fewest_kept ms (λ y c. h y (or_right (x == y) (has (open_ones ms) y) c)))
       where
+        one : there (f x) ≡ here x
+        one = h x (first_member x (open_ones ms))
+
         by_test : (b c : Bool) (y z : ℕ) → b ≡ c → (z ≡ f y) × (there z ≡ here y) → Kept (Some (cond b y x)) (Some (cond c z (f x)))
         by_test true true y z e k = k
-        by_test false false y z e k = (refl, h.0)
+        by_test false false y z e k = (refl, one)
         by_test true false y z e k = absurd (cc)
         by_test false true y z e k = absurd (cc)
 
         by_rest : (o k : Option ℕ) → Kept o k → Kept (Some (unless_fewer here x o)) (Some (unless_fewer there (f x) k))
-        by_rest None None i = (refl, h.0)
+        by_rest None None i = (refl, one)
         by_rest None (Some z) i = absurd i
         by_rest (Some y) None i = absurd i
         by_rest (Some y) (Some z) i = by_test (ltb (length (here y)) (length (here x))) (ltb (length (there z)) (length (there (f x)))) y z
-            (two (λ a b. ltb (length a) (length b)) (sym i.1) (sym h.0)) i
+            (two (λ a b. ltb (length a) (length b)) (sym i.1) (sym one)) i
 
     from_kept : (o k : Option ℕ) → Kept o k → by_picked there k ≡ rename_labelled f (by_picked here o)
     unfolding Kept
@@ -112,110 +154,25 @@ module _ (u : Substitution) (f : ℕ → ℕ) where
     members_renamed Leftmost ms h = first_renamed ms h
     members_renamed FirstFail ms h = from_kept (fewest here ms) (fewest there (rename_members f ms)) (fewest_kept ms h)
 
-    listing_renamed : (o : Order) (l : Result (List Member) QueryFault) → ((ms : List Member) → l ≡ Ok ms → Same ms) → by_listing o there (rename_listing f l) ≡ rename_labelled f (by_listing o here l)
-    listing_renamed o (Err e) h = refl
-    listing_renamed o (Ok ms) h = members_renamed o ms (h ms refl)
-
-    -- the open members stand in the term
-    abbrev AllIn : List ℕ → List Member → Type 0
-    AllIn vs [] = Unit {0}
-    AllIn vs (Open x ∷ ms) = (has vs x ≡ true) × AllIn vs ms
-    AllIn vs (Known z ∷ ms) = AllIn vs ms
-
-    same_in : (vs : List ℕ) → ((y : ℕ) → has vs y ≡ true → there (f y) ≡ here y) → (ms : List Member) → AllIn vs ms → Same ms
-    same_in vs h [] i = tt
-    same_in vs h (Open x ∷ ms) i = (h x i.0, same_in vs h ms i.1)
-    same_in vs h (Known z ∷ ms) i = same_in vs h ms i
-
-    in_more : (vs ws : List ℕ) → ((y : ℕ) → has vs y ≡ true → has ws y ≡ true) → (ms : List Member) → AllIn vs ms → AllIn ws ms
-    in_more vs ws h [] i = tt
-    in_more vs ws h (Open x ∷ ms) i = (h x i.0, in_more vs ws h ms i.1)
-    in_more vs ws h (Known z ∷ ms) i = in_more vs ws h ms i
-
-    abbrev ListedIn : List ℕ → Result (List Member) QueryFault → Type 0
-    ListedIn vs (Err e) = Unit {0}
-    ListedIn vs (Ok ms) = AllIn vs ms
-
-    listed_more : (vs ws : List ℕ) → ((y : ℕ) → has vs y ≡ true → has ws y ≡ true) → (l : Result (List Member) QueryFault) → ListedIn vs l → ListedIn ws l
-    listed_more vs ws h (Err e) i = tt
-    listed_more vs ws h (Ok ms) i = in_more vs ws h ms i
-
-    both_in : (vs : List ℕ) (t : Term) → ((y : ℕ) → has (variables_of t) y ≡ true → has vs y ≡ true) → (l : Result (List Member) QueryFault) → ListedIn vs l
-        → ListedIn vs (of_both prepend (as_member t) l)
-    both_in vs (Var x) h (Err e) i = tt
-    both_in vs (Var x) h (Ok ms) i = (h x (or_left (x == x) false (eq-eqb x x refl)), i)
-    both_in vs (Int z) h (Err e) i = tt
-    both_in vs (Int z) h (Ok ms) i = i
-    both_in vs (Atom a) h l i = tt
-    both_in vs (Comp g ts) h l i = tt
-
-    by_name_in : (vs : List ℕ) (b : Bool) (l m : Result (List Member) QueryFault) → ListedIn vs l → ListedIn vs m → ListedIn vs (cond b l m)
-    by_name_in vs true l m i j = i
-    by_name_in vs false l m i j = j
-
-    list_in : (t : Term) → ListedIn (variables_of t) (read_list t)
-    list_in (Var x) = tt
-    list_in (Int z) = tt
-    list_in (Atom a) = by_name_in [] (bytes_eq a (codes "[]")) (Ok []) (Err BadType) tt tt
-    list_in (Comp g no_terms) = tt
-    list_in (Comp g (term t no_terms)) = tt
-    list_in (Comp g (term t (term r no_terms))) =
-        let vs = variables_of_all (term t (term r no_terms)) in
-        by_name_in vs (bytes_eq g (codes ".")) (of_both prepend (as_member t) (read_list r)) (Err BadType)
-        (both_in vs t (λ y c. in_left (variables_of t) (variables_of_all (term r no_terms)) y c) (read_list r)
-        (listed_more (variables_of r) vs (λ y c. in_right (variables_of t) (variables_of_all (term r no_terms)) y (in_left (variables_of r) [] y c))
-        (read_list r) (list_in r)))
-        tt
-    list_in (Comp g (term t (term r (term x xs)))) = tt
-
-    listed_same : (vs : List ℕ) → ((y : ℕ) → has vs y ≡ true → there (f y) ≡ here y) → (l : Result (List Member) QueryFault) → ListedIn vs l → (ms : List Member) → l ≡ Ok ms → Same ms
-    listed_same vs h (Err e) i ms j = absurd (cc)
-    listed_same vs h (Ok ns) i ms j = let same : ns ≡ ms = cc in subst Same same (same_in vs h ns i)
+    listing_renamed : (o : Order) (vs : List ℕ) → ((y : ℕ) → has vs y ≡ true → there (f y) ≡ here y) → (l : Result (List Member) QueryFault) → ListedIn vs l
+        → by_listing o there (rename_listing f l) ≡ rename_labelled f (by_listing o here l)
+    listing_renamed o vs h (Err e) i = refl
+    listing_renamed o vs h (Ok ms) i = members_renamed o ms (λ y c. h y (i y c))
 
     -- a labelling of the renamed list picks the renamed variable, with the same values
     pub labelled_renamed : (o : Order) (t : Term) → Named (variables_of t) → ((y : ℕ) → has (variables_of t) y ≡ true → there (f y) ≡ here y)
         → labelled o there (apply u t) ≡ rename_labelled f (labelled o here t)
-    labelled_renamed o t h i = ap (by_listing o there) (list_renamed t h) ∙ listing_renamed o (read_list t) (listed_same (variables_of t) i (read_list t) (list_in t))
+    labelled_renamed o t h i = ap (by_listing o there) (list_renamed t h) ∙ listing_renamed o (variables_of t) i (read_list t) (list_in t)
 
 -- the picked variable stands in the list
-module _ (values : ℕ → List ℕ) where
-  PickedIn : List ℕ → Option ℕ → Type 0
-  PickedIn vs None = Unit {0}
-  PickedIn vs (Some x) = has vs x ≡ true
-
-  first_in : (vs : List ℕ) (ms : List Member) → AllIn Var (λ x. x) values values vs ms → PickedIn vs (first_open ms)
-  unfolding PickedIn
-  first_in vs [] i = tt
-  first_in vs (Open x ∷ ms) i = i.0
-  first_in vs (Known z ∷ ms) i = first_in vs ms i
-
-  fewest_in : (vs : List ℕ) (ms : List Member) → AllIn Var (λ x. x) values values vs ms → PickedIn vs (fewest values ms)
-  unfolding PickedIn
-  fewest_in vs [] i = tt
-  fewest_in vs (Known z ∷ ms) i = fewest_in vs ms i
-  fewest_in vs (Open x ∷ ms) i = by_rest (fewest values ms) (fewest_in vs ms i.1)
-    where
-      by_test : (b : Bool) (y : ℕ) → has vs y ≡ true → has vs (cond b y x) ≡ true
-      by_test true y k = k
-      by_test false y k = i.0
-
-      by_rest : (o : Option ℕ) → PickedIn vs o → PickedIn vs (Some (unless_fewer values x o))
-      by_rest None k = i.0
-      by_rest (Some y) k = by_test (ltb (length (values y)) (length (values x))) y k
-
-  pick_in : (o : Order) (vs : List ℕ) (ms : List Member) → AllIn Var (λ x. x) values values vs ms → PickedIn vs (pick o values ms)
-  pick_in Leftmost vs ms i = first_in vs ms i
-  pick_in FirstFail vs ms i = fewest_in vs ms i
-
-  from_pick : (vs : List ℕ) (k : Option ℕ) → PickedIn vs k → (x : ℕ) (ns : List ℕ) → by_picked values k ≡ labels x ns → has vs x ≡ true
-  unfolding PickedIn
-  from_pick vs None i x ns e = absurd (cc)
-  from_pick vs (Some y) i x ns e = let same : y ≡ x = cc in subst (λ z. has vs z ≡ true) same i
-
-  from_listing : (o : Order) (vs : List ℕ) (l : Result (List Member) QueryFault) → ListedIn Var (λ x. x) values values vs l → (x : ℕ) (ns : List ℕ)
-      → by_listing o values l ≡ labels x ns → has vs x ≡ true
-  from_listing o vs (Err e) i x ns h = absurd (cc)
-  from_listing o vs (Ok ms) i x ns h = from_pick vs (pick o values ms) (pick_in o vs ms i) x ns h
+from_listing : (o : Order) (values : ℕ → List ℕ) (vs : List ℕ) (l : Result (List Member) QueryFault) → ListedIn vs l → (x : ℕ) (ns : List ℕ)
+    → by_listing o values l ≡ labels x ns → has vs x ≡ true
+from_listing o values vs (Err e) i x ns h = absurd (cc)
+from_listing o values vs (Ok ms) i x ns h = by_pick (pick o values ms) refl h
+  where
+    by_pick : (k : Option ℕ) → pick o values ms ≡ k → by_picked values k ≡ labels x ns → has vs x ≡ true
+    by_pick None e g = absurd (cc)
+    by_pick (Some y) e g = let same : y ≡ x = cc in i x (among_picked o values ms x (e ∙ ap Some same))
 
 pub label_in : (o : Order) (values : ℕ → List ℕ) (t : Term) (x : ℕ) (ns : List ℕ) → labelled o values t ≡ labels x ns → has (variables_of t) x ≡ true
-label_in o values t x ns e = from_listing values o (variables_of t) (read_list t) (list_in Var (λ x. x) values values t) x ns e
+label_in o values t x ns e = from_listing o values (variables_of t) (read_list t) (list_in t) x ns e

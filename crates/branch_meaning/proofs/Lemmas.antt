@@ -19,7 +19,7 @@ pub use Rattle.branch_meaning.proofs.LinkedRanges.{posted_each}
 -- A labelling by the heap's list and the store's sets.
 pub use Rattle.branch_meaning.proofs.Labels.{row_by}
 -- A labelling by other names of the open variables, which have the same values.
-pub use Rattle.branch_meaning.proofs.LabelRenaming.{label_in}
+pub use Rattle.branch_meaning.proofs.LabelRenaming.{AllIn, label_in, labelled_renamed, list_in, list_renamed, ListedIn, rename_listing, rename_members}
 -- Models under fewer equations, and under the integers that they give.
 pub use Rattle.branch_meaning.proofs.Models.{front, ungrown}
 -- What is still to come behind an event.
@@ -30,6 +30,7 @@ pub use Rattle.branch_meaning.proofs.IntegerBindings.{AreConsecutive, bindings, 
 pub use Rattle.branch_meaning.proofs.TermBinding.{Or, one_else, one_here, other, stored_cell, stored_place, with_one}
 -- `T in r` on a machine: what is posted, or the fault, depends on the kinds of terms alone.
 pub use Rattle.branch_meaning.proofs.PostGoals.{post_same}
+pub use Rattle.branch_meaning.proofs.Views.{SameKind}
 -- Rows of goals `T in r` under other names of their variables.
 pub use Rattle.branch_meaning.proofs.PostRenaming.{functions, need_renamed, occurrences_renamed}
 -- One more range on a branch and on the store.
@@ -48,7 +49,7 @@ pub use Rattle.branch_meaning.proofs.EmptyStore.{first_model, nothing_stored}
 -- What a goal gives in a branch, what it says and keeps, and the level of a test's cut.
 pub use Rattle.branch_meaning.proofs.Steps.{GivesAll, KeepsAll, Speaks, test_level}
 -- Choice points and the branches for which they stand, level by level.
-pub use Rattle.branch_meaning.proofs.Levels.{IsBelow, level_above, level_stays, level_top, oldest_all, oldest_fewer, wait_below, wait_length, wait_top}
+pub use Rattle.branch_meaning.proofs.Levels.{IsBelow, later_kept, level_above, level_stays, level_top, oldest_all, oldest_fewer, wait_below, wait_length, wait_top}
 -- What follows for a heap and a store that stand for a branch.
 unfoldable pub use Rattle.branch_meaning.proofs.Store.{without_cell}
 pub use Rattle.branch_meaning.proofs.Store.{extended, sole_value}

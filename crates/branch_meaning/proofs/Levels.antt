@@ -36,7 +36,7 @@ pub level_top : (ns : List ℕ) → at_level ns (length ns) ≡ at_top ns
 level_top ns = level_above ns (length ns) (omega arith)
 
 -- the kept ones of a list's later part
-later_kept : (M N : ℕ) (xs ys cs : List Branch) → Kept M N (xs ++ ys) cs → (ds : List Branch) × Kept M N ys ds
+pub later_kept : (M N : ℕ) (xs ys cs : List Branch) → Kept M N (xs ++ ys) cs → (ds : List Branch) × Kept M N ys ds
 later_kept M N [] ys cs h = (cs, h)
 later_kept M N (x ∷ xs) ys cs (inl h) = later_kept M N xs ys h.1.0 h.1.2
 later_kept M N (x ∷ xs) ys cs (inr h) = later_kept M N xs ys cs h.1

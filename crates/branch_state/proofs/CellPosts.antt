@@ -24,7 +24,7 @@ use Rattle.heap_cells.specs.Cells.{Cells, Heaps, IsOf}
 use Rattle.heap_cells.specs.Terms.{Naming}
 use Rattle.heap_cells.proofs.Lemmas.{of_same}
 use Rattle.range_code.specs.declared.frame.Arg.{Arg}
-use Rattle.range_code.specs.Frames.{posted, IsFrame}
+use Rattle.range_code.specs.Frames.{posted, IsArgumentFrame}
 use Rattle.range_code.specs.Slots.{slots_of, slot_needs, need_at}
 use Rattle.range_code.proofs.Lemmas.{has_once, one_use}
 use Rattle.unify_core.specs.declared.Touch.{Touch}
@@ -199,7 +199,7 @@ module _ (name : Naming) (old : State) (pair : IsPair old.atoms old.infinity old
     pub cells_target_low : k < length S
     cells_target_low = subst (λ z. z < length S) (sym ready.at) (slot_low t (inl refl) fines.0)
 
-    pub cells_frame : IsFrame (length S) r as'
+    pub cells_frame : IsArgumentFrame (length S) r as'
     cells_frame = are_args (length S) see (λ y. slot (see y)) (slots_of r) (slot_needs r) as' ready.stand fines.1 (λ y i o. slot_low (see y) (inr (y, i, refl)) o)
 
     told_low : (gs : List Touch) → AreTold of gs → AreTouchesBelow (length S) gs

@@ -1,4 +1,3 @@
-mod Spelling
 mod LevelModels
 mod States
 mod Resetting

@@ -17,7 +17,7 @@ use Rattle.fd_language.specs.RangeVerdict.{is_accepted}
 use Rattle.fd_language.proofs.Lemmas.{has_either}
 use Rattle.range_code.specs.declared.frame.Arg.{Arg}
 use Rattle.range_code.specs.declared.frame.Arg.TheVariants as arg
-use Rattle.range_code.specs.Frames.{IsFrame, posted}
+use Rattle.range_code.specs.Frames.{IsArgumentFrame, posted}
 use Rattle.range_code.proofs.Lemmas.{posted_below}
 use Rattle.fd_model.specs.ClosedFamilies.{constrained}
 use Rattle.fd_model.proofs.Lemmas.{posted_right, constrained_either, named_right}
@@ -165,7 +165,7 @@ pub goal_posted : (is : List Instance) (r : Range) (v : ℕ) (as' : List Arg) (t
 goal_posted is r v as' ts e = map_twice is ∙ ap (map ranged) e ∙ ap (λ (l : List Indexical). record { target = v; range = posted r as' } ∷ l) (ranges_are ts)
 
 pub goal_fits : (count : ℕ) (is : List Instance) (r : Range) (v : ℕ) (as' : List Arg) (ts : List Touch)
-    → map posting is ≡ record { range = r; target = v; args = as' } ∷ postings ts → v < count → IsFrame count r as' → AreTouchesBelow count ts
+    → map posting is ≡ record { range = r; target = v; args = as' } ∷ postings ts → v < count → IsArgumentFrame count r as' → AreTouchesBelow count ts
     → list_all is_natural ts ≡ true → All (IsInstance count) is
 goal_fits count is r v as' ts e low frame touches natural = all_instances count is (record { range = r; target = v; args = as' } ∷ postings ts) e ((low, frame), each_fits count ts touches natural)
 
@@ -175,7 +175,7 @@ goal_outside qs r v as' ts e = subst (HasNoModel INFINITY) (append_assoc qs (rec
 
 -- and what they name
 pub goal_low : (count : ℕ) (qs : List Indexical) (r : Range) (v : ℕ) (as' : List Arg) (ts : List Touch) → ((k : ℕ) → has (constrained qs) k ≡ true → k < count)
-    → v < count → is_accepted INFINITY r ≡ true → IsFrame count r as' → AreTouchesBelow count ts → (k : ℕ)
+    → v < count → is_accepted INFINITY r ≡ true → IsArgumentFrame count r as' → AreTouchesBelow count ts → (k : ℕ)
     → has (constrained (qs ++ goal_ranges r v as' ts)) k ≡ true → k < count
 goal_low count qs r v as' ts known low accepted frame touches k e = elim (constrained_either qs (goal_ranges r v as' ts) k e) [
   | inl a ↦ known k a

@@ -8,7 +8,7 @@ ghost use Rattle.unify_core.specs.Outcome.{IfTrue, IfFalse};
 ghost use Rattle.fd_language.specs.declared.TheConstants.{INFINITY};
 ghost use Rattle.branch_state.specs.VariableBounds.{new_bounds};
 ghost use Rattle.branch_state.specs.Codes.{exact_range, same_range, bound_range};
-ghost use Rattle.range_code.specs.Frames.{IsFrame};
+ghost use Rattle.range_code.specs.Frames.{IsArgumentFrame};
 ghost use Rattle.branch_state.specs.StoreVariables.{goal_ranges};
 ghost use Rattle.branch_state.specs.Posting.{is_natural as natural, touch_postings, postings};
 ghost use Rattle.branch_state.specs.States.{IsSettled, HasNoModel};
@@ -228,7 +228,8 @@ pub(crate) fn post_prepared<A: Agenda + Drop>(
     requires bound { codes.2.now.value ≡ bound_range }
     requires greatest { made.infinity ≤ INFINITY }
     requires target { prepared.target < length store.old.current.sets }
-    requires frame { IsFrame (length store.old.current.sets) code.now.value prepared.args.items }
+    requires frame { IsArgumentFrame (length store.old.current.sets) code.now.value
+        prepared.args.items }
     requires fixed { AreTouchesBelow (length store.old.current.sets) prepared.fixed.items }
     requires unspent { store.old.spent ≡ false }
     ensures posted { IfTrue result (store.new.current.posted ≡ (store.old.current.posted

@@ -1,8 +1,8 @@
 -- A comparison of two terms, pair by pair.
-use Rattle.std.proofs.Common.{◌≡◌, ℕ, zero, suc, ◌+◌, ◌<◌, ◌≤◌, Bool, true, false, not, ◌==◌, refl, ap, sym, ◌∙◌, subst, arith, List, [], ◌∷◌, ◌++◌, length}
-use Rattle.std.proofs.Common.{get_or, drop, Bor, eqb-true, eq-eqb, append_assoc, append-nil}
+use Rattle.std.proofs.Common.{◌≡◌, ℕ, zero, suc, ◌+◌, ◌<◌, ◌≤◌, Bool, true, false, ◌==◌, refl, ap, sym, ◌∙◌, subst, arith, List, [], ◌∷◌, ◌++◌, length}
+use Rattle.std.proofs.Common.{get_or, drop, Bor, append_assoc, append-nil}
 use Rattle.std.specs.Prelude.{All, reverse}
-use Rattle.std.proofs.lemmas.Bool.{false≢true, not-false}
+use Rattle.std.proofs.lemmas.Bool.{false≢true}
 use Rattle.std.proofs.lemmas.List.{reverse-append, reverse-reverse}
 use Rattle.std.proofs.lemmas.List.Elements.{All-append}
 use Rattle.fd_language.specs.Family.{Family}
@@ -26,13 +26,6 @@ use Rattle.builtin_calls.specs.Identity.{TellsIdentical, TellsShown, IsOwnPair, 
 -- cells with one term have one term as the sets show it
 pub same_seen : (h : Cells) (G : Family) (c d : Cell) → Same h c d → (name : Naming) → seen_term name h G c ≡ seen_term name h G d
 same_seen h G c d s name = ap (read_term h G) (s name)
-
--- whether two atoms are one, as a comparison of them tells
-pub atom_same : (f g : AtomId) (b : Bool) → b ≡ not (f.number == g.number) → b ≡ false → f ≡ g
-atom_same f g b e n = let q : f.number ≡ g.number = eqb-true f.number g.number (not-false (f.number == g.number) (sym e ∙ n)) in ap (λ k. let a : AtomId = record { number = k } in a) q
-
-pub atom_other : (f g : AtomId) (b : Bool) → b ≡ not (f.number == g.number) → b ≡ true → f ≡ g → ⊥
-atom_other f g b e t q = let s : (f.number == g.number) ≡ true = eq-eqb f.number g.number (ap (λ (a : AtomId). a.number) q) in false≢true (sym (ap not s) ∙ sym e ∙ t)
 
 -- lists of cells
 same_count : (by : Cell → Term) (cs ds : List Cell) → terms_by by cs ≡ terms_by by ds → length cs ≡ length ds

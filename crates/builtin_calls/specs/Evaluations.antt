@@ -1,5 +1,5 @@
 -- An evaluation under way: where it stands, and what waits for the value there, of which the last is the next.
-use Rattle.std.specs.Prelude.{◌≡◌, ℕ, ◌+◌, ◌*◌, ◌<◌, ◌≤◌, ℤ, List, [], ◌∷◌, ◌++◌, ◌⊎◌, true, length, Some, codes, All, Result, Ok, Err}
+use Rattle.std.specs.Prelude.{◌≡◌, ℕ, ◌+◌, ◌*◌, ◌<◌, ◌≤◌, ℤ, List, [], ◌∷◌, ◌++◌, ◌⊎◌, true, length, Some, codes, All, MatchResult, Result, Ok, Err}
 use Rattle.std.specs.Str.{bytes_eq}
 use Rattle.fd_language.specs.Family.{Family}
 use Rattle.fd_language.specs.Term.{Name, Term, Comp}
@@ -9,12 +9,13 @@ use Rattle.heap_cells.specs.Cells.{Cells, IsOf}
 use Rattle.heap_cells.specs.Terms.{Naming, terms_by}
 use Rattle.heap_cells.specs.Atoms.{IsAtomBelow}
 use Rattle.builtin_calls.specs.declared.evaluation.EvalFault.{EvalFault}
+use Rattle.builtin_calls.specs.declared.evaluation.EvalFault.TheVariants as fault
 use Rattle.builtin_calls.specs.declared.operations.Operation.{Operation}
 use Rattle.builtin_calls.specs.declared.operations.OpenOperation.{OpenOperation}
 use Rattle.builtin_calls.specs.declared.operations.OpenOperation.TheVariants.{Left, Right, Opposite}
 use Rattle.builtin_calls.specs.declared.evaluation.Step.{Step}
 use Rattle.builtin_calls.specs.declared.evaluation.Step.TheVariants.{Enter, Leave}
-use Rattle.fd_model.specs.Arithmetic.{Value, value_of, value_of_both, value_of_one, opposite_of}
+use Rattle.fd_model.specs.Arithmetic.{Value, not_a_number, value_of, value_of_both, value_of_one, opposite_of}
 use Rattle.heap_cells.specs.SeenTerms.{seen_term}
 use Rattle.builtin_calls.specs.Outcomes.{IsFault, IsNamedBy, meaning, operation_of}
 
@@ -94,6 +95,11 @@ abbrev pub TellsAscent : List Name → Cells → Family → List OpenOperation �
 TellsAscent names h G old z (Ok (Enter c)) new = Leads names h G old (Leave z) new (Enter c)
 TellsAscent names h G old z (Ok (Leave y)) new = Leads names h G old (Leave z) [] (Leave y)
 TellsAscent names h G old z (Err e) new = (name : Naming) → IsNamedBy names name → IsFault e (resumed (seen_term name h G) old (Ok z))
+
+-- the operand of an opposite, or no number where it is none
+abbrev pub HasOpposite : Name → List Cell → Result Cell EvalFault → Type 0
+HasOpposite f args r = MatchResult r (λ c. (args ≡ c ∷ []) × (bytes_eq f (codes "-") ≡ true))
+    (λ e. (e ≡ fault.NotANumber) × ((by : Cell → Term) → value_of (Comp f (terms_by by args)) ≡ Err not_a_number))
 
 -- a compound term is entered at its first operand, or at the second one where the first has a value; or its fault is told
 abbrev pub IsEntered : Cells → Family → Name → List Cell → List OpenOperation → Result Cell EvalFault → List OpenOperation → Type 0

@@ -1,5 +1,5 @@
 -- What an evaluation answers.
-use Rattle.std.specs.Prelude.{◌≡◌, ◌<◌, ℤ, List, length, Option, Some, None, if◌then◌else◌, codes, Result, Ok, Err}
+use Rattle.std.specs.Prelude.{◌≡◌, ◌<◌, ℤ, List, length, Option, Some, None, if◌then◌else◌, codes, MatchResult, Result, Ok, Err}
 use Rattle.std.specs.Str.{bytes_eq}
 use Rattle.fd_language.specs.Term.{Name}
 use Rattle.term_pool.specs.declared.AtomId.{AtomId}
@@ -28,6 +28,10 @@ IsOwnFault NotANumber = Unit {0}
 IsOwnFault Overflow = Unit {0}
 IsOwnFault ZeroDivisor = Unit {0}
 IsOwnFault NoMemory = ⊥
+
+-- the operation that was found, or no number where there is none
+abbrev pub IsKnown : Option Operation → Result Operation EvalFault → Type 0
+IsKnown found r = MatchResult r (λ o. found ≡ Some o) (λ e. (e ≡ NotANumber) × (found ≡ None))
 
 -- the answer is the value
 abbrev pub Tells : Result ℤ EvalFault → Value → Type 0

@@ -14,10 +14,10 @@ ghost use Rattle.heap_cells.specs.Terms.{Naming};
 ghost use Rattle.builtin_calls.specs.declared.evaluation.EvalFault.TheVariants as fault;
 ghost use Rattle.builtin_calls.specs.declared.evaluation.Step.TheVariants as step;
 ghost use Rattle.fd_model.specs.Arithmetic.{integer, modulo, value_of};
-ghost use Rattle.builtin_calls.specs.Outcomes.{Tells, IsOwnFault, IsMeant, IsMeaning, IsNamedBy, meaning, operation_of};
+ghost use Rattle.builtin_calls.specs.Outcomes.{Tells, IsOwnFault, IsKnown, IsMeant, IsMeaning, IsNamedBy, meaning, operation_of};
 ghost use Rattle.heap_cells.specs.SeenTerms.{seen_term, HasLinksBelow};
 ghost use Rattle.builtin_calls.specs.CellTops.{IsSimple};
-ghost use Rattle.builtin_calls.specs.Evaluations.{IsEntered, IsOfHeap, IsOwn, IsOwnOperation, TellsStep, TellsDescent, TellsAscent};
+ghost use Rattle.builtin_calls.specs.Evaluations.{HasOpposite, IsEntered, IsOfHeap, IsOwn, IsOwnOperation, TellsStep, TellsDescent, TellsAscent};
 
 use crate::cell_views::{glance, look};
 use crate::operations::{OpenOperation, OpenOperations, Operation};
@@ -197,6 +197,24 @@ fn value_of_simple<V: View>(heap: &Heap, view: &V, c: Cell) -> Result<i64, EvalF
     }
 }
 
+/// The operand of an opposite. Another compound term that hasn't two arguments is no number. No memory.
+#[inline(always)]
+fn operand_of_opposite(name: &str, args: &[Cell]) -> Result<Cell, EvalFault>
+    requires { length args.now ≡ 2 → ⊥ }
+    ensures { HasOpposite name.now args.now result }
+{
+    match args {
+        &[only] => {
+            if is_minus(name) {
+                Ok(only)
+            } else {
+                Err(EvalFault::NotANumber)
+            }
+        }
+        _ => Err(EvalFault::NotANumber),
+    }
+}
+
 /// Enters a compound term that hasn't two arguments.
 #[inline(always)]
 fn enter_opposite(
@@ -208,15 +226,19 @@ fn enter_opposite(
     ensures { (h : Cells) (G : Family) → IsEntered h G name.now args.now waiting.old
         result waiting.new }
 {
-    match args {
-        &[only] => {
-            if !is_minus(name) {
-                return Err(EvalFault::NotANumber);
-            }
-            waiting.push(OpenOperation::Opposite)?;
-            Ok(only)
-        }
-        _ => Err(EvalFault::NotANumber),
+    let only = operand_of_opposite(name, args)?;
+    waiting.push(OpenOperation::Opposite)?;
+    Ok(only)
+}
+
+/// The operation that was found. A term without one is no number. No memory.
+#[inline(always)]
+fn known_operation(found: Option<Operation>) -> Result<Operation, EvalFault>
+    ensures { IsKnown found result }
+{
+    match found {
+        Some(operation) => Ok(operation),
+        None => Err(EvalFault::NotANumber),
     }
 }
 
@@ -241,9 +263,7 @@ fn enter_compound(
     let &[left, right] = args else {
         return enter_opposite(pool.name_of(name), args, waiting);
     };
-    let Some(operation) = find_operation(pool, name, latest) else {
-        return Err(EvalFault::NotANumber);
-    };
+    let operation = known_operation(find_operation(pool, name, latest))?;
     if let Some(value) = constant(heap, left) {
         waiting.push(OpenOperation::Right(operation, value))?;
         return Ok(right);

@@ -1,3 +1,4 @@
 pub mod Ports
 pub mod Parts
 pub mod Ends
+pub mod Lines

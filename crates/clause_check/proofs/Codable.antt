@@ -1,10 +1,10 @@
 -- There is code for the program of accepted sentences.
-use Rattle.std.proofs.Common.{◌≡◌, ℕ, zero, suc, ◌≤◌, Bool, true, false, cond, nat_lt, List, [], ◌∷◌, ◌++◌, map, drop, Option, Some, None, refl, sym, ap, ◌∙◌}
+use Rattle.std.proofs.Common.{◌≡◌, ℕ, zero, suc, ◌≤◌, Bool, true, false, cond, nat_lt, List, [], ◌∷◌, map, drop, Option, Some, None, refl, sym, ap}
 use Rattle.std.proofs.Common.{subst, arith}
 use Rattle.fd_language.specs.Term.{Name, term_count}
 use Rattle.std.proofs.lemmas.Bool.{ltb-false}
 use Rattle.std.specs.Str.{bytes_eq}
-use Rattle.std.specs.Prelude.{◌||◌, codes, IsTrue, slice_get}
+use Rattle.std.specs.Prelude.{codes, IsTrue, slice_get}
 use Rattle.fd_model.proofs.Lemmas.{either, first_none, later_none}
 use Rattle.range_terms.proofs.Lemmas.{least_none}
 use Rattle.fd_language.proofs.Lemmas.{first_nil, second_nil}

@@ -22,7 +22,7 @@ use Rattle.clause_check.specs.Parts.{IsQueryWithin, queries_kept, KeepsSentences
 use Rattle.clause_check.specs.Programs.{FlatQuery, clause_by, query_by, query_kept, IsClause}
 use Rattle.clause_check.proofs.FlatGoals.{part_later, part_more, trees_length}
 use Rattle.clause_check.proofs.BodyWalk.{grown_stored}
-use Rattle.clause_check.proofs.SentenceLists.{sentences_more}
+use Rattle.term_reader.proofs.Lemmas.{sentences_more}
 
 -- ---- the definition's clauses and queries
 

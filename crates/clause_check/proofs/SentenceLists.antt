@@ -10,7 +10,6 @@ use Rattle.term_pool.specs.Contents.{Contents}
 use Rattle.term_pool.specs.PlacedTerms.{placed_of}
 use Rattle.term_reader.specs.declared.reader.Sentence.{Sentence}
 use Rattle.term_reader.specs.declared.reader.Sentences.{Sentences}
-use Rattle.term_reader.specs.Sentences.{sentence_of}
 use Rattle.clause_check.specs.declared.faults.Fault.{Fault}
 use Rattle.clause_check.specs.declared.faults.Fault.TheVariants.{Refused, NoMemory}
 use Rattle.clause_check.specs.Causes.{RefusedBy}
@@ -71,9 +70,3 @@ accepted_more N s i d h is n a =
     let all = terms_of s in
     ap (first_refusal INFINITY N all) (front_more s i d h is) ∙ first_append N all (front s i) (term_in s d ∷ [])
     ∙ ap (λ (o : Option model.Refusal). or_later o (or_later (sentence_refusal INFINITY N all (term_in s d)) None)) n ∙ ap (λ (o : Option model.Refusal). or_later o None) a
-
-pub sentences_more : (s : Sentences) (i : ℕ) (d : Sentence) → i < length s.list.items → d ≡ get_or s.list.items i d
-    → map (sentence_of s.pool) (take (i + 1) s.list.items) ≡ map (sentence_of s.pool) (take i s.list.items) ++ sentence_of s.pool d ∷ []
-sentences_more s i d h e =
-    ap (map (sentence_of s.pool)) (take_more s.list.items i d h) ∙ map-append (sentence_of s.pool) (take i s.list.items) (get_or s.list.items i d ∷ [])
-    ∙ ap (λ (x : Sentence). map (sentence_of s.pool) (take i s.list.items) ++ sentence_of s.pool x ∷ []) (sym e)

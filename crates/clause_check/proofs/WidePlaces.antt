@@ -1,5 +1,5 @@
 -- The smallest place of a compound term with too many arguments, among the terms that a walk has passed and those that it has before it.
-use Rattle.std.proofs.Common.{◌≡◌, ℕ, ◌<◌, ◌≤◌, Bool, true, false, cond, nat_lt, min, List, [], ◌∷◌, ◌++◌, Option, Some, None, refl, sym, ap, ◌∙◌, arith}
+use Rattle.std.proofs.Common.{◌≡◌, ℕ, ◌<◌, ◌≤◌, Bool, true, false, cond, nat_lt, List, [], ◌∷◌, ◌++◌, Option, Some, None, refl, sym, ap, ◌∙◌, arith}
 use Rattle.std.proofs.Common.{length, Bor}
 use Rattle.fd_language.specs.PlacedTerm.{PlacedTerm, comp}
 use Rattle.fd_language.specs.Spelling.{least_place}
@@ -8,48 +8,13 @@ use Rattle.term_pool.specs.declared.TermId.{TermId}
 use Rattle.term_pool.specs.Contents.{Contents}
 use Rattle.term_pool.specs.PlacedTerms.{placed_of, parts_by}
 use Rattle.std.proofs.lemmas.Bool.{lt-ltb, ltb-true}
-use Rattle.std.proofs.Math.Nat.{min_comm}
 use Rattle.term_pool.specs.declared.AtomId.{AtomId}
 use Rattle.term_pool.specs.declared.Node.{Node}
 use Rattle.term_pool.specs.declared.Node.TheVariants as nodes
 use Rattle.term_pool.specs.PoolInvariant.{shape_of}
 use Rattle.clause_check.specs.Terms.{lesser, IsSeen}
 use Rattle.clause_check.proofs.TermShapes.{count_parts}
-
--- the smaller of two places, each of which may not be there
-abbrev pub lower : Option ℕ → Option ℕ → Option ℕ
-lower None o = o
-lower (Some p) None = Some p
-lower (Some p) (Some q) = Some (min p q)
-
-pub lower-none : (o : Option ℕ) → lower o None ≡ o
-lower-none None = refl
-lower-none (Some p) = refl
-
-min_assoc : (p q r : ℕ) → min (min p q) r ≡ min p (min q r)
-min_assoc p q r = omega arith
-
-lower-assoc : (a b c : Option ℕ) → lower (lower a b) c ≡ lower a (lower b c)
-lower-assoc None b c = refl
-lower-assoc (Some p) None c = refl
-lower-assoc (Some p) (Some q) None = refl
-lower-assoc (Some p) (Some q) (Some r) = ap (λ (n : ℕ). Some n) (min_assoc p q r)
-
-lower-comm : (a b : Option ℕ) → lower a b ≡ lower b a
-lower-comm None b = sym (lower-none b)
-lower-comm (Some p) None = refl
-lower-comm (Some p) (Some q) = ap (λ (n : ℕ). Some n) (min_comm p q)
-
-least_cons : (p : ℕ) (ps : List ℕ) → least_place (p ∷ ps) ≡ lower (Some p) (least_place ps)
-least_cons p [] = refl
-least_cons p (q ∷ qs) =
-    least_cons (min p q) qs ∙ lower-assoc (Some p) (Some q) (least_place qs) ∙ ap (lower (Some p)) (sym (least_cons q qs))
-
-least_append : (ps qs : List ℕ) → least_place (ps ++ qs) ≡ lower (least_place ps) (least_place qs)
-least_append [] qs = refl
-least_append (p ∷ ps) qs =
-    least_cons p (ps ++ qs) ∙ ap (lower (Some p)) (least_append ps qs) ∙ sym (lower-assoc (Some p) (least_place ps) (least_place qs))
-    ∙ ap (λ (o : Option ℕ). lower o (least_place qs)) (sym (least_cons p ps))
+use Rattle.fd_language.proofs.Lemmas.{lower, lower-none, lower-assoc, lower-comm, least_append, least_cons}
 
 -- among the terms of these ids
 abbrev pub least_ahead : Contents → List TermId → Option ℕ

@@ -9,7 +9,7 @@ use Rattle.monotone_check.specs.declared.CheckFault.{CheckFault}
 use Rattle.monotone_check.specs.declared.CheckFault.TheVariants as check
 use Rattle.term_pool.specs.declared.AtomId.{AtomId}
 use Rattle.clause_check.specs.declared.faults.Cause.{Cause}
-use Rattle.clause_check.specs.declared.faults.Cause.TheVariants.{BadHead, BadGoal, Unknown, Redefines, ArityOver255, Range, Check}
+use Rattle.clause_check.specs.declared.faults.Cause.TheVariants.{BadHead, BadGoal, Unknown, Redefines, ArityOver255, NotARange, Check}
 use Rattle.clause_check.specs.declared.faults.Fault.{Fault}
 use Rattle.clause_check.specs.declared.faults.Fault.TheVariants as fault
 use Rattle.clause_check.specs.declared.faults.ProgramFault.{ProgramFault}
@@ -32,14 +32,10 @@ cause_text c BadGoal = codes "bad goal"
 cause_text c (Unknown name arity) = codes "unknown " ++ functor_name (functor_at c name arity)
 cause_text c (Redefines name arity) = codes "redefines " ++ functor_name (functor_at c name arity)
 cause_text c ArityOver255 = codes "arity over 255"
-cause_text c (Range f) = codes "not a range"
+cause_text c NotARange = codes "not a range"
 cause_text c (Check f) = check_text f
 
 -- a fault at this place, and no want of memory
-abbrev pub IsSpelledAt : ℕ → RangeFault → Type 0
-IsSpelledAt p (spelling.NotARange q) = q ≡ p
-IsSpelledAt p spelling.NoMemory = ⊥
-
 abbrev pub IsCheckedAt : ℕ → CheckFault → Type 0
 IsCheckedAt p (check.NotMonotone q) = q ≡ p
 IsCheckedAt p (check.NotNatural q) = q ≡ p
@@ -54,7 +50,7 @@ IsCauseAt c p BadGoal = Unit {0}
 IsCauseAt c p (Unknown name arity) = name.number < length c.names
 IsCauseAt c p (Redefines name arity) = name.number < length c.names
 IsCauseAt c p ArityOver255 = Unit {0}
-IsCauseAt c p (Range f) = IsSpelledAt p f
+IsCauseAt c p NotARange = Unit {0}
 IsCauseAt c p (Check f) = IsCheckedAt p f
 
 -- the refusal is this one, or memory was wanting
@@ -69,7 +65,7 @@ Refuses c o NoMemory = Unit {0}
 
 -- how a term that spells no range is refused
 abbrev pub IsUnspelled : RangeFault → Fault → Type 0
-IsUnspelled (spelling.NotARange p) f = f ≡ fault.Refused p (Range (spelling.NotARange p))
+IsUnspelled (spelling.NotARange p) f = f ≡ fault.Refused p NotARange
 IsUnspelled spelling.NoMemory f = f ≡ fault.NoMemory
 
 -- how the check refuses a range
@@ -79,6 +75,16 @@ IsOffence (check.NotNatural p) f = f ≡ fault.Refused p (Check (check.NotNatura
 IsOffence (check.BadDivisor p) f = f ≡ fault.Refused p (Check (check.BadDivisor p))
 IsOffence (check.TooWide p) f = f ≡ fault.Refused p (Check (check.TooWide p))
 IsOffence check.NoMemory f = f ≡ fault.NoMemory
+
+-- how a sentence is refused whose smallest place of a compound term with too many arguments is this one
+abbrev pub IsWideRefusal : Option ℕ → Fault → Type 0
+IsWideRefusal None f = ⊥
+IsWideRefusal (Some p) f = f ≡ fault.Refused p ArityOver255
+
+-- the same fault with the pool of the text
+abbrev pub with_pool : Contents → Fault → ProgramFault
+with_pool c (fault.Refused p cause) = At p cause c
+with_pool c fault.NoMemory = NoMemory
 
 -- the cause of the refusal o at the place p, where there is one
 abbrev pub IsCauseOf : Contents → Option model.Refusal → ℕ → Option Cause → Type 0

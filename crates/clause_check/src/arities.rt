@@ -1,9 +1,11 @@
 //! Compound terms with too many arguments.
 
-ghost use Rattle.std.specs.Prelude.{◌≡◌, ◌<◌, Some, length, IfOk};
+ghost use Rattle.std.specs.Prelude.{◌≡◌, ◌<◌, None, Some, length, IfErr, IfOk, OnOk};
 ghost use Rattle.term_pool.specs.PlacedTerms.{placed_of};
+ghost use Rattle.clause_check.specs.Causes.{IsWideRefusal};
 ghost use Rattle.clause_check.specs.Terms.{lesser, IsWidePlace};
 
+use crate::faults::{Cause, Fault};
 use crate::terms::look;
 use fd_language::NoMemory;
 use term_pool::{Node, Pool, TermId};
@@ -32,6 +34,20 @@ pub(crate) fn wide_place(
         }
     }
     Ok(least)
+}
+
+/// Refuses a sentence by the smallest place of a compound term with too many arguments, if it has one.
+pub(crate) fn refuse_wide(place: Option<usize>) -> Result<(), Fault>
+    ensures narrow { OnOk result (place ≡ None) }
+    ensures fault { IfErr result (IsWideRefusal place) }
+{
+    match place {
+        None => Ok(()),
+        Some(place) => Err(Fault::Refused {
+            place,
+            cause: Cause::ArityOver255,
+        }),
+    }
 }
 
 /// The smaller of two places, where the first may not be there.

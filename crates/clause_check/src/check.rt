@@ -9,7 +9,7 @@ ghost use Rattle.clause_check.specs.Parts.{AddsAs, AddsSentence, AreShown, Keeps
 ghost use Rattle.clause_check.specs.PartVerdicts.{AcceptsText, IsHeadCause, RefusesAs, RefusesSentence, RefusesText};
 ghost use Rattle.clause_check.specs.declared.terms.SentenceForm.TheVariants.{Query, Clause, Fact};
 
-use crate::arities::wide_place;
+use crate::arities::{refuse_wide, wide_place};
 use crate::faults::{Cause, Fault, refused};
 use crate::forms::{is_built_in, is_reserved};
 use crate::goals::GoalStore;
@@ -218,10 +218,8 @@ impl Parts {
         ensures fault { IfErr result (RefusesSentence infinity sentences.now sentence.now) }
     {
         let pool = &sentences.pool;
-        if let Some(place) = wide_place(pool, sentence.term, ahead)? {
-            let cause = Cause::ArityOver255;
-            return Err(Fault::Refused { place, cause });
-        }
+        let wide = wide_place(pool, sentence.term, ahead)?;
+        refuse_wide(wide)?;
         match sentence_form(pool, sentence.term) {
             SentenceForm::Query(body) => {
                 self.add_query(alloc, sentences, heads, infinity, sentence, body)

@@ -4,12 +4,11 @@ ghost use Rattle.std.specs.Prelude.{◌≡◌, ◌<◌, Some, length};
 ghost use Rattle.fd_language.specs.PlacedTerm.{place};
 ghost use Rattle.fd_model.specs.Refusals.{refused_at};
 ghost use Rattle.term_pool.specs.PlacedTerms.{placed_of};
-ghost use Rattle.clause_check.specs.Causes.{cause_text, IsCauseAt, RefusedBy};
+ghost use Rattle.clause_check.specs.Causes.{cause_text, with_pool as told_with, IsCauseAt, RefusedBy};
 ghost use Rattle.clause_check.specs.declared.faults.Fault.TheVariants as faults;
 
 use fd_language::NoMemory;
 use monotone_check::CheckFault;
-use range_terms::RangeFault;
 use std::alloc::AllocFailed;
 use term_pool::{AtomId, Pool, TermId};
 
@@ -27,7 +26,7 @@ pub enum Cause {
     /// A compound term has more than 255 arguments.
     ArityOver255,
     /// The term on the right of `in` spells no range.
-    Range(RangeFault),
+    NotARange,
     /// The range is not accepted.
     Check(CheckFault),
 }
@@ -79,5 +78,15 @@ pub(crate) fn refused(pool: &Pool, t: TermId, cause: Cause) -> Fault
     Fault::Refused {
         place: pool.place(t),
         cause,
+    }
+}
+
+/// The same fault with the pool of the text.
+pub(crate) fn with_pool(fault: Fault, pool: Pool) -> ProgramFault
+    ensures { result ≡ told_with pool fault }
+{
+    match fault {
+        Fault::Refused { place, cause } => ProgramFault::At { place, cause, pool },
+        Fault::NoMemory => ProgramFault::NoMemory,
     }
 }

@@ -22,7 +22,7 @@ mod ranges;
 mod terms;
 
 use crate::check::check_sentences;
-use crate::faults::Fault;
+use crate::faults::with_pool;
 pub use crate::faults::{Cause, ProgramFault};
 pub use crate::program::{FlatClause, FlatGoal, Part, Program};
 use fd_language::INFINITY;
@@ -58,11 +58,6 @@ pub fn check_program(alloc: Global, s: Sentences, infinity: u32) -> Result<Progr
                 parts.queries,
             ))
         }
-        Err(Fault::Refused { place, cause }) => Err(ProgramFault::At {
-            place,
-            cause,
-            pool: s.pool,
-        }),
-        Err(Fault::NoMemory) => Err(ProgramFault::NoMemory),
+        Err(fault) => Err(with_pool(fault, s.pool)),
     }
 }

@@ -18,7 +18,7 @@ fn unspelled(fault: RangeFault) -> Fault
     match fault {
         RangeFault::NotARange { place } => Fault::Refused {
             place,
-            cause: Cause::Range(RangeFault::NotARange { place }),
+            cause: Cause::NotARange,
         },
         RangeFault::NoMemory => Fault::NoMemory,
     }

@@ -116,8 +116,8 @@ all_written p b homes l at old now from i to high w =
 -- ---- a clause
 
 -- the place behind what is appended
-pub place_behind : (start : ℕ) (old is new : List Code) → new ≡ old ++ is → start + length new ≡ past (start + length old) is
-place_behind start old is new e = let a = ap length e in let c = length-append old is in let d = past_is (start + length old) is in omega (arith, a, c, d)
+pub place_behind : (old is new : List Code) → new ≡ old ++ is → length new ≡ past (length old) is
+place_behind old is new e = let a = ap length e in let c = length-append old is in let d = past_is (length old) is in omega (arith, a, c, d)
 
 -- what is known of its body
 pub body_known : (p : FlatProgram) → IsProgram p → (homes : List Register) (c : ℕ) → c < length p.clauses → InOrder homes (clause_at p c).variables
@@ -162,7 +162,7 @@ pub body_free : (p : FlatProgram) (homes : List Register) (c count : ℕ) (l : L
 body_free p homes c count l order e = subst (AreFree homes) (sym e) (in_order_free homes (clause_at p c).variables count order)
 
 module _ (p : FlatProgram) (ps : List Predicate) (homes : List Register) (count c : ℕ) (order : InOrder homes (clause_at p c).variables) (known : Known p c)
-    (start : ℕ) (old head goals new : List Code) where
+    (old head goals new : List Code) where
   abbrev t : Term
   t = term_of p.pool (clause_at p c).head
 
@@ -173,10 +173,10 @@ module _ (p : FlatProgram) (ps : List Predicate) (homes : List Register) (count 
   begun = begin_code p.pool homes ((clause_at p c).variables + count) l t
 
   abbrev Goals : ℕ → ℕ → Type 0
-  Goals from to = Appends head goals (λ js. IsGoalsCode (base_in p ps) homes true l (start + length head) js (goals_between p from to))
+  Goals from to = Appends head goals (λ js. IsGoalsCode (base_in p ps) homes true l (length head) js (goals_between p from to))
 
-  placed : (from to : ℕ) → head ≡ old ++ begun → Goals from to → Appends head goals (λ js. IsGoalsCode (base_in p ps) homes true l (past (start + length old) begun) js (goals_between p from to))
-  placed from to e f = subst (λ k. Appends head goals (λ js. IsGoalsCode (base_in p ps) homes true l k js (goals_between p from to))) (place_behind start old begun head e) f
+  placed : (from to : ℕ) → head ≡ old ++ begun → Goals from to → Appends head goals (λ js. IsGoalsCode (base_in p ps) homes true l (past (length old) begun) js (goals_between p from to))
+  placed from to e f = subst (λ k. Appends head goals (λ js. IsGoalsCode (base_in p ps) homes true l k js (goals_between p from to))) (place_behind old begun head e) f
 
   joined : (js ks : List Code) (i : Code) → head ≡ old ++ begun → goals ≡ head ++ js → new ≡ goals ++ (ks ++ (i ∷ [])) → new ≡ old ++ ((begun ++ js) ++ (ks ++ (i ∷ [])))
   joined js ks i e f g =
@@ -185,9 +185,9 @@ module _ (p : FlatProgram) (ps : List Predicate) (homes : List Register) (count 
       ∙ append_assoc old (begun ++ js) (ks ++ (i ∷ []))
 
   pub clause_proceeds : (from to : ℕ) → goals_between p from to ≡ (clause_in p (clause_at p c)).body → head ≡ old ++ begun → Goals from to → new ≡ goals ++ (Deallocate ∷ Proceed ∷ [])
-      → Appends old new (λ is. IsClauseCode (base_in p ps) (start + length old) is (clause_in p (clause_at p c)))
+      → Appends old new (λ is. IsClauseCode (base_in p ps) (length old) is (clause_in p (clause_at p c)))
   clause_proceeds from to body e f g =
-      let at : ℕ = start + length old in
+      let at : ℕ = length old in
       let w = placed from to e f in
       let b : Base = base_in p ps in (
         (begun ++ w.0) ++ (back true ++ (Proceed ∷ [])),
@@ -199,9 +199,9 @@ module _ (p : FlatProgram) (ps : List Predicate) (homes : List Register) (count 
   pub clause_executes : (from to : ℕ) (u : TermId) (made_now : List Bool) → IsProgram p → from < to → to ≤ length p.goals → goal_at p (to - 1) ≡ flat.Call u
       → Suits p.pool (length homes) (term_of p.pool u) → AreMade made_now → length made_now ≡ length homes
       → goals_between p from to ≡ (clause_in p (clause_at p c)).body → head ≡ old ++ begun → Goals from (to - 1) → Executes p.pool ps homes made_now u goals new
-      → Appends old new (λ is. IsClauseCode (base_in p ps) (start + length old) is (clause_in p (clause_at p c)))
+      → Appends old new (λ is. IsClauseCode (base_in p ps) (length old) is (clause_in p (clause_at p c)))
   clause_executes from to u made_now valid low m last suits all long body e f x =
-      let at : ℕ = start + length old in
+      let at : ℕ = length old in
       let w = placed from (to - 1) e f in
       let b : Base = base_in p ps in
       let us : Terms = arguments (term_of p.pool u) in

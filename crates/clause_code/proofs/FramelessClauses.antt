@@ -86,9 +86,9 @@ module _ (p : FlatProgram) (valid : IsProgram p) (ps : List Predicate) (homes : 
   abbrev known : Known p c
   known = known_of p valid c low
 
-  module _ (k free : ℕ) (housed : IsHoused homes false 0 k free) (few : term_count ts ≤ k) (waits : AllWait homes 1 (term_count ts) ts) (start : ℕ) (old new : List Code) where
+  module _ (k free : ℕ) (housed : IsHoused homes false 0 k free) (few : term_count ts ≤ k) (waits : AllWait homes 1 (term_count ts) ts) (old new : List Code) where
     abbrev at : ℕ
-    at = start + length old
+    at = length old
 
     abbrev is : List Code
     is = head_code p.pool homes free ts

@@ -16,7 +16,7 @@ use Rattle.clause_code.specs.Pieces.{Base, Predicate}
 use Rattle.clause_code.specs.CodablePrograms.{AreOnce, EachCodable, QueriesCodable}
 use Rattle.clause_code.specs.Predicates.{Appends, base_in}
 use Rattle.clause_code.specs.SafeCode.{IsQueryPiece}
-use Rattle.clause_code.specs.Slots.{slot, AreGiven, AreShown, AreAll, IsFrame}
+use Rattle.clause_code.specs.Slots.{slot, AreGiven, AreShown, AreAll, IsQueryFrame}
 use Rattle.clause_code.specs.Steps.{home}
 use Rattle.clause_code.specs.Bodies.{Levels, AreFree, IsGoalsCode}
 use Rattle.clause_code.specs.ClauseParts.{front, head_code, IsHoused, AreSlots, levels_code, levels_behind}
@@ -96,7 +96,7 @@ shown_next v k shown slots new once low long own w e j l = elim (cases_eq j k) [
 ]
 
 pub frame_made : (v behind : ℕ) (shown slots : List ℕ) (homes : List Register) → AreGiven v behind slots → AreAll v slots → AreShown shown (length shown) slots
-    → All (λ x. x < v) shown → homes ≡ map Y slots → IsFrame v shown homes (behind - 1)
+    → All (λ x. x < v) shown → homes ≡ map Y slots → IsQueryFrame v shown homes (behind - 1)
 frame_made v behind shown slots homes g all first own e =
     let n = g.long in
     let at : (x : ℕ) → x < v → home homes x ≡ Y (slot slots x) = λ x l. ap (λ h. home h x) e ∙ get_or-map Y slots x 0 (X 0) (omega (arith, n, l)) in
@@ -109,14 +109,14 @@ frame_made v behind shown slots homes g all first own e =
 
 -- ---- a query
 
-pub frame_slots : (v : ℕ) (shown : List ℕ) (homes : List Register) (slots : ℕ) → IsFrame v shown homes slots → AreSlots homes
+pub frame_slots : (v : ℕ) (shown : List ℕ) (homes : List Register) (slots : ℕ) → IsQueryFrame v shown homes slots → AreSlots homes
 frame_slots v shown homes slots f =
     let n = f.long in record {
       apart = λ x y l m e. f.apart x y (omega (arith, l, n)) (omega (arith, m, n)) e;
       slots = λ x l. let w = f.in_frame x (omega (arith, l, n)) in (w.0, w.1);
     }
 
-frame_housed : (v : ℕ) (shown : List ℕ) (homes : List Register) (slots size : ℕ) → slots ≤ size → IsFrame v shown homes slots → IsHoused homes true size 0 1
+frame_housed : (v : ℕ) (shown : List ℕ) (homes : List Register) (slots size : ℕ) → slots ≤ size → IsQueryFrame v shown homes slots → IsHoused homes true size 0 1
 frame_housed v shown homes slots size room f =
     let n = f.long in record {
       apart = λ x y l m e. f.apart x y (omega (arith, l, n)) (omega (arith, m, n)) e;
@@ -137,7 +137,7 @@ in_slots homes k (x ∷ shown) own first =
     )
 
 -- the level slots are behind those of the variables
-pub frame_free : (v : ℕ) (shown : List ℕ) (homes : List Register) (slots count : ℕ) → IsFrame v shown homes slots → AreFree homes (levels_behind slots count)
+pub frame_free : (v : ℕ) (shown : List ℕ) (homes : List Register) (slots count : ℕ) → IsQueryFrame v shown homes slots → AreFree homes (levels_behind slots count)
 frame_free v shown homes slots count f = record { clear = λ k a z x l e. by count k a x l e; within = inside count }
   where
     by : (n k : ℕ) → (levels_behind slots n).first ≤ k → (x : ℕ) → x < length homes → home homes x ≡ Y k → ⊥
@@ -150,19 +150,19 @@ frame_free v shown homes slots count f = record { clear = λ k a z x l e. by cou
     inside zero = omega arith
     inside (suc n) = omega arith
 
-pub query_written : (p : FlatProgram) (ps : List Predicate) (homes : List Register) (slots count q start : ℕ) (old one head goals new : List Code)
-    → IsFrame (query_at p q).variables (query_at p q).shown homes slots → Asked p q
+pub query_written : (p : FlatProgram) (ps : List Predicate) (homes : List Register) (slots count q : ℕ) (old one head goals new : List Code)
+    → IsQueryFrame (query_at p q).variables (query_at p q).shown homes slots → Asked p q
     → one ≡ old ++ (Allocate (slots + count) ∷ []) → head ≡ one ++ (head_code p.pool homes 1 no_terms ++ levels_code (levels_behind slots count))
-    → Appends head goals (λ js. IsGoalsCode (base_in p ps) homes true (levels_behind slots count) (start + length head) js (query_in p (query_at p q)).goals) → new ≡ goals ++ (AnswerNow ∷ [])
-    → Appends old new (λ is. IsQueryPiece (base_in p ps) (start + length old) is (query_in p (query_at p q)))
-query_written p ps homes slots count q start old one head goals new frame asked d e f g =
+    → Appends head goals (λ js. IsGoalsCode (base_in p ps) homes true (levels_behind slots count) (length head) js (query_in p (query_at p q)).goals) → new ≡ goals ++ (AnswerNow ∷ [])
+    → Appends old new (λ is. IsQueryPiece (base_in p ps) (length old) is (query_in p (query_at p q)))
+query_written p ps homes slots count q old one head goals new frame asked d e f g =
     let b : Base = base_in p ps in
-    let at : ℕ = start + length old in
+    let at : ℕ = length old in
     let l : Levels = levels_behind slots count in
     let hs : List Code = head_code p.pool homes 1 no_terms ++ levels_code l in
     let is : List Code = front true (slots + count) ++ hs in
     let stands : head ≡ old ++ is = e ∙ ap (λ x. x ++ hs) d ∙ append_assoc old (Allocate (slots + count) ∷ []) hs in
-    let w = subst (λ k. Appends head goals (λ js. IsGoalsCode b homes true l k js (query_in p (query_at p q)).goals)) (place_behind start old is head stands) f in
+    let w = subst (λ k. Appends head goals (λ js. IsGoalsCode b homes true l k js (query_in p (query_at p q)).goals)) (place_behind old is head stands) f in
     let n = frame.long in
     let shown : List ℕ = (query_at p q).shown in
     let placed = in_slots homes 1 shown (λ j m. let o = asked.own j 0 m in omega (arith, o, n)) (λ j m. let up : suc j ≡ 1 + j = omega arith in frame.first j m ∙ ap Y up) in (

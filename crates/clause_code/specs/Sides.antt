@@ -41,9 +41,9 @@ pub record Level : Type 0 where
   pub levels : Levels
 
 -- A level is written up to the goal x; what is behind it is the rest.
-pub record Waits (p : FlatProgram) (b : Base) (homes : List Register) (start : ℕ) (low : Level) (now : List Code) (x : FlatGoal) (rest : Part) : Type 0 where
+pub record Waits (p : FlatProgram) (b : Base) (homes : List Register) (low : Level) (now : List Code) (x : FlatGoal) (rest : Part) : Type 0 where
   pub number : ℕ
-  pub written : Written p b homes low.levels (start + length low.before) low.before now low.part.from number low.part.to
+  pub written : Written p b homes low.levels (length low.before) low.before now low.part.from number low.part.to
   pub goal : goal_at p number ≡ x
   pub next : rest.from ≡ suc number
   pub end : rest.to ≡ low.part.to
@@ -51,28 +51,28 @@ pub record Waits (p : FlatProgram) (b : Base) (homes : List Register) (start : �
   pub within : low.part.to ≤ length p.goals
 
 -- the level `high` is the left side of a goal of the level `low`
-pub record IsLeft (p : FlatProgram) (b : Base) (homes : List Register) (start : ℕ) (low : Level) (either : ℕ) (right rest : Part) (high : Level) : Type 0 where
+pub record IsLeft (p : FlatProgram) (b : Base) (homes : List Register) (low : Level) (either : ℕ) (right rest : Part) (high : Level) : Type 0 where
   pub now : List Code
-  pub waits : Waits p b homes start low now (flat.Either high.part right) rest
+  pub waits : Waits p b homes low now (flat.Either high.part right) rest
   pub before : high.before ≡ now ++ (Either 0 ∷ [])
   pub levels : high.levels ≡ low.levels
   pub place : either ≡ length now
 
 -- it is the right side, and the left one is written
-pub record IsRight (p : FlatProgram) (b : Base) (homes : List Register) (start : ℕ) (low : Level) (jump : ℕ) (rest : Part) (high : Level) : Type 0 where
+pub record IsRight (p : FlatProgram) (b : Base) (homes : List Register) (low : Level) (jump : ℕ) (rest : Part) (high : Level) : Type 0 where
   pub now : List Code
   pub left : Part
   pub is : List Code
-  pub waits : Waits p b homes start low now (flat.Either left high.part) rest
-  pub code : IsGoalsCode b homes true low.levels (suc (start + length now)) is (goals_in p left)
-  pub before : high.before ≡ now ++ (Either (start + (length now + length is + 2)) ∷ (is ++ (Jump 0 ∷ [])))
+  pub waits : Waits p b homes low now (flat.Either left high.part) rest
+  pub code : IsGoalsCode b homes true low.levels (suc (length now)) is (goals_in p left)
+  pub before : high.before ≡ now ++ (Either (length now + length is + 2) ∷ (is ++ (Jump 0 ∷ [])))
   pub levels : high.levels ≡ low.levels
   pub place : jump ≡ length now + suc (length is)
 
 -- it is the test of C -> A
-pub record IsTest (p : FlatProgram) (b : Base) (homes : List Register) (start : ℕ) (low : Level) (outer : Levels) (holds rest : Part) (high : Level) : Type 0 where
+pub record IsTest (p : FlatProgram) (b : Base) (homes : List Register) (low : Level) (outer : Levels) (holds rest : Part) (high : Level) : Type 0 where
   pub now : List Code
-  pub waits : Waits p b homes start low now (flat.If high.part holds None) rest
+  pub waits : Waits p b homes low now (flat.If high.part holds None) rest
   pub before : high.before ≡ now ++ (TestOnly low.levels.next ∷ [])
   pub levels : high.levels ≡ in_test low.levels low.levels.next
   pub same : outer ≡ low.levels
@@ -82,78 +82,78 @@ abbrev pub tested_code : Levels → List Code → List Code
 tested_code l is = is ++ (CutTo l.next ∷ [])
 
 -- it is A of that, and the test is written
-pub record IsHeld (p : FlatProgram) (b : Base) (homes : List Register) (start : ℕ) (low : Level) (rest : Part) (high : Level) : Type 0 where
+pub record IsHeld (p : FlatProgram) (b : Base) (homes : List Register) (low : Level) (rest : Part) (high : Level) : Type 0 where
   pub now : List Code
   pub test : Part
   pub is : List Code
-  pub waits : Waits p b homes start low now (flat.If test high.part None) rest
-  pub code : IsGoalsCode b homes true (in_test low.levels low.levels.next) (suc (start + length now)) is (goals_in p test)
+  pub waits : Waits p b homes low now (flat.If test high.part None) rest
+  pub code : IsGoalsCode b homes true (in_test low.levels low.levels.next) (suc (length now)) is (goals_in p test)
   pub before : high.before ≡ now ++ (TestOnly low.levels.next ∷ tested_code low.levels is)
   pub levels : high.levels ≡ low.levels
 
 -- it is the test of C -> A ; B
-pub record IsChoice (p : FlatProgram) (b : Base) (homes : List Register) (start : ℕ) (low : Level) (at : ℕ) (outer : Levels) (holds other rest : Part) (high : Level) : Type 0 where
+pub record IsChoice (p : FlatProgram) (b : Base) (homes : List Register) (low : Level) (at : ℕ) (outer : Levels) (holds other rest : Part) (high : Level) : Type 0 where
   pub now : List Code
-  pub waits : Waits p b homes start low now (flat.If high.part holds (Some other)) rest
+  pub waits : Waits p b homes low now (flat.If high.part holds (Some other)) rest
   pub before : high.before ≡ now ++ (EnterTest low.levels.next (suc low.levels.next) 0 ∷ [])
   pub levels : high.levels ≡ in_test low.levels (suc low.levels.next)
   pub same : outer ≡ low.levels
   pub place : at ≡ length now
 
 -- it is A of that, and the test is written
-pub record IsChosen (p : FlatProgram) (b : Base) (homes : List Register) (start : ℕ) (low : Level) (at : ℕ) (other rest : Part) (high : Level) : Type 0 where
+pub record IsChosen (p : FlatProgram) (b : Base) (homes : List Register) (low : Level) (at : ℕ) (other rest : Part) (high : Level) : Type 0 where
   pub now : List Code
   pub test : Part
   pub is : List Code
-  pub waits : Waits p b homes start low now (flat.If test high.part (Some other)) rest
-  pub code : IsGoalsCode b homes true (in_test low.levels (suc low.levels.next)) (suc (start + length now)) is (goals_in p test)
+  pub waits : Waits p b homes low now (flat.If test high.part (Some other)) rest
+  pub code : IsGoalsCode b homes true (in_test low.levels (suc low.levels.next)) (suc (length now)) is (goals_in p test)
   pub before : high.before ≡ now ++ (EnterTest low.levels.next (suc low.levels.next) 0 ∷ tested_code low.levels is)
   pub levels : high.levels ≡ low.levels
   pub place : at ≡ length now
 
 -- it is B of that, and both others are written
-pub record IsOther (p : FlatProgram) (b : Base) (homes : List Register) (start : ℕ) (low : Level) (jump : ℕ) (rest : Part) (high : Level) : Type 0 where
+pub record IsOther (p : FlatProgram) (b : Base) (homes : List Register) (low : Level) (jump : ℕ) (rest : Part) (high : Level) : Type 0 where
   pub now : List Code
   pub test : Part
   pub holds : Part
   pub is : List Code
   pub hs : List Code
-  pub waits : Waits p b homes start low now (flat.If test holds (Some high.part)) rest
-  pub code : IsGoalsCode b homes true (in_test low.levels (suc low.levels.next)) (suc (start + length now)) is (goals_in p test)
-  pub way : IsGoalsCode b homes true low.levels (past (suc (start + length now)) (tested_code low.levels is)) hs (goals_in p holds)
-  pub before : high.before ≡ now ++ (EnterTest low.levels.next (suc low.levels.next) (start + (length now + length (tested_code low.levels is ++ hs) + 2))
+  pub waits : Waits p b homes low now (flat.If test holds (Some high.part)) rest
+  pub code : IsGoalsCode b homes true (in_test low.levels (suc low.levels.next)) (suc (length now)) is (goals_in p test)
+  pub way : IsGoalsCode b homes true low.levels (past (suc (length now)) (tested_code low.levels is)) hs (goals_in p holds)
+  pub before : high.before ≡ now ++ (EnterTest low.levels.next (suc low.levels.next) (length now + length (tested_code low.levels is ++ hs) + 2)
       ∷ ((tested_code low.levels is ++ hs) ++ (Jump 0 ∷ [])))
   pub levels : high.levels ≡ low.levels
   pub place : jump ≡ length now + suc (length (tested_code low.levels is ++ hs))
 
 -- it is the test of a negation
-pub record IsDenial (p : FlatProgram) (b : Base) (homes : List Register) (start : ℕ) (low : Level) (at : ℕ) (outer : Levels) (rest : Part) (high : Level) : Type 0 where
+pub record IsDenial (p : FlatProgram) (b : Base) (homes : List Register) (low : Level) (at : ℕ) (outer : Levels) (rest : Part) (high : Level) : Type 0 where
   pub now : List Code
-  pub waits : Waits p b homes start low now (flat.Not high.part) rest
+  pub waits : Waits p b homes low now (flat.Not high.part) rest
   pub before : high.before ≡ now ++ (EnterTest low.levels.next (suc low.levels.next) 0 ∷ [])
   pub levels : high.levels ≡ in_test low.levels (suc low.levels.next)
   pub same : outer ≡ low.levels
   pub place : at ≡ length now
 
-abbrev pub Opens : FlatProgram → Base → List Register → ℕ → Level → Side → Level → Type 0
-Opens p b homes start low (Left either right rest) high = IsLeft p b homes start low either right rest high
-Opens p b homes start low (Right jump rest) high = IsRight p b homes start low jump rest high ⊎ IsOther p b homes start low jump rest high
-Opens p b homes start low (Test outer holds rest) high = IsTest p b homes start low outer holds rest high
-Opens p b homes start low (Held rest) high = IsHeld p b homes start low rest high
-Opens p b homes start low (Choice at outer holds other rest) high = IsChoice p b homes start low at outer holds other rest high
-Opens p b homes start low (Chosen at other rest) high = IsChosen p b homes start low at other rest high
-Opens p b homes start low (Denial at outer rest) high = IsDenial p b homes start low at outer rest high
+abbrev pub Opens : FlatProgram → Base → List Register → Level → Side → Level → Type 0
+Opens p b homes low (Left either right rest) high = IsLeft p b homes low either right rest high
+Opens p b homes low (Right jump rest) high = IsRight p b homes low jump rest high ⊎ IsOther p b homes low jump rest high
+Opens p b homes low (Test outer holds rest) high = IsTest p b homes low outer holds rest high
+Opens p b homes low (Held rest) high = IsHeld p b homes low rest high
+Opens p b homes low (Choice at outer holds other rest) high = IsChoice p b homes low at outer holds other rest high
+Opens p b homes low (Chosen at other rest) high = IsChosen p b homes low at other rest high
+Opens p b homes low (Denial at outer rest) high = IsDenial p b homes low at outer rest high
 
 -- each side is a level above the one before it
-abbrev pub Nested : FlatProgram → Base → List Register → ℕ → Level → List Side → Level → Type 0
-Nested p b homes start low [] high = low ≡ high
-Nested p b homes start low (s ∷ ss) high = (mid : Level) × Opens p b homes start low s mid × Nested p b homes start mid ss high
+abbrev pub Nested : FlatProgram → Base → List Register → Level → List Side → Level → Type 0
+Nested p b homes low [] high = low ≡ high
+Nested p b homes low (s ∷ ss) high = (mid : Level) × Opens p b homes low s mid × Nested p b homes mid ss high
 
 -- With these open sides, the goals of the part are the next ones to be written, and their cuts go to these levels.
-pub record Stands (p : FlatProgram) (b : Base) (homes : List Register) (start : ℕ) (first : Level) (sides : List Side) (now : List Code) (part : Part) (l : Levels) : Type 0 where
+pub record Stands (p : FlatProgram) (b : Base) (homes : List Register) (first : Level) (sides : List Side) (now : List Code) (part : Part) (l : Levels) : Type 0 where
   pub top : Level
-  pub nested : Nested p b homes start first sides top
-  pub written : Written p b homes top.levels (start + length top.before) top.before now top.part.from part.from top.part.to
+  pub nested : Nested p b homes first sides top
+  pub written : Written p b homes top.levels (length top.before) top.before now top.part.from part.from top.part.to
   pub end : part.to ≡ top.part.to
   pub within : part.to ≤ length p.goals
   pub levels : l ≡ top.levels
@@ -180,17 +180,17 @@ HasPlace _ code = Unit {0}
 
 -- Behind the left side a jump is written, the choice leads behind it, and the right side is next; behind that the jump leads, and the rest is next. Behind a
 -- test its cut is written, and then what follows where it holds; a negation fails there.
-abbrev pub Leaves : ℕ → Side → Levels → List Code → List Side → List Code → List Side → Part → Levels → Type 0
-Leaves start (Left either right rest) l old sides new later next m =
-    (new ≡ slice_set (old ++ (Jump 0 ∷ [])) either (Either (start + (length old + 1)))) × (later ≡ sides ++ (Right (length old) rest ∷ [])) × (next ≡ right) × (m ≡ l)
-Leaves start (Right jump rest) l old sides new later next m = (new ≡ slice_set old jump (Jump (start + length old))) × (later ≡ sides) × (next ≡ rest) × (m ≡ l)
-Leaves start (Test outer holds rest) l old sides new later next m = (new ≡ old ++ (CutTo outer.next ∷ [])) × (later ≡ sides ++ (Held rest ∷ [])) × (next ≡ holds) × (m ≡ outer)
-Leaves start (Held rest) l old sides new later next m = (new ≡ old) × (later ≡ sides) × (next ≡ rest) × (m ≡ l)
-Leaves start (Choice at outer holds other rest) l old sides new later next m = (new ≡ old ++ (CutTo outer.next ∷ [])) × (later ≡ sides ++ (Chosen at other rest ∷ [])) × (next ≡ holds) × (m ≡ outer)
-Leaves start (Chosen at other rest) l old sides new later next m =
-    (new ≡ slice_set (old ++ (Jump 0 ∷ [])) at (EnterTest l.next (suc l.next) (start + (length old + 1)))) × (later ≡ sides ++ (Right (length old) rest ∷ [])) × (next ≡ other) × (m ≡ l)
-Leaves start (Denial at outer rest) l old sides new later next m =
-    (new ≡ slice_set (old ++ (CutTo outer.next ∷ Builtin kind.Fail ∷ [])) at (EnterTest outer.next (suc outer.next) (start + (length old + 2)))) × (later ≡ sides) × (next ≡ rest) × (m ≡ outer)
+abbrev pub Leaves : Side → Levels → List Code → List Side → List Code → List Side → Part → Levels → Type 0
+Leaves (Left either right rest) l old sides new later next m =
+    (new ≡ slice_set (old ++ (Jump 0 ∷ [])) either (Either (length old + 1))) × (later ≡ sides ++ (Right (length old) rest ∷ [])) × (next ≡ right) × (m ≡ l)
+Leaves (Right jump rest) l old sides new later next m = (new ≡ slice_set old jump (Jump (length old))) × (later ≡ sides) × (next ≡ rest) × (m ≡ l)
+Leaves (Test outer holds rest) l old sides new later next m = (new ≡ old ++ (CutTo outer.next ∷ [])) × (later ≡ sides ++ (Held rest ∷ [])) × (next ≡ holds) × (m ≡ outer)
+Leaves (Held rest) l old sides new later next m = (new ≡ old) × (later ≡ sides) × (next ≡ rest) × (m ≡ l)
+Leaves (Choice at outer holds other rest) l old sides new later next m = (new ≡ old ++ (CutTo outer.next ∷ [])) × (later ≡ sides ++ (Chosen at other rest ∷ [])) × (next ≡ holds) × (m ≡ outer)
+Leaves (Chosen at other rest) l old sides new later next m =
+    (new ≡ slice_set (old ++ (Jump 0 ∷ [])) at (EnterTest l.next (suc l.next) (length old + 1))) × (later ≡ sides ++ (Right (length old) rest ∷ [])) × (next ≡ other) × (m ≡ l)
+Leaves (Denial at outer rest) l old sides new later next m =
+    (new ≡ slice_set (old ++ (CutTo outer.next ∷ Builtin kind.Fail ∷ [])) at (EnterTest outer.next (suc outer.next) (length old + 2))) × (later ≡ sides) × (next ≡ rest) × (m ≡ outer)
 
 -- ---- how many turns are left
 

@@ -24,7 +24,7 @@ abbrev pub AreAll : ℕ → List ℕ → Type 0
 AreAll k slots = (x : ℕ) → x < k → 0 < slot slots x
 
 -- The v variables of a query are in slots of a frame with so many, the shown ones first.
-pub record IsFrame (v : ℕ) (shown : List ℕ) (homes : List Register) (slots : ℕ) : Type 0 where
+pub record IsQueryFrame (v : ℕ) (shown : List ℕ) (homes : List Register) (slots : ℕ) : Type 0 where
   pub long : length homes ≡ v
   pub apart : (x y : ℕ) → x < v → y < v → home homes x ≡ home homes y → x ≡ y
   pub in_frame : (x : ℕ) → x < v → (i : ℕ) × (home homes x ≡ Y (suc i)) × (i < slots)

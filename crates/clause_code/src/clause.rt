@@ -61,7 +61,6 @@ fn write_clause(
     code: &mut Vec<Code>,
     works: &mut Vec<Work>,
     c: usize,
-    start: usize,
     slots: usize,
     levels: Levels,
 ) -> Result<(), NoMemory>
@@ -76,7 +75,7 @@ fn write_clause(
     requires made { made.old.items ≡ unmade homes.now }
     requires works { works.old.items ≡ [] }
     ensures { OnOk result (Appends code.old.items code.new.items
-        (λ is. IsClauseCode (base_in program.now predicates.now) (start + length code.old.items) is
+        (λ is. IsClauseCode (base_in program.now predicates.now) (length code.old.items) is
         (clause_in program.now (clause_at program.now c)))) }
 {
     program.known();
@@ -99,13 +98,13 @@ fn write_clause(
                 to: body.to - 1,
             };
             write_goals(
-                alloc, program, ranges, predicates, homes, made, code, works, start, before, levels,
+                alloc, program, ranges, predicates, homes, made, code, works, before, levels,
             )?;
             execute(pool, predicates, homes, made, code, works, t)?;
         }
         None => {
             write_goals(
-                alloc, program, ranges, predicates, homes, made, code, works, start, body, levels,
+                alloc, program, ranges, predicates, homes, made, code, works, body, levels,
             )?;
             code.push(Code::Deallocate)?;
             code.push(Code::Proceed)?;
@@ -122,7 +121,6 @@ fn compile_framed(
     predicates: &Predicates,
     needs: &[usize],
     c: usize,
-    start: usize,
     code: &mut Vec<Code>,
 ) -> Result<(), NoMemory>
     requires clause { c < length program.now.clauses }
@@ -130,7 +128,7 @@ fn compile_framed(
     requires needs { AreNeeds program.now (length program.now.goals) needs.now }
     requires ranges { map (λ r. r.value) ranges.now ≡ program.now.ranges }
     ensures { OnOk result (Appends code.old.items code.new.items
-        (λ is. IsClauseCode (base_in program.now predicates.now) (start + length code.old.items) is
+        (λ is. IsClauseCode (base_in program.now predicates.now) (length code.old.items) is
         (clause_in program.now (clause_at program.now c)))) }
 {
     program.known();
@@ -142,12 +140,11 @@ fn compile_framed(
     let mut made = vec![in alloc; false; homes.len()]?;
     let mut works = Vec::new(alloc);
     write_clause(
-        alloc, program, ranges, predicates, &homes, &mut made, code, &mut works, c, start, slots,
-        levels,
+        alloc, program, ranges, predicates, &homes, &mut made, code, &mut works, c, slots, levels,
     )
 }
 
-/// Writes the code of the clause c behind what `code` has, which stands from the place `start` on. `ranges` are the program's, by
+/// Writes the code of the clause c behind what `code` has. `ranges` are the program's, by
 /// their numbers, and `needs` says how many level slots its goals need. Where the body is a user goal alone, or empty, there is no frame. The
 /// error is want of memory.
 pub fn compile_clause(
@@ -157,7 +154,6 @@ pub fn compile_clause(
     predicates: &Predicates,
     needs: &[usize],
     c: usize,
-    start: usize,
     code: &mut Vec<Code>,
 ) -> Result<(), NoMemory>
     requires clause { c < length program.now.clauses }
@@ -166,12 +162,12 @@ pub fn compile_clause(
     requires ranges { map (λ r. r.value) ranges.now ≡ program.now.ranges }
     requires predicates { ArePredicates program.now predicates.now }
     ensures { OnOk result (Appends code.old.items code.new.items
-        (λ is. IsClauseCode (base_in program.now predicates.now) (start + length code.old.items) is
+        (λ is. IsClauseCode (base_in program.now predicates.now) (length code.old.items) is
         (clause_in program.now (clause_at program.now c)))) }
 {
     match body_of(program, program.body(c)) {
-        Body::Empty => compile_short(alloc, program, predicates, c, None, start, code),
-        Body::Call(t) => compile_short(alloc, program, predicates, c, Some(t), start, code),
-        Body::Longer => compile_framed(alloc, program, ranges, predicates, needs, c, start, code),
+        Body::Empty => compile_short(alloc, program, predicates, c, None, code),
+        Body::Call(t) => compile_short(alloc, program, predicates, c, Some(t), code),
+        Body::Longer => compile_framed(alloc, program, ranges, predicates, needs, c, code),
     }
 }

@@ -143,14 +143,13 @@ pub(crate) fn compile_short(
     predicates: &Predicates,
     c: usize,
     goal: Option<TermId>,
-    start: usize,
     code: &mut Vec<Code>,
 ) -> Result<(), NoMemory>
     requires clause { c < length program.now.clauses }
     requires predicates { ArePredicates program.now predicates.now }
     requires body { IsShortBody program.now (clause_at program.now c).body goal }
     ensures { OnOk result (Appends code.old.items code.new.items
-        (λ is. IsClauseCode (base_in program.now predicates.now) (start + length code.old.items) is
+        (λ is. IsClauseCode (base_in program.now predicates.now) (length code.old.items) is
         (clause_in program.now (clause_at program.now c)))) }
 {
     program.known();

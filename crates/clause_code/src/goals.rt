@@ -250,7 +250,7 @@ fn write_goal(
     Ok(())
 }
 
-/// The goals of the part, behind what `code` has, which stands from the place `start` on. Their cuts and tests have these level slots.
+/// The goals of the part, behind what `code` has. Their cuts and tests have these level slots.
 pub(crate) fn write_goals(
     alloc: Global,
     program: &Program,
@@ -260,7 +260,6 @@ pub(crate) fn write_goals(
     made: &mut Vec<bool>,
     code: &mut Vec<Code>,
     works: &mut Vec<Work>,
-    start: usize,
     part: Part,
     levels: Levels,
 ) -> Result<(), NoMemory>
@@ -277,7 +276,7 @@ pub(crate) fn write_goals(
     requires works { works.old.items ≡ [] }
     ensures code { OnOk result (Appends code.old.items code.new.items
         (λ is. IsGoalsCode (base_in program.now predicates.now) homes.now true levels
-        (start + length code.old.items) is (goals_in program.now part))) }
+        (length code.old.items) is (goals_in program.now part))) }
     ensures made { OnOk result (made.new.items ≡ made.old.items) }
     ensures works { OnOk result (works.new.items ≡ []) }
 {
@@ -305,7 +304,7 @@ pub(crate) fn write_goals(
             };
             next = enter(&mut sides, goal, at, rest, next.levels)?;
         } else if let Some(side) = sides.pop() {
-            next = leave(start, code, &mut sides, side, next.levels)?;
+            next = leave(code, &mut sides, side, next.levels)?;
         } else {
             return Ok(());
         }

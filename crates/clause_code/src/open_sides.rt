@@ -175,19 +175,18 @@ fn commit(
     })
 }
 
-/// What is next behind a side. The places before it that lead behind it are settled: the code stands from the place `start` on.
+/// What is next behind a side. The places before it that lead behind it are settled.
 pub(crate) fn leave(
-    start: usize,
     code: &mut Vec<Code>,
     sides: &mut Vec<Side>,
     side: Side,
     levels: Levels,
 ) -> Result<Next, NoMemory>
     requires { HasPlace side code.old.items }
-    ensures { IfOk result (λ n. Leaves start side levels code.old.items sides.old.items
+    ensures { IfOk result (λ n. Leaves side levels code.old.items sides.old.items
         code.new.items sides.new.items n.part n.levels) }
 {
-    let end = start.checked_add(code.len()).ok_or(NoMemory)?;
+    let end = code.len();
     match side {
         Side::Left {
             either,

@@ -7,7 +7,7 @@ ghost use Rattle.clause_code.specs.CodablePrograms.{AreOnce, IsCodable};
 ghost use Rattle.clause_code.specs.LevelSlots.{each_need, AreNeeds};
 ghost use Rattle.clause_code.specs.Predicates.{ArePredicates, Appends, base_in};
 ghost use Rattle.clause_code.specs.SafeCode.{IsQueryPiece};
-ghost use Rattle.clause_code.specs.Slots.{AreAll, AreGiven, AreShown, IsFrame, slot};
+ghost use Rattle.clause_code.specs.Slots.{AreAll, AreGiven, AreShown, IsQueryFrame, slot};
 
 use crate::argument_homes::added;
 use crate::goals::write_goals;
@@ -31,7 +31,7 @@ struct QuerySlots {
 /// The places that a query's code uses: the registers of its variables, how many slots these have, and how many are behind them
 /// for levels.
 #[derive(Clone, Copy)]
-struct Frame<'h> {
+struct QueryPlaces<'h> {
     homes: &'h [Register],
     slots: usize,
     levels: usize,
@@ -98,7 +98,7 @@ fn homes_of(alloc: Global, slots: &[usize]) -> Result<Vec<Register>, NoMemory>
 fn frame_of(alloc: Global, variables: usize, shown: &[u64]) -> Result<QuerySlots, NoMemory>
     requires below { All (λ x. x < variables) shown.now }
     requires once { AreOnce shown.now }
-    ensures { IfOk result (λ f. IsFrame variables shown.now f.homes.items f.slots) }
+    ensures { IfOk result (λ f. IsQueryFrame variables shown.now f.homes.items f.slots) }
 {
     let mut slots = shown_slots(alloc, variables, shown)?;
     let behind = give_others(&mut slots, shown.len() + 1)?;
@@ -115,20 +115,19 @@ fn write_query(
     program: &Program,
     ranges: &[Rc<RangeCode>],
     predicates: &Predicates,
-    frame: Frame<'_>,
+    frame: QueryPlaces<'_>,
     q: usize,
-    start: usize,
     code: &mut Vec<Code>,
 ) -> Result<(), NoMemory>
     requires query { q < length program.now.queries }
     requires predicates { ArePredicates program.now predicates.now }
     requires ranges { map (λ r. r.value) ranges.now ≡ program.now.ranges }
-    requires frame { IsFrame (query_at program.now q).variables (query_at program.now q).shown
+    requires frame { IsQueryFrame (query_at program.now q).variables (query_at program.now q).shown
         frame.homes.now frame.slots }
     requires levels { frame.levels
         ≡ each_need (query_in program.now (query_at program.now q)).goals }
     ensures { OnOk result (Appends code.old.items code.new.items
-        (λ is. IsQueryPiece (base_in program.now predicates.now) (start + length code.old.items) is
+        (λ is. IsQueryPiece (base_in program.now predicates.now) (length code.old.items) is
         (query_in program.now (query_at program.now q)))) }
 {
     program.known();
@@ -143,14 +142,13 @@ fn write_query(
     read_arguments(pool, homes, &mut made, code, &mut works, &[])?;
     write_levels(code, levels)?;
     write_goals(
-        alloc, program, ranges, predicates, homes, &mut made, code, &mut works, start, goals,
-        levels,
+        alloc, program, ranges, predicates, homes, &mut made, code, &mut works, goals, levels,
     )?;
     code.push(Code::AnswerNow)?;
     Ok(())
 }
 
-/// Writes the code of the query q behind what `code` has, which stands from the place `start` on. `ranges` are the program's, by
+/// Writes the code of the query q behind what `code` has. `ranges` are the program's, by
 /// their numbers, and `needs` says how many level slots its goals need. The error is want of memory.
 pub fn compile_query(
     alloc: Global,
@@ -159,7 +157,6 @@ pub fn compile_query(
     predicates: &Predicates,
     needs: &[usize],
     q: usize,
-    start: usize,
     code: &mut Vec<Code>,
 ) -> Result<(), NoMemory>
     requires query { q < length program.now.queries }
@@ -168,15 +165,15 @@ pub fn compile_query(
     requires ranges { map (λ r. r.value) ranges.now ≡ program.now.ranges }
     requires predicates { ArePredicates program.now predicates.now }
     ensures { OnOk result (Appends code.old.items code.new.items
-        (λ is. IsQueryPiece (base_in program.now predicates.now) (start + length code.old.items) is
+        (λ is. IsQueryPiece (base_in program.now predicates.now) (length code.old.items) is
         (query_in program.now (query_at program.now q)))) }
 {
     program.known();
     let given = frame_of(alloc, program.variables(q), program.shown(q))?;
-    let frame = Frame {
+    let frame = QueryPlaces {
         homes: given.homes.as_slice(),
         slots: given.slots,
         levels: most_needed(program, needs, program.goals_of(q)),
     };
-    write_query(alloc, program, ranges, predicates, frame, q, start, code)
+    write_query(alloc, program, ranges, predicates, frame, q, code)
 }

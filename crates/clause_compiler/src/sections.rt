@@ -36,7 +36,7 @@ pub(crate) fn put_clauses(
     let mut places = Vec::with_capacity(alloc, program.clauses())?;
     for clause in 0..program.clauses() {
         let at = code.len();
-        compile_clause(alloc, program, ranges, predicates, needs, clause, 0, code)?;
+        compile_clause(alloc, program, ranges, predicates, needs, clause, code)?;
         places.push(at)?;
     }
     Ok(places)
@@ -72,7 +72,7 @@ pub(crate) fn put_queries(
     let mut queries = Vec::with_capacity(alloc, program.queries())?;
     for query in 0..program.queries() {
         let at = code.len();
-        compile_query(alloc, program, ranges, predicates, needs, query, 0, code)?;
+        compile_query(alloc, program, ranges, predicates, needs, query, code)?;
         queries.push(QueryEntry {
             at,
             end: code.len(),

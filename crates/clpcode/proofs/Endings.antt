@@ -16,7 +16,7 @@ use Rattle.clpcode.specs.Words.{task_of}
 use Rattle.clpcode.specs.Lines.{usage}
 use Rattle.clpcode.specs.Headline.{Headline, Answers, Lists, ListsVerdict, Loads, Refuses, RefusesFault, Runs, IsText, IsUnanswered, IsWhole}
 use Rattle.clpcode.specs.Parts.{IsShort}
-use Rattle.clpcode.proofs.Texts.{none_took}
+use Rattle.byte_ports.proofs.Lemmas.{none_took}
 
 -- ---- some output is given for each text
 

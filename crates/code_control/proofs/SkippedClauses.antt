@@ -37,6 +37,7 @@ use Rattle.code_control.specs.ClauseSelection.{tried_by, first_of, behind_of, Is
 use Rattle.code_control.proofs.HeadClashes.{ruled_out_gone}
 use Rattle.code_control.proofs.Threads.{named_thread, next_thread}
 use Rattle.code_control.proofs.Work.{named_near, next_near}
+use Rattle.branch_meaning.proofs.Lemmas.{later_kept}
 
 -- ---- branches without a model, among others
 
@@ -56,12 +57,6 @@ kept_within N (x ∷ xs) gone ys cs g f (inr k) = inr (k.0, kept_within N xs gon
 ahead_within : (N : ℕ) (prog : Program) (q : Query) (n : ℕ) (k : Option ℕ) (xs gone ys : List Branch) (es : List Event) (r : ℕ) → AreGone N gone
     → Ahead INFINITY N prog q n k (xs ++ (gone ++ ys)) es r → Ahead INFINITY N prog q n k (xs ++ ys) es r
 ahead_within N prog q n k xs gone ys es r g a = record { fit = fit_within INFINITY xs gone ys a.fit; branches = a.branches; kept = kept_within N xs gone ys a.branches g a.fit a.kept; run = a.run }
-
--- the kept ones of a list's later part
-later_kept : (M N : ℕ) (xs ys cs : List Branch) → Kept M N (xs ++ ys) cs → (ds : List Branch) × Kept M N ys ds
-later_kept M N [] ys cs h = (cs, h)
-later_kept M N (x ∷ xs) ys cs (inl h) = later_kept M N xs ys h.1.0 h.1.2
-later_kept M N (x ∷ xs) ys cs (inr h) = later_kept M N xs ys cs h.1
 
 gone_both : (N : ℕ) (xs ys : List Branch) → AreGone N xs → AreGone N ys → AreGone N (xs ++ ys)
 gone_both N [] ys g h = h

@@ -7,7 +7,6 @@ ghost use Rattle.code_safety.specs.Work.{work_at, work_then};
 ghost use Rattle.code_control.specs.ClauseSelection.{asked_by, first_of, IsTried, IsChoice, IsNewChoice, AsksFirst, Meets, IsRuledOut, MayMatch, MayMatchThen, MayMatchFrom, IsLater, LeavesOut, Chooses};
 
 use crate::choices::leave_choice;
-use crate::places::code_at;
 use crate::rows::is_key_of;
 use branch_state::BranchState;
 use code_areas::Areas;
@@ -34,7 +33,7 @@ pub(crate) fn tried_at(code: &CodeArea, at: usize) -> Tried
     requires { at < length code.now.code }
     ensures { IsTried code.now at result }
 {
-    match *code_at(code, at) {
+    match *code.code_at(at) {
         Code::TryMeElse(other) | Code::RetryMeElse(other) => Tried::Both(behind(code, at), other),
         Code::Try(to) | Code::Retry(to) => Tried::Both(to, behind(code, at)),
         Code::TrustMe => Tried::Last(behind(code, at)),
@@ -68,9 +67,9 @@ fn first_asked<A: Agenda + Drop>(
     requires { IsSafe code.now branch.now at 0 areas.now }
     ensures { AsksFirst code.now at result }
 {
-    let first = code_at(code, at);
+    let first = code.code_at(at);
     match *first {
-        Code::Allocate(_) => asked_by(code_at(code, behind(code, at))),
+        Code::Allocate(_) => asked_by(code.code_at(behind(code, at))),
         _ => asked_by(first),
     }
 }

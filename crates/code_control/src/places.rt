@@ -1,18 +1,9 @@
 //! Places of code.
 
 ghost use Rattle.std.specs.Prelude.{◌<◌, length};
-ghost use Rattle.wam_code.specs.Area.{HasEntry, Holds};
+ghost use Rattle.wam_code.specs.Area.{HasEntry};
 
-use wam_code::{Code, CodeArea, Entry};
-
-/// The instruction at a place, where it lies.
-#[inline(always)]
-pub(crate) fn code_at(code: &CodeArea, at: usize) -> &Code
-    requires { at < length code.now.code }
-    ensures { Holds code.now at result.now }
-{
-    &code.parts().code[at]
-}
+use wam_code::{CodeArea, Entry};
 
 /// The predicate with this number.
 #[inline]

@@ -78,7 +78,7 @@ fn past_jump<A: Agenda + Drop>(
     ensures query { KeepsQuery code.now at areas.now result areas.now }
     ensures place { IsPastJump code.now at result }
 {
-    match code.code_at(at) {
+    match *code.code_at(at) {
         Code::Jump(to) => jump(code, at, to, branch, areas),
         _ => at,
     }

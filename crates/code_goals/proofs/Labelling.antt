@@ -54,7 +54,8 @@ use Rattle.code_goals.specs.declared.goal_outcomes.Next.TheVariants.{On, Fault}
 use Rattle.code_goals.specs.Tasks.{names_of, task_of}
 use Rattle.code_goals.specs.Values.{numbers_left, HasValues, IsOpen, left_of, lefts_of, pointed, with_point, with_mark, IsKept, KeepsValues, RunsWent, StaysAt}
 use Rattle.code_goals.specs.Values.{work_left, IsTried, Labels, BringsMost}
-use Rattle.code_goals.proofs.Numbers.{filter_from_low, rising_length, can_be}
+use Rattle.code_goals.proofs.Numbers.{can_be}
+use Rattle.domain_ranges.proofs.Lemmas.{filter_from_low, rising_length}
 use Rattle.code_goals.proofs.GoalSafety.{choices_same, sound_below, moved_safe, marked_safe, goes_back}
 
 -- the names of the code's pool

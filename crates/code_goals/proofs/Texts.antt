@@ -1,9 +1,9 @@
 -- The texts of terms that a branch shows.
-use Rattle.std.proofs.Common.{◌≡◌, ℕ, ◌==◌, Bool, true, false, cond, not, ◌||◌, List, [], ◌∷◌, ◌++◌, length, filter, Option, Some, None, codes, refl, ap, sym}
+use Rattle.std.proofs.Common.{◌≡◌, ℕ, ◌==◌, Bool, true, false, cond, ◌||◌, List, [], ◌∷◌, ◌++◌, length, Option, Some, None, codes, refl, ap, sym}
 use Rattle.std.proofs.Common.{◌∙◌, eqb-true, eq-eqb}
 use Rattle.std.proofs.lemmas.List.{length-map}
-use Rattle.std.proofs.lemmas.Bool.{or_left, or_right, true≢false}
-use Rattle.fd_language.proofs.Lemmas.{has-filter, in_left, in_right, two}
+use Rattle.std.proofs.lemmas.Bool.{or_left, true≢false}
+use Rattle.fd_language.proofs.Lemmas.{in_left, in_right, two}
 use Rattle.fd_language.specs.Family.{Family, has}
 use Rattle.fd_language.specs.Range.{Indexical}
 use Rattle.fd_language.specs.Term.{Name, Term, Terms, Var, Int, Atom, Comp, no_terms, term}
@@ -23,6 +23,7 @@ use Rattle.branch_lemmas.specs.SeenHeap.{read_term}
 use Rattle.machine_events.specs.declared.Shown.{Shown}
 use Rattle.machine_events.specs.Events.{set_in, variable_text, shown_line, first_term, written_term}
 use Rattle.branch_state.specs.ShownTerms.{open_set, with_set, with_sets, terms_read, IsShown}
+use Rattle.fd_language.proofs.Lemmas.{has_distinct}
 
 -- ---- texts agree where the texts of the variables that occur agree
 
@@ -59,13 +60,6 @@ module _ (here there : ℕ → List ℕ) where
   line_agree (n ∷ ns) ts h = ap (joined (codes ", ")) (equals_agree (n ∷ ns) ts h)
 
 -- ---- the sets beside
-
-has_distinct : (vs : List ℕ) (y : ℕ) → has vs y ≡ true → has (distinct vs) y ≡ true
-has_distinct [] y h = h
-has_distinct (v ∷ vs) y h = by (v == y) refl h (has_distinct vs y) where
-  by : (b : Bool) → (v == y) ≡ b → (b || has vs y) ≡ true → (has vs y ≡ true → has (distinct vs) y ≡ true) → has (distinct (v ∷ vs)) y ≡ true
-  by true e i later = or_left (v == y) (has (filter (λ z. not (v == z)) (distinct vs)) y) e
-  by false e i later = or_right (v == y) (has (filter (λ z. not (v == z)) (distinct vs)) y) (has-filter (λ z. not (v == z)) (distinct vs) y (later i) (ap not e))
 
 module _ (set : ℕ → Option (List ℕ)) where
   none_in : (xs : List ℕ) (y : ℕ) → set y ≡ None → set_in (with_sets set xs) y ≡ None

@@ -236,7 +236,7 @@ fn put_places(
 {
     put_count(text, b"code", states.len())?;
     for (index, state) in states.iter().enumerate() {
-        put_place(alloc, text, area, area.code_at(index), state)?;
+        put_place(alloc, text, area, *area.code_at(index), state)?;
     }
     Ok(())
 }

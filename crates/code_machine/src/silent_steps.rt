@@ -26,15 +26,6 @@ use propagate_queue::Agenda;
 use term_instructions::Scratch;
 use wam_code::{Code, CodeArea};
 
-/// The instruction at a place, where it lies.
-#[inline]
-pub(crate) fn code_at(code: &CodeArea, at: usize) -> &Code
-    requires { at < length code.now.code }
-    ensures { Holds code.now at result.now }
-{
-    &code.parts().code[at]
-}
-
 /// The stage where an instruction leads.
 fn stage_of(went: Went) -> Stage
     ensures { result ≡ stage_of went }
@@ -173,7 +164,7 @@ fn walk_at<A: Agenda + Drop>(
     requires machine { IsMachine (state_at code.now branch.old run.old (stage.Going at)) }
     ensures { IfOk result (IsTaken code.now at branch.old run.old branch.new run.new) }
 {
-    let instruction = code_at(code, at);
+    let instruction = code.code_at(at);
     let taken = take_term(
         code,
         at,

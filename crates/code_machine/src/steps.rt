@@ -10,7 +10,7 @@ ghost use Rattle.code_machine.specs.Steps.{saying_next, stage_next};
 
 use crate::goals::take_goal;
 use crate::run::{Ending, Run, Saying, Stage};
-use crate::silent_steps::{code_at, walk};
+use crate::silent_steps::walk;
 use branch_state::BranchState;
 use code_goals::{Next, show_answer, show_written};
 use fd_language::NoMemory;
@@ -211,7 +211,7 @@ fn step<A: Agenda + Drop>(
 {
     match run.stage {
         Stage::Going(at) => {
-            let instruction = *code_at(code, at);
+            let instruction = *code.code_at(at);
             speak(code, at, instruction, branch, run)
         }
         Stage::Returning => Ok(Some(end(code, branch, run))),

@@ -1,5 +1,5 @@
 -- The ranges of variables that differ.
-use Rattle.std.proofs.Common.{◌≡◌, ℕ, ◌<◌, ◌^◌, ℤ, List, [], ◌∷◌, ◌++◌, Ok, refl, sym, ap, subst, ◌∙◌, append_assoc}
+use Rattle.std.proofs.Common.{◌≡◌, ℕ, ◌<◌, ◌^◌, ℤ, List, [], ◌∷◌, ◌++◌, Ok, sym, ap, subst, ◌∙◌, append_assoc}
 use Rattle.std.specs.Prelude.{IfOk}
 use Rattle.fd_language.specs.Term.{Term}
 use Rattle.fd_model.specs.Linear.{of_one}
@@ -10,15 +10,8 @@ use Rattle.constraint_expand.specs.declared.members.Placed.{Placed}
 use Rattle.constraint_expand.specs.Lists.{AllPlaced}
 use Rattle.fd_language.specs.Range.{Range, Indexical}
 use Rattle.fd_model.specs.ListRows.{different_ranges, different_rows}
-use Rattle.constraint_expand.specs.Posts.{pairs_of, indexicals, Posts}
-
-pub pairs_append : (ps qs : List Indexical) → pairs_of (ps ++ qs) ≡ pairs_of ps ++ pairs_of qs
-pairs_append [] qs = refl
-pairs_append (p ∷ ps) qs = ap (λ (rs : List (ℕ × Range)). (p.target, p.range) ∷ rs) (pairs_append ps qs)
-
-pub pairs_back : (ps : List Indexical) → indexicals (pairs_of ps) ≡ ps
-pairs_back [] = refl
-pairs_back (p ∷ ps) = ap (λ (qs : List Indexical). p ∷ qs) (pairs_back ps)
+use Rattle.constraint_expand.specs.Posts.{pairs_of, Posts}
+use Rattle.product_bool.proofs.Lemmas.{pairs_append}
 
 -- what is posted, and what is left of all rows
 pub record Posting (all : List Indexical) (start now : List (ℕ × Range)) (ahead : List Indexical) : Type 0 where
@@ -29,9 +22,6 @@ posting_turns all start now new ps ahead i p = record {
   is = ap (λ rs. rs ++ pairs_of ahead) p ∙ append_assoc now (pairs_of ps) (pairs_of ahead)
       ∙ ap (λ rs. now ++ rs) (sym (pairs_append ps ahead)) ∙ i.is;
 }
-
-pub posted_list : (ps : List Indexical) (list : List (ℕ × Range)) → Posts ps [] list → indexicals list ≡ ps
-posted_list ps list p = ap indexicals p ∙ pairs_back ps
 
 -- an expansion by its parts
 pub made : (x : Expansion) (es : List (ℕ × ℤ)) (ps : List Indexical) (n : ℕ) → x.equated ≡ es → x.ranges ≡ ps → x.fresh ≡ n → record { equated = es; ranges = ps; fresh = n } ≡ x

@@ -7,7 +7,7 @@ use Rattle.fd_language.specs.Range.{Range, Indexical}
 use Rattle.fd_model.specs.ListRows.{against, pairwise}
 use Rattle.constraint_expand.specs.Pieces.{IsPiece, IsOver}
 use Rattle.constraint_expand.specs.Posts.{indexicals, Posts}
-use Rattle.constraint_expand.proofs.DifferentVariables.{posted_list}
+use Rattle.product_bool.proofs.Lemmas.{posted_list}
 
 pub is_piece : (old new ps : List Indexical) (list : List (ℕ × Range)) → old ≡ ps ++ new → 0 < length ps → Posts ps [] list → IsPiece old new list
 is_piece old new ps list e some p = record {

@@ -13,7 +13,7 @@ use Rattle.constraint_expand.specs.declared.rows.Comparison.TheVariants as compa
 use Rattle.constraint_expand.specs.declared.rows.BoundReading.{BoundReading}
 use Rattle.constraint_expand.specs.declared.rows.BoundReading.TheVariants as reading
 use Rattle.constraint_expand.specs.declared.rows.RowForm.{RowForm}
-use Rattle.constraint_expand.specs.Nodes.{comparison_of, feature_of, product_nodes, divisor, bound_nodes, upper_nodes, last_nodes, row_list, IsForm}
+use Rattle.constraint_expand.specs.Nodes.{comparison_of, feature_of, product_nodes, divisor, bound_nodes, upper_nodes, last_nodes, row_list, IsRowForm}
 
 -- the readings of a bound, by the sign of the coefficient
 abbrev at_pos : BoundReading → ℕ → Expr
@@ -84,7 +84,7 @@ module _ (before after : List (ℕ × ℤ)) (x a : ℕ) (c : ℤ) (form : RowFor
       ∙ sym (append_assoc (product_nodes r before) (product_nodes r after) (node.Int (pos a) ∷ d ∷ rest)) ∙ ap (λ ns. ns ++ (node.Int (pos a) ∷ d ∷ rest)) (sym (products_append r before after)))
       ∙ sym (products_spelled r (Number c) (before ++ after) (node.Int (pos a) ∷ d ∷ rest))
 
-  pub row_spelled : (k : Comparison) (turned : Bool) → IsForm k turned (before ++ (x, pos a) ∷ after) c form → row_list k form i ≡ nodes_of (row (comparison_of k) turned c (before ++ after) a)
+  pub row_spelled : (k : Comparison) (turned : Bool) → IsRowForm k turned (before ++ (x, pos a) ∷ after) c form → row_list k form i ≡ nodes_of (row (comparison_of k) turned c (before ++ after) a)
   row_spelled comparison.Equal turned f =
       bound_spelled reading.Low form.lower.items node.DivUp (upper_nodes comparison.Equal form i ++ last_nodes comparison.Equal) f.lower
       ∙ ap (λ ns. expr_nodes (reads reading.Low c (before ++ after)) (node.Int (pos a) ∷ node.DivUp ∷ ns)) (bound_spelled reading.High form.upper.items node.DivDown (node.Span ∷ []) f.upper)
@@ -117,14 +117,15 @@ scaled_parts : (before after : List (ℕ × ℤ)) (x n : ℕ) → scaled (negsuc
 scaled_parts before after x n = scaled_append before ((x, negsuc n) ∷ after) ∙ (λ j. scaled (negsuc 0) before ++ (x, turned_sign n j) ∷ scaled (negsuc 0) after)
 
 -- the side that the row is solved on
-pub straight_row : (k : Comparison) (before after : List (ℕ × ℤ)) (x a : ℕ) (c : ℤ) (form : RowForm) (i : ℕ) → i ≡ length before → IsForm k false (before ++ (x, pos a) ∷ after) c form
+pub straight_row : (k : Comparison) (before after : List (ℕ × ℤ)) (x a : ℕ) (c : ℤ) (form : RowForm) (i : ℕ) → i ≡ length before → IsRowForm k false (before ++ (x, pos a) ∷ after) c form
     → row_list k form i ≡ nodes_of (row_by_sign (comparison_of k) c (before ++ after) (pos a))
 straight_row k before after x a c form i h f = row_spelled before after x a c form i h f.terms f.constant k false f
 
 pub turned_row : (k : Comparison) (before after : List (ℕ × ℤ)) (x n : ℕ) (c : ℤ) (form : RowForm) (i : ℕ) → i ≡ length before
-    → IsForm k true (scaled (negsuc 0) (before ++ (x, negsuc n) ∷ after)) (neg_ℤ c) form
+    → IsRowForm k true (scaled (negsuc 0) (before ++ (x, negsuc n) ∷ after)) (neg_ℤ c) form
     → row_list k form i ≡ nodes_of (row_by_sign (comparison_of k) c (before ++ after) (negsuc n))
 turned_row k before after x n c form i h f =
-    let g : IsForm k true (scaled (negsuc 0) before ++ (x, pos (suc n)) ∷ scaled (negsuc 0) after) (neg_ℤ c) form = subst (λ ts. IsForm k true ts (neg_ℤ c) form) (scaled_parts before after x n) f in
+    let g : IsRowForm k true (scaled (negsuc 0) before ++ (x, pos (suc n)) ∷ scaled (negsuc 0) after) (neg_ℤ c) form =
+    subst (λ ts. IsRowForm k true ts (neg_ℤ c) form) (scaled_parts before after x n) f in
     row_spelled (scaled (negsuc 0) before) (scaled (negsuc 0) after) x (suc n) (neg_ℤ c) form i (h ∙ sym (scaled_length before)) g.terms g.constant k true g
     ∙ ap (λ ts. nodes_of (row (comparison_of k) true (neg_ℤ c) ts (suc n))) (sym (scaled_append before after))

@@ -15,7 +15,7 @@ use Rattle.linear_forms.proofs.Lemmas.{integer_fits, neg_inside}
 use Rattle.constraint_expand.specs.declared.rows.Comparison.{Comparison}
 use Rattle.constraint_expand.specs.declared.rows.RowForm.{RowForm}
 use Rattle.std.proofs.lemmas.List.{take-append-drop, length-take-le, drop_more}
-use Rattle.constraint_expand.specs.Nodes.{CanTurn, comparison_of, lower_reading, upper_reading, product_nodes, row_list, HasProduct, IsForm, AreSides}
+use Rattle.constraint_expand.specs.Nodes.{CanTurn, comparison_of, lower_reading, upper_reading, product_nodes, row_list, HasProduct, IsRowForm, AreSides}
 use Rattle.constraint_expand.specs.Nodes.{product_at, row_at, form_rows}
 use Rattle.constraint_expand.proofs.RowNodes.{straight_row, turned_row, products_length, scaled_length}
 
@@ -40,7 +40,7 @@ short : (ts : List (ℕ × ℤ)) (i : ℕ) → i < length ts → i ≡ length (t
 short ts i h = sym (length-take-le i ts (omega arith))
 
 module _ (k : Comparison) (straight turned : RowForm) (i : ℕ) (s : AreSides k straight turned i) where
-  low_length : (form : RowForm) (b : Bool) (ts : List (ℕ × ℤ)) (c : ℤ) → IsForm k b ts c form → i < length ts → HasProduct form i form.lower.items × HasProduct form i form.upper.items
+  low_length : (form : RowForm) (b : Bool) (ts : List (ℕ × ℤ)) (c : ℤ) → IsRowForm k b ts c form → i < length ts → HasProduct form i form.lower.items × HasProduct form i form.upper.items
   low_length form b ts c f h =
       let l : length form.lower.items ≡ 4 * length ts = ap (λ ns. length ns) f.lower ∙ products_length (lower_reading k) ts in
       let u : length form.upper.items ≡ 4 * length ts = ap (λ ns. length ns) f.upper ∙ products_length (upper_reading k) ts in
@@ -63,7 +63,7 @@ module _ (k : Comparison) (straight turned : RowForm) (i : ℕ) (s : AreSides k 
         let parts : straight.terms.items ≡ take i straight.terms.items ++ ((product_at straight i).0, pos a) ∷ drop (i + 1) straight.terms.items =
         around straight.terms.items i (0, pos 0) s.within ∙ (λ j. take i straight.terms.items ++ ((product_at straight i).0, e j) ∷ drop (i + 1) straight.terms.items) in
         straight_row k (take i straight.terms.items) (drop (i + 1) straight.terms.items) (product_at straight i).0 a straight.constant straight i (short straight.terms.items i s.within)
-        (subst (λ ts. IsForm k false ts straight.constant straight) parts s.straight_form)
+        (subst (λ ts. IsRowForm k false ts straight.constant straight) parts s.straight_form)
         ∙ ap (λ z. nodes_of (row_by_sign (comparison_of k) straight.constant (take i straight.terms.items ++ drop (i + 1) straight.terms.items) z)) (sym e)
     by (negsuc n) e g = absurd (omega (arith, ints))
 
@@ -77,11 +77,11 @@ module _ (k : Comparison) (straight turned : RowForm) (i : ℕ) (s : AreSides k 
         let parts : straight.terms.items ≡ take i straight.terms.items ++ ((product_at straight i).0, negsuc n) ∷ drop (i + 1) straight.terms.items =
         around straight.terms.items i (0, pos 0) s.within ∙ (λ j. take i straight.terms.items ++ ((product_at straight i).0, e j) ∷ drop (i + 1) straight.terms.items) in
         turned_row k (take i straight.terms.items) (drop (i + 1) straight.terms.items) (product_at straight i).0 n straight.constant turned i (short straight.terms.items i s.within)
-        (subst (λ ts. IsForm k true (scaled (negsuc 0) ts) (neg_ℤ straight.constant) turned) parts (s.turned_form h))
+        (subst (λ ts. IsRowForm k true (scaled (negsuc 0) ts) (neg_ℤ straight.constant) turned) parts (s.turned_form h))
         ∙ ap (λ z. nodes_of (row_by_sign (comparison_of k) straight.constant (take i straight.terms.items ++ drop (i + 1) straight.terms.items) z)) (sym e)
 
 -- the sides of a form that was made
-self_form : (k : Comparison) (b : Bool) (ts : List (ℕ × ℤ)) (c : ℤ) (form : RowForm) → IsForm k b ts c form → IsForm k b form.terms.items form.constant form
+self_form : (k : Comparison) (b : Bool) (ts : List (ℕ × ℤ)) (c : ℤ) (form : RowForm) → IsRowForm k b ts c form → IsRowForm k b form.terms.items form.constant form
 self_form k b ts c form f = record {
   side = f.side;
   terms = refl;
@@ -90,17 +90,17 @@ self_form k b ts c form f = record {
   upper = f.upper ∙ ap (product_nodes (upper_reading k)) (sym f.terms);
 }
 
-pub sides_of : (k : Comparison) (ts us : List (ℕ × ℤ)) (c d : ℤ) (straight turned : RowForm) → IsForm k false ts c straight → IsForm k true us d turned
+pub sides_of : (k : Comparison) (ts us : List (ℕ × ℤ)) (c d : ℤ) (straight turned : RowForm) → IsRowForm k false ts c straight → IsRowForm k true us d turned
     → us ≡ scaled (negsuc 0) ts → CanTurn ts c → (in_integers c ≡ true → d ≡ neg_ℤ c) → (i : ℕ) → i < length straight.terms.items → AreSides k straight turned i
 sides_of k ts us c d straight turned f g e can m i h = record {
   straight_form = self_form k false ts c straight f;
-  turned_form = λ below. subst (λ z. IsForm k true (scaled (negsuc 0) straight.terms.items) z turned)
+  turned_form = λ below. subst (λ z. IsRowForm k true (scaled (negsuc 0) straight.terms.items) z turned)
       (m (can i (subst (λ (us : List (ℕ × ℤ)). (get_or us i (0, pos 0)).1 <ℤ pos 0) f.terms below)) ∙ ap neg_ℤ (sym f.constant))
-      (subst (λ vs. IsForm k true vs d turned) (e ∙ ap (scaled (negsuc 0)) (sym f.terms)) g);
+      (subst (λ vs. IsRowForm k true vs d turned) (e ∙ ap (scaled (negsuc 0)) (sym f.terms)) g);
   within = h;
 }
 
-pub rows_same : (k : Comparison) (ts : List (ℕ × ℤ)) (c : ℤ) (straight : RowForm) → IsForm k false ts c straight → form_rows k straight ≡ rows_behind (comparison_of k) c [] ts
+pub rows_same : (k : Comparison) (ts : List (ℕ × ℤ)) (c : ℤ) (straight : RowForm) → IsRowForm k false ts c straight → form_rows k straight ≡ rows_behind (comparison_of k) c [] ts
 rows_same k ts c straight f = λ i. rows_behind (comparison_of k) (f.constant i) [] (f.terms i)
 
 -- the sign of a coefficient that is passed on
@@ -110,5 +110,5 @@ sign_below z y f h e = subst (λ x. x <ℤ pos 0) e (let k : lt_z z (pos 0) ≡ 
 pub sign_above : (z y : ℤ) → FitsSigned w64 z → lt_z (to_z w64 (of_z w64 z)) (pos 0) ≡ false → z ≡ y → pos 0 ≤ℤ y
 sign_above z y f h e = subst (λ x. pos 0 ≤ℤ x) e (let k : lt_z z (pos 0) ≡ false = ap (λ x. lt_z x (pos 0)) (sym (to_z-of_z w64 z f)) ∙ h in grind (arith, ints))
 
-pub made_form : (k : Comparison) (b : Bool) (us ts : List (ℕ × ℤ)) (d c : ℤ) (form : RowForm) → IsForm k b us d form → us ≡ ts → d ≡ c → IsForm k b ts c form
-made_form k b us ts d c form f e m = subst (λ z. IsForm k b ts z form) m (subst (λ vs. IsForm k b vs d form) e f)
+pub made_form : (k : Comparison) (b : Bool) (us ts : List (ℕ × ℤ)) (d c : ℤ) (form : RowForm) → IsRowForm k b us d form → us ≡ ts → d ≡ c → IsRowForm k b ts c form
+made_form k b us ts d c form f e m = subst (λ z. IsRowForm k b ts z form) m (subst (λ vs. IsRowForm k b vs d form) e f)

@@ -47,7 +47,7 @@ product_nodes r [] = []
 product_nodes r (t ∷ ts) = node.Int t.1 ∷ feature_of r t.0 t.1 ∷ node.Mul ∷ node.Sub ∷ product_nodes r ts
 
 -- the form with the nodes of its products
-pub record IsForm (k : Comparison) (turned : Bool) (ts : List (ℕ × ℤ)) (c : ℤ) (form : RowForm) : Type 0 where
+pub record IsRowForm (k : Comparison) (turned : Bool) (ts : List (ℕ × ℤ)) (c : ℤ) (form : RowForm) : Type 0 where
   pub side : form.turned ≡ turned
   pub terms : form.terms.items ≡ ts
   pub constant : form.constant ≡ c
@@ -93,8 +93,8 @@ product_at form i = slice_index_or form.terms.items i (0, pos 0)
 
 -- a product of the form, and the form as it is and, where the coefficient is below 0, turned
 pub record AreSides (k : Comparison) (straight turned : RowForm) (i : ℕ) : Type 0 where
-  pub straight_form : IsForm k false straight.terms.items straight.constant straight
-  pub turned_form : (product_at straight i).1 <ℤ pos 0 → IsForm k true (linear.scaled (negsuc 0) straight.terms.items) (neg_ℤ straight.constant) turned
+  pub straight_form : IsRowForm k false straight.terms.items straight.constant straight
+  pub turned_form : (product_at straight i).1 <ℤ pos 0 → IsRowForm k true (linear.scaled (negsuc 0) straight.terms.items) (neg_ℤ straight.constant) turned
   pub within : i < length straight.terms.items
 
 -- the row of the variable at i

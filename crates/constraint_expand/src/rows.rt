@@ -6,7 +6,7 @@ ghost use Rattle.fd_model.specs.LinearRows.{rows_behind, compares, linear_rows a
 ghost use Rattle.constraint_expand.specs.Pieces.{IsPiece, IsOver, rows_ahead, AreReady};
 ghost use Rattle.constraint_expand.specs.Posts.{Posts, Accepted, indexicals};
 ghost use Rattle.linear_forms.specs.IntegerSums.{AreIntegers};
-ghost use Rattle.constraint_expand.specs.Nodes.{CanTurn, comparison_of, lower_reading, upper_reading, feature_of, product_nodes, bound_nodes, lower_nodes, upper_nodes, row_list, HasProduct, IsForm, AreSides, row_at};
+ghost use Rattle.constraint_expand.specs.Nodes.{CanTurn, comparison_of, lower_reading, upper_reading, feature_of, product_nodes, bound_nodes, lower_nodes, upper_nodes, row_list, HasProduct, IsRowForm, AreSides, row_at};
 
 use crate::posts::{post, post_none};
 use fd_language::{NoMemory, RangeNode};
@@ -123,7 +123,7 @@ fn form_of(
     terms: Vec<(u64, i64)>,
     constant: i64,
 ) -> Result<RowForm, NoMemory>
-    ensures { IfOk result (IsForm comparison turned terms.items constant) }
+    ensures { IfOk result (IsRowForm comparison turned terms.items constant) }
 {
     let lower = write_products(alloc, &terms, lower_of(comparison))?;
     let upper = write_products(alloc, &terms, upper_of(comparison))?;

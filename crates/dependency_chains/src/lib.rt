@@ -1,7 +1,7 @@
 //! Which agents read what of which variables, in chains that are cut when agents go.
 #![tactic(auto)]
 
-ghost use Rattle.std.specs.Prelude.{◌≡◌, ◌<◌, ◌≤◌, ◌+◌, ◌-◌, ◌^◌, ◌&&◌, ◌==◌, nat_lt, ℕ, List, [], ◌∷◌, ◌++◌, if◌then◌else◌, length, filter, vec_len, vec_capacity, OnOk, OnErr, MatchOption, All};
+ghost use Rattle.std.specs.Prelude.{◌≡◌, ◌<◌, ◌≤◌, ◌+◌, ◌-◌, ◌^◌, ◌&&◌, ◌==◌, nat_lt, ℕ, List, [], ◌∷◌, ◌++◌, if◌then◌else◌, length, max, filter, vec_len, vec_capacity, OnOk, OnErr, MatchOption, All};
 ghost use Rattle.std.specs.List.{list_any};
 ghost use Rattle.fd_language.specs.Family.{has};
 ghost use Rattle.fd_language.specs.Features.{is_same_feature};
@@ -209,6 +209,20 @@ fn cut_links(links: &mut Vec<Link>, heads: &mut Vec<Heads>, agents: usize)
     }
 }
 
+/// Whether 32 bits hold the number of an agent, of the variables, and of the links with `more` ones. No memory: `NoMemory` says that they
+/// don't.
+#[inline]
+fn hold_numbers(agent: usize, vars: usize, links: usize, more: usize) -> Result<(), NoMemory>
+    ensures fit { OnOk result (max (max agent vars) (links + more) < 2 ^ 32) }
+    ensures many { OnErr result (2 ^ 32 ≤ max (max agent vars) (links + more)) }
+{
+    let links = links.saturating_add(more);
+    if agent.max(vars).max(links) > u32::MAX as usize {
+        return Err(NoMemory);
+    }
+    Ok(())
+}
+
 /// The place where it is wanted, and else none.
 #[inline(always)]
 fn place_if(wanted: bool, place: u32) -> u32
@@ -252,10 +266,7 @@ impl Chains {
         }) }
         ensures unchanged { OnErr result (self.new ≡ self.old) }
     {
-        let links = self.links.len().saturating_add(features.len());
-        if agent.max(self.heads.len()).max(links) > u32::MAX as usize {
-            return Err(NoMemory);
-        }
+        hold_numbers(agent, self.heads.len(), self.links.len(), features.len())?;
         self.links.reserve(features.len())?;
         add_links(&mut self.links, &mut self.heads, agent as u32, features);
         Ok(())

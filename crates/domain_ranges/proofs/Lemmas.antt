@@ -17,3 +17,5 @@ pub use Rattle.domain_ranges.proofs.Members.{filter_inside, has_within, least_is
 -- The loop of a list of intervals that are moved by an integer.
 -- The only member of a set, and the term of a variable that has it.
 pub use Rattle.domain_ranges.proofs.SingleValues.{one_value, no_value}
+-- The numbers of a rising list from one on.
+pub use Rattle.domain_ranges.proofs.RisingLists.{filter_from_low, rising_length, values_step}

@@ -21,4 +21,5 @@ mod Union
 mod Inclusion
 mod StackedSets
 mod SingleValues
+mod RisingLists
 pub mod Lemmas

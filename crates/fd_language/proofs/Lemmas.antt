@@ -1,7 +1,7 @@
 -- The lemmas that other crates may cite, by their subjects. All else in proofs/ is this crate's own.
 
 -- Sets of numbers as lists, and the greatest family that passes a test.
-pub use Rattle.fd_language.proofs.Sets.{eq_sym, has_kept, has-filter, has-filter_back, has_once, has_low, has_high, rising_same, universe_rising, in_count_up}
+pub use Rattle.fd_language.proofs.Sets.{eq_sym, has_kept, has-filter, has-filter_back, has_once, has_distinct, has_low, has_high, rising_same, universe_rising, in_count_up}
 pub use Rattle.fd_language.proofs.Sets.{in_universe, rising_inside, has_either, in_left, in_right, alone_in, in_flat, first_member, only_member, map_has}
 pub use Rattle.fd_language.proofs.Sets.{has_map, any_from, some_from, any_to, later_in}
 pub use Rattle.fd_language.proofs.Monotone.{least_low, least_in, greatest_in, greatest_high, not_empty}
@@ -39,4 +39,8 @@ pub use Rattle.fd_language.proofs.SentenceVariables.{each_below, as_many, positi
 -- Substitutions and most general unifiers.
 unfoldable pub use Rattle.fd_language.proofs.Substitutions.{number_for}
 pub use Rattle.fd_language.proofs.Substitutions.{after_is, after_are, identity, through_term, still_unifies, number_at, number_back, apply_vars}
-pub use Rattle.fd_language.proofs.Unifier.{Solved, solved, bound_at, join_both, split_both, decide_name, decide_int}
+pub use Rattle.fd_language.proofs.Unifier.{Solved, solved, bound_at, join_both, split_both, decide_name, decide_int, occurs_check}
+-- The least of some places.
+pub use Rattle.fd_language.proofs.LeastPlaces.{lower, lower-none, lower-assoc, lower-comm, least_append, least_cons}
+-- Quotients of integers, by the division that the machine has.
+pub use Rattle.fd_language.proofs.Divisions.{up_is, above_zero}

@@ -29,3 +29,5 @@ mod Uses
 mod VerdictLaw
 mod Limits
 mod Substitutions
+mod LeastPlaces
+mod Divisions

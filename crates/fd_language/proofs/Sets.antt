@@ -7,6 +7,7 @@ use Rattle.std.proofs.lemmas.Bool.{or_cases, or_left, or_right, and_from, and_pa
 use Rattle.fd_language.specs.Family.{has, IsSubset, IsRising, count_up, universe}
 use Rattle.fd_language.specs.Range.{some_number}
 use Rattle.fd_language.specs.Needs.{once}
+use Rattle.fd_language.specs.Variables.{distinct}
 
 -- an equality may be turned round
 pub eq_sym : (x y : ℕ) → (x == y) ≡ (y == x)
@@ -141,3 +142,11 @@ some_from M f h = let a = any_from f (universe M) h in (a.0, has_high 0 M (unive
 pub any_to : (f : ℕ → Bool) (xs : List ℕ) (e : ℕ) → has xs e ≡ true → f e ≡ true → list_any f xs ≡ true
 any_to f [] e h k = absurd (true≢false (sym h))
 any_to f (x ∷ xs) e h k = elim (or_cases (x == e) (has xs e) h) [ inl l ↦ or_left (f x) _ (subst (λ y. f y ≡ true) (sym (eqb-true x e l)) k) | inr l ↦ or_right (f x) _ (any_to f xs e l k) ]
+
+-- the distinct numbers of a list are all of them
+pub has_distinct : (vs : List ℕ) (y : ℕ) → has vs y ≡ true → has (distinct vs) y ≡ true
+has_distinct [] y h = h
+has_distinct (v ∷ vs) y h = by (v == y) refl h (has_distinct vs y) where
+  by : (b : Bool) → (v == y) ≡ b → (b || has vs y) ≡ true → (has vs y ≡ true → has (distinct vs) y ≡ true) → has (distinct (v ∷ vs)) y ≡ true
+  by true e i later = or_left (v == y) (has (filter (λ z. not (v == z)) (distinct vs)) y) e
+  by false e i later = or_right (v == y) (has (filter (λ z. not (v == z)) (distinct vs)) y) (has-filter (λ z. not (v == z)) (distinct vs) y (later i) (ap not e))

@@ -95,7 +95,7 @@ mutual
     | inr a ↦ let l : size (u x) ≤ sizes (apply_all u ts) = occurs_sizes u x ts a in omega arith
   ]
 
-occurs_check : (u : Substitution) (x : ℕ) (f : Name) (ts : Terms) → occurs_any x ts ≡ true → u x ≡ Comp f (apply_all u ts) → ⊥
+pub occurs_check : (u : Substitution) (x : ℕ) (f : Name) (ts : Terms) → occurs_any x ts ≡ true → u x ≡ Comp f (apply_all u ts) → ⊥
 unfolding size
 occurs_check u x f ts h e = let l = occurs_sizes u x ts h in let k : size (u x) ≡ suc (sizes (apply_all u ts)) = ap size e in omega arith
 

@@ -16,13 +16,13 @@ abbrev Holds : ℕ → Family → List Indexical → Type 0
 Holds M S ps = AllPosted (λ p. IsSubset (S p.target) (set_of M S p.range)) ps
 
 -- what a bound says
-bound_low : (M N i : ℕ) (S : Family) (x : ℕ) → has (set_of M S (bound N x).range) i ≡ true → i ≤ N
+pub bound_low : (M N i : ℕ) (S : Family) (x : ℕ) → has (set_of M S (bound N x).range) i ≡ true → i ≤ N
 bound_low M N i S x h = low i N (has-filter_back (in_set M S (bound N x).range) (universe M) i h).1
   where
     low : (i N : ℕ) → (int_le (pos 0) (pos i) && int_le (pos i) (pos N)) ≡ true → i ≤ N
     low i N g = grind (arith, ints)
 
-bound_in : (M N i : ℕ) (S : Family) (x : ℕ) → i ≤ N → N ≤ M → has (set_of M S (bound N x).range) i ≡ true
+pub bound_in : (M N i : ℕ) (S : Family) (x : ℕ) → i ≤ N → N ≤ M → has (set_of M S (bound N x).range) i ≡ true
 bound_in M N i S x l h = has-filter (in_set M S (bound N x).range) (universe M) i (in_universe M i (omega arith)) (both i N l)
   where
     both : (i N : ℕ) → i ≤ N → (int_le (pos 0) (pos i) && int_le (pos i) (pos N)) ≡ true

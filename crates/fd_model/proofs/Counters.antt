@@ -1,6 +1,6 @@
 -- fd_atmost and its rows.
 use Rattle.std.proofs.Common.{◌≡◌, ℕ, suc, ◌+◌, ◌*◌, ◌≤◌, ◌<◌, Bool, true, false, cond, not, ◌&&◌, ◌||◌, ◌==◌, ℤ, pos, ◌+ℤ◌, ◌-ℤ◌, ◌*ℤ◌, ◌≤ℤ◌, int_le, List, []}
-use Rattle.std.proofs.Common.{◌∷◌, length, refl, ap, sym, ◌∙◌, subst, inl, inr, ◌⊎◌, arith, eqb-true, eq-eqb, Ok}
+use Rattle.std.proofs.Common.{◌∷◌, length, refl, ap, sym, ◌∙◌, subst, inl, inr, ◌⊎◌, arith, eqb-true, Ok}
 use Rattle.std.specs.Ordering.{int_eq}
 use Rattle.std.proofs.Math.IntN.{zero-*ℤ}
 use Rattle.std.proofs.lemmas.Int.{ints}
@@ -23,7 +23,7 @@ use Rattle.fd_model.proofs.Singles.{up_to, set_singles, Inside, inside_append, i
 use Rattle.fd_model.proofs.LinearForms.{NoneZero}
 use Rattle.fd_model.proofs.ComparisonRows.{form_fits, form_holds}
 use Rattle.fd_model.proofs.FreshVariables.{integer_read, values_at, members_read, MembersBelow, known_numbers, placed_worths, changed, changed_here}
-use Rattle.fd_model.proofs.FreshVariables.{changed_other, changed_small, filled, filled_below, filled_small, filled_equated, equated_agree, fresh_grows}
+use Rattle.fd_model.proofs.FreshVariables.{below_other, changed_other, changed_small, filled, filled_below, filled_small, filled_equated, equated_agree, fresh_grows}
 use Rattle.fd_model.proofs.AllDifferentRows.{are_numbers}
 use Rattle.fd_model.proofs.ElementRows.{where_is_test, other_is}
 
@@ -199,10 +199,8 @@ counts_agree : (xs : List ℕ) (v : ℤ) (m : ℕ) (b c : Assignment) → AllLes
 counts_agree [] v m b c l s h g w k = s w (omega arith)
 counts_agree (x ∷ xs) v m b c l s h g w k =
     counts_agree xs v (suc m) b c (less_more xs m (suc m) (omega arith) l.1)
-    (λ u i. elim (cases_Bool (u == m)) [ inl e ↦ subst (λ y. b y ≡ c y) (sym (eqb-true u m e)) (h.0 ∙ (ap (λ y. unit v (pos y)) (s x l.0) ∙ sym g.0)) | inr e ↦ s u (less u m e i) ])
-    h.1 g.1 w (omega arith) where
-      less : (w n : ℕ) → (w == n) ≡ false → w < suc n → w < n
-      less w n k l = grind (arith, eq-eqb)
+    (λ u i. elim (cases_Bool (u == m)) [ inl e ↦ subst (λ y. b y ≡ c y) (sym (eqb-true u m e)) (h.0 ∙ (ap (λ y. unit v (pos y)) (s x l.0) ∙ sym g.0)) | inr e ↦ s u (below_other u m e i) ])
+    h.1 g.1 w (omega arith)
 
 -- the parts of an fd_atmost
 pub record IsAtmostGoal (m l v : Term) (n : ℕ) (x : Expansion) : Type 0 where

@@ -11,7 +11,7 @@ use Rattle.fd_language.specs.Term.{Term, no_terms, term}
 use Rattle.fd_language.specs.Variables.{TermBelow}
 use Rattle.fd_model.specs.declared.kinds.ConstraintKind.TheVariants.{Element}
 use Rattle.fd_language.specs.Range.{Range, One, Dom, Union, Inter, Outside, Times, Number, in_range, some_number}
-use Rattle.fd_language.proofs.Lemmas.{has_high, universe_rising, in_universe, any_from, any_to, some_from}
+use Rattle.fd_language.proofs.Lemmas.{in_universe, any_to, some_from}
 use Rattle.fd_model.specs.LinearRows.{Expansion}
 use Rattle.fd_model.specs.Members.{Member, as_member, as_integer, walk, place_of, after}
 use Rattle.fd_model.specs.Linear.{of_both}

@@ -107,7 +107,7 @@ evaluated_renamed look cell t h = ap checked_value (value_renamed look cell t h)
 abbrev pub Apart : (ℕ → ℕ) → List ℕ → List ℕ → Type 0
 Apart cell xs ys = (x y : ℕ) → has xs x ≡ true → has ys y ≡ true → cell x ≡ cell y → x ≡ y
 
-same_number : (cell : ℕ → ℕ) (x y : ℕ) → (cell x ≡ cell y → x ≡ y) → (cell x == cell y) ≡ (x == y)
+pub same_number : (cell : ℕ → ℕ) (x y : ℕ) → (cell x ≡ cell y → x ≡ y) → (cell x == cell y) ≡ (x == y)
 same_number cell x y h = elim (cases_eq x y) [
   | inl e ↦ eq-eqb (cell x) (cell y) (ap cell e) ∙ sym (eq-eqb x y e)
   | inr d ↦ ne_eqb (cell x) (cell y) (λ e. d (h e)) ∙ sym (ne_eqb x y d)

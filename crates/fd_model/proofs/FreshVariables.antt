@@ -146,6 +146,9 @@ filled_equated M (Open x ∷ ms) a n k = filled_equated M ms a n k
 filled_equated M (Known z ∷ ms) a n k =
     (ap pos (filled_below ms (changed a n (nat_abs z)) (suc n) n (omega arith) ∙ changed_here a n (nat_abs z)) ∙ number_is M z k.0, filled_equated M ms (changed a n (nat_abs z)) (suc n) k.1)
 
+pub below_other : (w n : ℕ) → (w == n) ≡ false → w < suc n → w < n
+below_other w n k l = grind (arith, eq-eqb)
+
 -- two that agree below n and have the integers agree below the next fresh number
 pub equated_agree : (ms : List Member) (n : ℕ) (b c : Assignment) → ((v : ℕ) → v < n → b v ≡ c v) → AllEquated b (equated_from n ms)
     → AllEquated c (equated_from n ms) → (v : ℕ) → v < fresh_after n ms → b v ≡ c v
@@ -154,10 +157,8 @@ equated_agree (Open x ∷ ms) n b c s e f v h = equated_agree ms n b c s e f v h
 equated_agree (Known z ∷ ms) n b c s e f v h = equated_agree ms (suc n) b c (λ w l. elim (cases_Bool (w == n)) [
   | inl k ↦ let i : w ≡ n = eqb-true w n k in
       subst (λ u. b u ≡ c u) (sym i) (let p = e.0 in let q = f.0 in omega (arith, ints))
-  | inr k ↦ s w (less w n k l)
-]) e.1 f.1 v h where
-  less : (w n : ℕ) → (w == n) ≡ false → w < suc n → w < n
-  less w n k l = grind (arith, eq-eqb)
+  | inr k ↦ s w (below_other w n k l)
+]) e.1 f.1 v h
 
 pub fresh_grows : (ms : List Member) (n : ℕ) → n ≤ fresh_after n ms
 fresh_grows [] n = omega arith

@@ -13,8 +13,10 @@ pub use Rattle.fd_model.proofs.RowScopes.{all_vars}
 pub use Rattle.fd_model.proofs.SplitScopes.{scoped_rows}
 pub use Rattle.fd_model.proofs.PostRows.{has_map, map_has}
 pub use Rattle.fd_model.proofs.Slots.{slot_high, slot_low, slot_out}
-pub use Rattle.fd_model.proofs.BranchScopes.{each_marked, term_renamed, body_renamed, each_wider, each_both_below, listed_below, unifier_below}
-pub use Rattle.fd_model.proofs.ProgramScopes.{either, queries_scoped, clauses_scoped}
+pub use Rattle.fd_model.proofs.BranchScopes.{below_under, each_marked, term_renamed, body_renamed, each_wider, each_both_below, equations_wider, listed_below, look_below, unifier_below}
+pub use Rattle.fd_model.proofs.GoalRows.{EquationsBelow}
+pub use Rattle.fd_model.proofs.SeenTerms.{wider}
+pub use Rattle.fd_model.proofs.ProgramScopes.{either, not_accepted, queries_scoped, clauses_scoped}
 -- Branches: what is seen of them, their models, and one run of a program.
 pub use Rattle.fd_model.proofs.ConsistentBranches.{has_view}
 pub use Rattle.fd_model.proofs.Existence.{AllSound, all_marked, offer_sound, one_run}
@@ -44,7 +46,8 @@ pub use Rattle.fd_model.proofs.ElementRows.{element_ok}
 pub use Rattle.fd_model.proofs.Counters.{atmost_ok, units_nonzero}
 pub use Rattle.fd_model.proofs.Findings.{IsFindingBelow, SameFinding, first_below, found_below, found_renamed, second_below}
 -- Texts: the lines and values of a query.
-pub use Rattle.fd_model.proofs.Texts.{place_same, same_test, spelled_same, variables_apply_all}
+pub use Rattle.fd_model.proofs.Texts.{after, after_back, after_is, line_same, number, one_for_all, place_same, same_test, says_by, seen_other}
+pub use Rattle.fd_model.proofs.Texts.{seen_variables, spelled_same, variables_apply_all, written_same}
 -- The rows of the constraints on lists keep the limit of width.
 pub use Rattle.fd_model.proofs.ListWidths.{AllSmall, all_accepted, element_within, members_count, sum_within}
 -- Each solvable list of equations has the most general unifier that takes equal variables to the least of them.
@@ -53,5 +56,10 @@ pub use Rattle.fd_model.proofs.CanonicalUnifiers.{is_variable_true}
 pub use Rattle.fd_model.proofs.Integers.{mul_none}
 -- Leaves of posted lists: the sets that ranges leave, that there are leaves and no others, and the first best of them.
 pub use Rattle.fd_model.proofs.PostedSets.{AllMonotone, monotone_more, left_once, inconsistent_by, consistent_by, left_exactly, left_some, left_narrower}
-pub use Rattle.fd_model.proofs.PostedLeaves.{opens, leaves_there, leaves_once, AreParted, parted, each_kept, fewer_open, some_only, none_picked, among_picked}
+pub use Rattle.fd_model.proofs.PostedLeaves.{opens, leaves_there, leaves_once, AreParted, parted, each_kept, fewer_open, some_only, none_picked}
+pub use Rattle.fd_model.proofs.PickedMembers.{among_picked}
 pub use Rattle.fd_model.proofs.BestPosted.{first_alone, first_more, first_new, IsAmong, end_only, end_costs, end_values, leaves_within, children_within}
+-- The set of a bound.
+pub use Rattle.fd_model.proofs.Bounds.{bound_in, bound_low}
+-- What a goal posts, and the arguments that it pairs, are below the next fresh number.
+pub use Rattle.fd_model.proofs.Ways.{IsPostBelow, arguments_below, post_below}

@@ -17,7 +17,8 @@ use Rattle.fd_model.specs.PostedLaws.{ComesBefore, LeavesInOrder}
 use Rattle.fd_model.specs.BranchViews.{IsConsistent}
 use Rattle.fd_model.proofs.DeterminedValues.{single_from}
 use Rattle.fd_model.proofs.PostedSets.{AllMonotone, monotone_more, left_there, left_once, left_narrower, left_exactly, left_some}
-use Rattle.fd_model.proofs.PostedLeaves.{opens, some_only, among_picked, fewer_open, each_leaf, parted}
+use Rattle.fd_model.proofs.PickedMembers.{among_picked}
+use Rattle.fd_model.proofs.PostedLeaves.{opens, some_only, fewer_open, each_leaf, parted}
 
 abbrev alone : ℕ → List ℕ
 alone n = n ∷ []

@@ -1,7 +1,7 @@
 -- The member that is picked, among those under a substitution.
 use Rattle.std.proofs.Common.{◌≡◌, ℕ, Bool, true, false, cond, ◌==◌, ltb, length, ℤ, List, [], ◌∷◌, Option, Some, None, ◌⊎◌, refl, ap, sym, ◌∙◌, subst, inl}
-use Rattle.std.proofs.Common.{inr, eqb-true, Result, Ok}
-use Rattle.std.proofs.lemmas.Bool.{or_cases, or_right, true≢false}
+use Rattle.std.proofs.Common.{inr, eq-eqb, eqb-true, Result, Ok}
+use Rattle.std.proofs.lemmas.Bool.{or_cases, or_left, or_right, true≢false}
 use Rattle.fd_model.specs.declared.kinds.QueryFault.{QueryFault}
 use Rattle.fd_model.specs.declared.kinds.Order.{Order}
 use Rattle.fd_model.specs.declared.kinds.Order.TheVariants.{Leftmost, FirstFail}
@@ -98,12 +98,22 @@ fewer_there : (values : ℕ → List ℕ) (x : ℕ) (o : Option ℕ) (ys : List 
 fewer_there values x None ys h = first_member x ys
 fewer_there values x (Some y) ys h = fewer_by values x y (ltb (length (values y)) (length (values x))) ys (h y refl)
 
-pub fewest_there : (values : ℕ → List ℕ) (ms : List Member) (y : ℕ) → fewest values ms ≡ Some y → has (open_ones ms) y ≡ true
+fewest_there : (values : ℕ → List ℕ) (ms : List Member) (y : ℕ) → fewest values ms ≡ Some y → has (open_ones ms) y ≡ true
 fewest_there values [] y e = absurd (no_some y (sym e))
 fewest_there values (Known z ∷ ms) y e = fewest_there values ms y e
 fewest_there values (Open x ∷ ms) y e =
     let k : unless_fewer values x (fewest values ms) ≡ y = cc in
     subst (λ w. has (x ∷ open_ones ms) w ≡ true) k (fewer_there values x (fewest values ms) (open_ones ms) (λ w f. fewest_there values ms w f))
+
+first_there : (ms : List Member) (x : ℕ) → first_open ms ≡ Some x → has (open_ones ms) x ≡ true
+first_there [] x e = absurd (cc)
+first_there (Known z ∷ ms) x e = first_there ms x e
+first_there (Open y ∷ ms) x e = let k : y ≡ x = cc in or_left (y == x) (has (open_ones ms) x) (eq-eqb y x k)
+
+-- the picked variable is one of the open members
+pub among_picked : (o : Order) (values : ℕ → List ℕ) (ms : List Member) (x : ℕ) → pick o values ms ≡ Some x → has (open_ones ms) x ≡ true
+among_picked Leftmost values ms x e = first_there ms x e
+among_picked FirstFail values ms x e = fewest_there values ms x e
 
 -- how the picked member stands in the list, by the order
 abbrev pub Picked : Order → Substitution → List ℕ → ℕ → Type 0

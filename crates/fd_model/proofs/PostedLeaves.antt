@@ -1,49 +1,26 @@
 -- Leaves of posted lists: that there are some, that there are no others, and what holds of each.
-use Rattle.std.proofs.Common.{◌≡◌, ℕ, zero, suc, ◌≤◌, ◌<◌, Bool, true, false, cond, ltb, ◌==◌, List, [], ◌∷◌, ◌++◌, map, length, Option, Some, None, refl, ap}
-use Rattle.std.proofs.Common.{sym, ◌∙◌, subst, inl, inr, arith, eqb-true, eq-eqb, append_assoc}
-use Rattle.std.proofs.lemmas.Bool.{or_cases, or_left, or_right, true≢false}
+use Rattle.std.proofs.Common.{◌≡◌, ℕ, zero, suc, ◌≤◌, ◌<◌, true, ◌==◌, List, [], ◌∷◌, ◌++◌, map, length, Option, Some, None, refl, ap}
+use Rattle.std.proofs.Common.{sym, ◌∙◌, subst, inl, inr, arith, eqb-true, append_assoc}
+use Rattle.std.proofs.lemmas.Bool.{or_cases, true≢false}
 use Rattle.fd_model.specs.declared.kinds.Order.{Order}
 use Rattle.fd_model.specs.declared.kinds.Order.TheVariants.{Leftmost, FirstFail}
 use Rattle.fd_language.specs.Family.{Family, has, IsFamily, IsInside, IsRising, IsSubset}
 use Rattle.fd_language.specs.Lists.{Each}
 use Rattle.fd_language.specs.Range.{Indexical}
 use Rattle.fd_language.specs.SingleValues.{only}
-use Rattle.fd_model.specs.Labelling.{pick, first_open, fewest, unless_fewer, open_ones}
+use Rattle.fd_model.specs.Labelling.{pick, first_open, fewest, open_ones}
 use Rattle.fd_model.specs.PostedLeaves.{AreLeft, open_unless, seen_in, picked_in, exactly, with_value, KeptLists, PostedLeaves, no_leaves, leaf, grows}
 use Rattle.fd_model.specs.Members.{Member, Open, Known}
 use Rattle.fd_model.specs.BranchViews.{IsConsistent}
 use Rattle.fd_language.proofs.Lemmas.{only_member, each_both}
 use Rattle.fd_model.proofs.DeterminedValues.{single_from}
 use Rattle.fd_model.proofs.ConsistentBranches.{decide_consistent}
+use Rattle.fd_model.proofs.PickedMembers.{among_picked}
 use Rattle.fd_model.proofs.PostedSets.{AllMonotone, monotone_more, left_there, left_once, left_narrower, left_exactly, left_some}
 
 -- how many members are seen as open ones
 abbrev pub opens : Family → List Member → ℕ
 opens D ms = length (open_ones (map (seen_in D) ms))
-
--- the picked variable is one of the open members
-among_first : (ms : List Member) (x : ℕ) → first_open ms ≡ Some x → has (open_ones ms) x ≡ true
-among_first [] x e = absurd (let n : ⊥ = cc in n)
-among_first (Known z ∷ ms) x e = among_first ms x e
-among_first (Open y ∷ ms) x e = or_left (y == x) (has (open_ones ms) x) (let k : y ≡ x = cc in eq-eqb y x k)
-
-module _ (values : ℕ → List ℕ) where
-  among_fewest : (ms : List Member) (x : ℕ) → fewest values ms ≡ Some x → has (open_ones ms) x ≡ true
-  among_fewest [] x e = absurd (let n : ⊥ = cc in n)
-  among_fewest (Known z ∷ ms) x e = among_fewest ms x e
-  among_fewest (Open y ∷ ms) x e = by_rest (fewest values ms) refl (let k : unless_fewer values y (fewest values ms) ≡ x = cc in k) (λ f. among_fewest ms x f)
-    where
-      by_test : (b : Bool) (w : ℕ) → fewest values ms ≡ Some w → cond b w y ≡ x → (fewest values ms ≡ Some x → has (open_ones ms) x ≡ true) → has (y ∷ open_ones ms) x ≡ true
-      by_test true w e f later = or_right (y == x) (has (open_ones ms) x) (later (e ∙ ap Some f))
-      by_test false w e f later = or_left (y == x) (has (open_ones ms) x) (eq-eqb y x f)
-
-      by_rest : (r : Option ℕ) → fewest values ms ≡ r → unless_fewer values y r ≡ x → (fewest values ms ≡ Some x → has (open_ones ms) x ≡ true) → has (y ∷ open_ones ms) x ≡ true
-      by_rest None e f later = or_left (y == x) (has (open_ones ms) x) (eq-eqb y x f)
-      by_rest (Some w) e f later = by_test (ltb (length (values w)) (length (values y))) w e f later
-
-pub among_picked : (o : Order) (values : ℕ → List ℕ) (ms : List Member) (x : ℕ) → pick o values ms ≡ Some x → has (open_ones ms) x ≡ true
-among_picked Leftmost values ms x e = among_first ms x e
-among_picked FirstFail values ms x e = among_fewest values ms x e
 
 -- where none is picked all are seen as integers
 none_first : (ms : List Member) → first_open ms ≡ None → open_ones ms ≡ []

@@ -275,7 +275,7 @@ read_scoped M N text prog (sentences ss) h e =
     })
 read_scoped _ _ text prog _ h e = absurd (cc)
 
-not_accepted : (p : ℕ) (reason : List ℕ) (prog : Program) → accepted prog ≡ refused p reason → ⊥
+pub not_accepted : (p : ℕ) (reason : List ℕ) (prog : Program) → accepted prog ≡ refused p reason → ⊥
 not_accepted p reason prog e = cc
 
 pub scoped_program : ScopedProgram

@@ -6,6 +6,7 @@ use Rattle.fd_model.specs.Linear.{Linear, Comparison, IsEqual, IsOther, IsAtMost
 use Rattle.fd_model.specs.LinearRows.{rows_behind}
 use Rattle.fd_model.specs.ReifiedRows.{reach, reified_sums, reified_end}
 use Rattle.fd_model.specs.Splitting.{sum_rows}
+use Rattle.fd_model.proofs.AddedRanges.{posted_both}
 use Rattle.fd_model.proofs.Splits.{IsAgain, IsTold, told_ok, both_told_ok}
 
 abbrev pub AllSums : (Linear → Type 0) → List Linear → Type 0
@@ -49,12 +50,8 @@ module _ (G : Linear → Type 0) (M : ℕ) (x m : ℕ) (l : Linear) where
       subst (AllSums G) i.are
       (sums_append G i.first i.second (told_each G (suc m) (pos (reach M l)) l i.first i.from_first g.0 g.1) (told_each G (suc (suc m)) (pos (reach M l)) (turned l) i.second i.from_second h.0 h.1))
 
-posted_append : (H : Indexical → Type 0) (ps qs : List Indexical) → AllPosted H ps → AllPosted H qs → AllPosted H (ps ++ qs)
-posted_append H [] qs h g = g
-posted_append H (p ∷ ps) qs h g = (h.0, posted_append H ps qs h.1 g)
-
 -- what holds of the rows of each
 pub sums_posted : (H : Indexical → Type 0) (G : Linear → Type 0) → ((l : Linear) → G l → AllPosted H (rows_behind IsAtMost l.constant [] l.products))
     → (ls : List Linear) → AllSums G ls → AllPosted H (sum_rows ls)
 sums_posted H G f [] h = tt
-sums_posted H G f (l ∷ ls) h = posted_append H (rows_behind IsAtMost l.constant [] l.products) (sum_rows ls) (f l h.0) (sums_posted H G f ls h.1)
+sums_posted H G f (l ∷ ls) h = posted_both H (rows_behind IsAtMost l.constant [] l.products) (sum_rows ls) (f l h.0) (sums_posted H G f ls h.1)

@@ -1,12 +1,11 @@
 -- What a way keeps: variables below the next fresh number, and added variables that follow the others.
 use Rattle.std.proofs.Common.{◌≡◌, ℕ, suc, ◌+◌, ◌<◌, ◌≤◌, Bool, true, false, not, cond, ◌||◌, ◌==◌, List, [], ◌∷◌, ◌++◌, map, length, Option, Some, None, refl}
-use Rattle.std.proofs.Common.{sym, subst, inl, inr, arith, eqb-true, eq-eqb, Result, Ok, Err}
-use Rattle.std.proofs.lemmas.Bool.{or_cases, or_left, or_right, cases_Bool, true≢false}
+use Rattle.std.proofs.Common.{sym, subst, inl, inr, arith, eqb-true, Result, Ok, Err}
+use Rattle.std.proofs.lemmas.Bool.{or_cases, or_right, cases_Bool, true≢false}
 use Rattle.std.specs.Str.{bytes_eq}
 use Rattle.std.specs.Prelude.{codes}
 use Rattle.fd_model.specs.declared.kinds.QueryFault.{QueryFault}
 use Rattle.fd_model.specs.declared.kinds.Order.{Order}
-use Rattle.fd_model.specs.declared.kinds.Order.TheVariants.{Leftmost, FirstFail}
 use Rattle.fd_model.proofs.Findings.{IsFindingBelow, finding_below}
 use Rattle.fd_model.specs.Builtins.{Finding, faulted, decided, equated, finding}
 use Rattle.fd_language.specs.Term.{Term, Terms, Var, Int, Atom, Comp, Substitution, apply, no_terms, term}
@@ -29,8 +28,8 @@ use Rattle.fd_model.specs.Children.{Offer, Faults, Gives, Seeks, by_test, by_cos
 use Rattle.fd_model.specs.Children.{argument_equations, by_clause, by_clauses, by_post, by_constraint, by_finding, Kept, KeptOffer, look_in, offer, is_number}
 use Rattle.fd_model.specs.Children.{by_value, by_pick, by_listing, sets_in}
 use Rattle.fd_language.proofs.Lemmas.{has_either, filled_leaves, reads_occur}
-use Rattle.fd_model.specs.Labelling.{read_list, values_by, first_open, pick, open_ones}
-use Rattle.fd_model.specs.Members.{Member, Open, Known}
+use Rattle.fd_model.specs.Labelling.{read_list, values_by, pick, open_ones}
+use Rattle.fd_model.specs.Members.{Member}
 use Rattle.fd_model.proofs.GoalRows.{Rewritten, with_ranges, rewritten, EquationsBelow, IsFollowing}
 use Rattle.fd_language.specs.Lists.{Each}
 use Rattle.fd_model.specs.Answers.{Settles}
@@ -41,7 +40,7 @@ use Rattle.fd_model.proofs.Leaves.{Passes, sought_each}
 use Rattle.fd_model.proofs.LabelledAnswers.{labelling_answers}
 use Rattle.fd_model.proofs.ModelSubstitutions.{first_member}
 use Rattle.fd_model.proofs.SubstitutedLists.{Cell, cell_of, variable, integer, with_element}
-use Rattle.fd_model.proofs.PickedMembers.{fewest_there}
+use Rattle.fd_model.proofs.PickedMembers.{among_picked}
 use Rattle.fd_model.proofs.Slots.{slot_out, slot_high}
 use Rattle.fd_model.proofs.PostRows.{renamed, renamed_from}
 use Rattle.fd_model.proofs.ListNames.{named_left, named_right}
@@ -58,6 +57,16 @@ Low n xs = (x : ℕ) → has xs x ≡ true → x < n
 
 low_none : (n : ℕ) → Low n []
 low_none n x h = absurd (true≢false (sym h))
+
+-- the arguments of two terms, in pairs
+paired_below : (n : ℕ) (ts us : Terms) → TermsBelow n ts → TermsBelow n us → EquationsBelow n (paired ts us)
+paired_below n no_terms us h k = tt
+paired_below n (term t ts) no_terms h k = tt
+paired_below n (term t ts) (term u us) h k = ((h.0, k.0), paired_below n ts us h.1 k.1)
+
+pub arguments_below : (n : ℕ) (t u : Term) → TermBelow n t → TermBelow n u → EquationsBelow n (argument_equations t u)
+arguments_below n (Comp f ts) (Comp h us) i k = paired_below n ts us i k
+arguments_below n _ _ i k = tt
 
 -- what posting gives is below the next fresh number
 module _ (look : Substitution) where
@@ -93,7 +102,7 @@ module _ (look : Substitution) where
   slots_below m n [] l h = tt
   slots_below m n (y ∷ ys) l h = ((omega arith, int_below m (look y) (h y (first_member y ys))), slots_below m (suc n) ys (omega arith) (λ z i. h z (or_right (y == z) (has ys z) i)))
 
-  pub record IsBelow (n m : ℕ) (p : Indexical) (es : List Equation) : Type 0 where
+  pub record IsPostBelow (n m : ℕ) (p : Indexical) (es : List Equation) : Type 0 where
     pub fresh : n ≤ m
     pub target : Low m (constrained (p ∷ []))
     pub equations : EquationsBelow m es
@@ -107,7 +116,7 @@ module _ (look : Substitution) where
         target = slot n (integers_at look ps []) x;
         range = rename_range (slot n (integers_at look ps [])) (fill_range (λ y. integer_of (look y)) r);
       }) (n + length (integers_at look ps []))
-      (es ++ slot_equations look n (integers_at look ps [])) ≡ posts p m ds → IsBelow l m p ds
+      (es ++ slot_equations look n (integers_at look ps [])) ≡ posts p m ds → IsPostBelow l m p ds
   at_below ps x es ds l n m r p le lx be br (Some f) e = absurd (no_posts f p m ds e)
   at_below ps x es ds l n m r p le lx be br None e =
       let ys = integers_at look ps [] in
@@ -122,14 +131,14 @@ module _ (look : Substitution) where
       ] in
       let high : (y : ℕ) → y < n → slot n ys y < n + length ys = λ y h. elim (cases_Bool (has ys y))
       [ inl k ↦ slot_high n ys y k | inr k ↦ subst (λ z. z < n + length ys) (sym (slot_out n ys y k)) (omega arith) ] in
-      subst (λ k. IsBelow l k p ds) same_m (subst (λ d. IsBelow l (n + length ys) p d) same_e (subst (λ k. IsBelow l (n + length ys) k (es ++ slot_equations look n ys)) same_p (record {
+      subst (λ k. IsPostBelow l k p ds) same_m (subst (λ d. IsPostBelow l (n + length ys) p d) same_e (subst (λ k. IsPostBelow l (n + length ys) k (es ++ slot_equations look n ys)) same_p (record {
         fresh = omega arith;
         target = λ y h. (let g = renamed_from q n x ys y h in subst (λ z. z < n + length ys) g.2 (high g.0 (small g.0 g.1)));
         equations = each_both (λ d. TermBelow (n + length ys) d.left × TermBelow (n + length ys) d.right) es (slot_equations look n ys) (equations_wider n (n + length ys) (omega arith) es be)
             (slots_below (n + length ys) n ys (omega arith) (ints_at ps [] (λ y h. absurd (true≢false (sym h)))));
       })))
 
-  pub post_below : (t : Term) (r : Range) (n m : ℕ) (p : Indexical) (es : List Equation) → TermBelow n t → OccurrencesBelow n (range_occurrences r) → post look t r n ≡ posts p m es → IsBelow n m p es
+  pub post_below : (t : Term) (r : Range) (n m : ℕ) (p : Indexical) (es : List Equation) → TermBelow n t → OccurrencesBelow n (range_occurrences r) → post look t r n ≡ posts p m es → IsPostBelow n m p es
   post_below (Var v) r n m p es h b e = at_below (one_occurrence v false ++ range_occurrences r) v [] es n n m r p (omega arith) h tt b
       (first_offence (need_of r) look (one_occurrence v false ++ range_occurrences r)) e
   post_below (Int z) r n m p es h b e = at_below (range_occurrences r) n (record { left = Var n; right = Int z } ∷ []) es n (suc n) m r p (omega arith)
@@ -154,15 +163,6 @@ module _ (n : ℕ) where
   list_below (Comp f (term h (term t no_terms))) ms b e =
       cell_below h (read_list t) ms b.0 (cell_of h (read_list t) ms (if_members (bytes_eq f (codes ".")) (with_element h (read_list t)) _ ms e)) (λ rest g. list_below t rest b.1.0 g)
   list_below _ ms b e = absurd (cc)
-
-first_there : (ms : List Member) (x : ℕ) → first_open ms ≡ Some x → has (open_ones ms) x ≡ true
-first_there [] x e = absurd (cc)
-first_there (Known z ∷ ms) x e = first_there ms x e
-first_there (Open y ∷ ms) x e = let k : y ≡ x = cc in or_left (y == x) (has (open_ones ms) x) (eq-eqb y x k)
-
-pick_there : (o : Order) (values : ℕ → List ℕ) (ms : List Member) (x : ℕ) → pick o values ms ≡ Some x → has (open_ones ms) x ≡ true
-pick_there Leftmost values ms x e = first_there ms x e
-pick_there FirstFail values ms x e = fewest_there values ms x e
 
 -- the variables of a branch are below its next fresh number
 pub record IsSmall (b : Branch) : Type 0 where
@@ -216,7 +216,7 @@ module _ (M N : ℕ) (prog : Program) (scoped : ClausesScoped prog.clauses) wher
     Tracks us (Gives cs) = Each (λ c. IsTracked c us) cs
     Tracks us (Seeks d r o least t c) = (d ≡ b) × (r ≡ rest) × TermBelow b.fresh t × (us ≡ ws)
 
-    by_posting : (f : Found) → ((p : Indexical) (m : ℕ) (es : List Equation) → f ≡ posts p m es → IsBelow look b.fresh m p es) → Tracks ws (by_post b rest f)
+    by_posting : (f : Found) → ((p : Indexical) (m : ℕ) (es : List Equation) → f ≡ posts p m es → IsPostBelow look b.fresh m p es) → Tracks ws (by_post b rest f)
     by_posting (offends f) h = tt
     by_posting (posts p m es) h = let k = h p m es refl in (
       more_ranges (record { ranges = p ∷ []; equations = es; fresh = m; added = [] })
@@ -238,16 +238,7 @@ module _ (M N : ℕ) (prog : Program) (scoped : ClausesScoped prog.clauses) wher
 
     by_listed : (values : ℕ → List ℕ) (o : Order) (l : Result (List Member) QueryFault) → ((ms : List Member) → l ≡ Ok ms → Low b.fresh (open_ones ms)) → Tracks ws (by_listing values b o g rest l)
     by_listed values o (Err f) h = tt
-    by_listed values o (Ok ms) h = by_picked values (pick o values ms) (λ x e. h ms refl x (pick_there o values ms x e))
-
-    paired_below : (n : ℕ) (ts us : Terms) → TermsBelow n ts → TermsBelow n us → EquationsBelow n (paired ts us)
-    paired_below n no_terms us h k = tt
-    paired_below n (term t ts) no_terms h k = tt
-    paired_below n (term t ts) (term u us) h k = ((h.0, k.0), paired_below n ts us h.1 k.1)
-
-    arguments_below : (n : ℕ) (t u : Term) → TermBelow n t → TermBelow n u → EquationsBelow n (argument_equations t u)
-    arguments_below n (Comp f ts) (Comp h us) i k = paired_below n ts us i k
-    arguments_below n _ _ i k = tt
+    by_listed values o (Ok ms) h = by_picked values (pick o values ms) (λ x e. h ms refl x (among_picked o values ms x e))
 
     clause_tracked : (t : Term) (c : Clause) → TermBelow b.fresh t → TermBelow c.variables c.head → EachBelow c.variables c.body → IsTracked (by_clause m b t rest c) ws
     clause_tracked t c h i k =
@@ -331,7 +322,7 @@ module _ (M N : ℕ) (prog : Program) (scoped : ClausesScoped prog.clauses) wher
   sought_passes b ws o t c s D ms x n h v e p i ok =
       let g : GoalBelow c.fresh (Label o t) = (subst (EachBelow c.fresh) h.2 h.0.small.goals).0 in
       let seen : (y : ℕ) → y < c.fresh → TermBelow c.fresh (look_in c s D y) = look_below c.fresh c s D v.general h.0.small.equations in
-      let low : x < c.fresh = list_below c.fresh (apply (look_in c s D) t) ms (seen_below 0 c ws h.0 (Label o t) [] g tt (look_in c s D) seen t g) e x (pick_there o _ ms x p) in
+      let low : x < c.fresh = list_below c.fresh (apply (look_in c s D) t) ms (seen_below 0 c ws h.0 (Label o t) [] g tt (look_in c s D) seen t g) e x (among_picked o _ ms x p) in
       let one = by_numbers 0 c ws h.0 (Label o t) [] g tt (look_in c s D) seen x low (n ∷ []) in
       (subst (λ gs. IsTracked (by_value c gs x n) ws) (sym h.2) one.0, ok, h.2, h.3)
 

@@ -10,8 +10,8 @@ pub use Rattle.heap_cells.proofs.HeapGrowth.{link_kept, link_valid, new_slot_at,
 -- The term of a cell, by its equations: the bound on the depth means nothing once it is above the cell's rank.
 pub use Rattle.heap_cells.proofs.Ranks.{slot_agrees, term-Atom, term-Int, term-Ref, term-Struct, terms_agree, unbound_term}
 -- What substitutions do to terms.
-pub use Rattle.fd_language.proofs.Lemmas.{after_is, join_both, split_both}
-pub use Rattle.heap_cells.proofs.Substitutions.{occurs_check, one_other, one_self, same_apply, size_one, through_all, through_one}
+pub use Rattle.fd_language.proofs.Lemmas.{after_is, join_both, occurs_check, split_both}
+pub use Rattle.heap_cells.proofs.Substitutions.{one_other, one_self, same_apply, size_one, through_all, through_one}
 -- What one look at a cell shows.
 pub use Rattle.heap_cells.proofs.SeenCells.{number_of}
 -- The heaps at the marks stay as they are while the current one changes.

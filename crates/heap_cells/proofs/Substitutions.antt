@@ -1,9 +1,9 @@
 -- What substitutions do to terms.
-use Rattle.std.proofs.Common.{◌≡◌, ℕ, ◌+◌, ◌*◌, ◌≤◌, Bool, true, false, cond, ◌==◌, refl, ap, sym, inl, inr, arith, eqb-true, eq-eqb}
-use Rattle.std.proofs.lemmas.Bool.{or_cases, or_parts, true≢false}
+use Rattle.std.proofs.Common.{◌≡◌, ℕ, ◌+◌, ◌*◌, ◌≤◌, Bool, true, false, cond, ◌==◌, refl, ap, arith, eqb-true, eq-eqb}
+use Rattle.std.proofs.lemmas.Bool.{or_parts}
 use Rattle.fd_language.proofs.Lemmas.{bound_at, through_term}
 use Rattle.term_pool.proofs.Lemmas.{size_above_zero}
-use Rattle.fd_language.specs.Term.{Term, Terms, Var, Int, Atom, Comp, Name, Substitution, apply, apply_all, no_terms, term}
+use Rattle.fd_language.specs.Term.{Term, Terms, Var, Int, Atom, Comp, Substitution, apply, apply_all, no_terms, term}
 use Rattle.term_pool.specs.Terms.{size, sizes}
 use Rattle.heap_cells.specs.Terms.{occurs, occurs_any, one}
 
@@ -57,21 +57,3 @@ mutual
   pub sizes_one : (x : ℕ) (t : Term) (rs : Terms) → sizes (apply_all (one x t) rs) ≤ sizes rs * size t
   sizes_one x t no_terms = omega arith
   sizes_one x t (term r rs) = let a = size_one x t r in let b = sizes_one x t rs in omega arith
-
--- a variable's term is no larger than a term that the variable occurs in
-mutual
-  occurs_size : (u : Substitution) (x : ℕ) (t : Term) → occurs x t ≡ true → size (u x) ≤ size (apply u t)
-  occurs_size u x (Var y) h = let e : y ≡ x = eqb-true y x h in omega (arith, ap (λ z. size (u z)) e)
-  occurs_size u x (Int z) h = absurd (true≢false (sym h))
-  occurs_size u x (Atom a) h = absurd (true≢false (sym h))
-  occurs_size u x (Comp f ts) h = let l : size (u x) ≤ sizes (apply_all u ts) = occurs_sizes u x ts h in omega arith
-
-  occurs_sizes : (u : Substitution) (x : ℕ) (ts : Terms) → occurs_any x ts ≡ true → size (u x) ≤ sizes (apply_all u ts)
-  occurs_sizes u x no_terms h = absurd (true≢false (sym h))
-  occurs_sizes u x (term t ts) h = elim (or_cases (occurs x t) (occurs_any x ts) h) [
-    | inl a ↦ let l : size (u x) ≤ size (apply u t) = occurs_size u x t a in omega arith
-    | inr a ↦ let l : size (u x) ≤ sizes (apply_all u ts) = occurs_sizes u x ts a in omega arith
-  ]
-
-pub occurs_check : (u : Substitution) (x : ℕ) (f : Name) (ts : Terms) → occurs_any x ts ≡ true → u x ≡ Comp f (apply_all u ts) → ⊥
-occurs_check u x f ts h e = let l = occurs_sizes u x ts h in let k : size (u x) ≡ 1 + sizes (apply_all u ts) = ap size e in omega arith

@@ -1,10 +1,10 @@
 -- Integers of the language have 64 bits.
-use Rattle.std.proofs.Common.{◌≡◌, subst, Bool, true, false, not, ap, refl, ◌+ℤ◌, ◌*ℤ◌, ℤ, pos, negsuc, neg_ℤ, ◌-ℤ◌, sym, ◌∙◌, arith, FitsSigned, to_z, of_z}
+use Rattle.std.proofs.Common.{◌≡◌, subst, Bool, true, false, not, ap, refl, ◌+ℤ◌, ◌*ℤ◌, ℤ, Option, None, pos, negsuc, neg_ℤ, ◌-ℤ◌, sym, ◌∙◌, arith, FitsSigned, to_z, of_z}
 use Rattle.std.specs.Int.{w64}
 use Rattle.std.proofs.lemmas.Int.{ints, to_z-of_z, fits_signed_from_abs}
 use Rattle.fd_model.proofs.Lemmas.{integer_size}
 use Rattle.fd_model.specs.Linear.{in_integers}
-use Rattle.linear_forms.specs.Shares.{sign_of}
+use Rattle.linear_forms.specs.Shares.{IsWithin, sign_of}
 use Rattle.linear_forms.proofs.Signs.{neg_inside}
 
 -- they fit the width
@@ -30,6 +30,12 @@ passed_product a b y f g h =
     let same : to_z w64 (of_z w64 a) *ℤ to_z w64 (of_z w64 b) ≡ a *ℤ b = λ i. to_z-of_z w64 a f i *ℤ to_z-of_z w64 b g i in
     let inside : in_integers (a *ℤ b) ≡ true = ap in_integers (sym same) ∙ h.1 in
     (passed (a *ℤ b) y (h.0 ∙ same, inside), inside)
+
+-- the same where the product is no integer of the language
+pub over_product : (a b : ℤ) (r : Option ℤ) → FitsSigned w64 a → FitsSigned w64 b → IsWithin (to_z w64 (of_z w64 a) *ℤ to_z w64 (of_z w64 b)) r → r ≡ None → in_integers (a *ℤ b) ≡ false
+over_product a b r f g h e =
+    let over = subst (IsWithin (to_z w64 (of_z w64 a) *ℤ to_z w64 (of_z w64 b))) e h in
+    (λ i. in_integers (sym (to_z-of_z w64 a f) i *ℤ sym (to_z-of_z w64 b g) i)) ∙ over
 
 pub not_true : (b : Bool) → true ≡ not b → b ≡ false
 not_true true h = absurd (cc)

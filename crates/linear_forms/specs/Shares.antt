@@ -1,6 +1,6 @@
 -- What a sum has of each variable: its coefficient, and the number of its first occurrence.
 use Rattle.std.specs.Prelude.{◌≡◌, ℕ, suc, ◌≤◌, min, Bool, true, false, ℤ, pos, negsuc, ◌+ℤ◌, ◌*ℤ◌, nat_eq, if◌then◌else◌, List, [], ◌∷◌, Option, Some, None}
-use Rattle.std.specs.Prelude.{MatchOption}
+use Rattle.std.specs.Prelude.{MatchOption, MatchResult, Result}
 use Rattle.std.specs.Map.{lookup}
 use Rattle.std.specs.Ordering.{int_eq}
 use Rattle.fd_model.specs.Linear.{in_integers}
@@ -65,3 +65,11 @@ OverflowsBy P fault.Nonlinear = ⊥
 OverflowsBy P fault.NotANumber = ⊥
 OverflowsBy P fault.Overflow = P
 OverflowsBy P fault.NoMemory = Unit {0}
+
+-- what there is, or an overflow where there is nothing
+abbrev pub IsOrOverflow : {A : Type 0} → Option A → Result A LinearFault → Type 0
+IsOrOverflow found r = MatchResult r (λ value. found ≡ Some value) (λ f. (f ≡ fault.Overflow) × (found ≡ None))
+
+-- an overflow exactly where there are too many
+abbrev pub HasFew : Bool → Result (Unit {0}) LinearFault → Type 0
+HasFew too_many r = MatchResult r (λ _. too_many ≡ false) (λ f. (f ≡ fault.Overflow) × (too_many ≡ true))

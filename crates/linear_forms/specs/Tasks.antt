@@ -76,6 +76,10 @@ IsNoNumber ks fault.NotANumber = ks ≡ None
 IsNoNumber ks fault.Overflow = ⊥
 IsNoNumber ks fault.NoMemory = Unit {0}
 
+-- the tasks that are meant, or no number where there are none
+abbrev pub Means : {A : Type 0} → Option (List Task) → (A → List Task) → Result A LinearFault → Type 0
+Means ks view r = MatchResult r (λ a. ks ≡ Some (view a)) (λ f. (f ≡ fault.NotANumber) × (ks ≡ None))
+
 -- the tasks are put behind the others
 abbrev pub Opens : Option (List Task) → List Task → List Task → Result (Unit {0}) LinearFault → Type 0
 Opens ks old new r = MatchResult r (λ _. (more : List Task) × (ks ≡ Some more) × (new ≡ old ++ more)) (IsNoNumber ks)

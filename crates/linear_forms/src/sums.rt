@@ -1,13 +1,13 @@
 //! Sums of products, found by their variables.
 
-ghost use Rattle.std.specs.Prelude.{◌≡◌, ℕ, suc, ◌==◌, nat_lt, not, Ok, IfErr, MatchResult};
+ghost use Rattle.std.specs.Prelude.{◌≡◌, ℕ, suc, ◌==◌, nat_lt, not, Ok, Err, IfErr, MatchResult};
 ghost use Rattle.std.specs.Map.{values_of};
 ghost use Rattle.fd_language.specs.Term.{Var, Int};
 ghost use Rattle.fd_model.specs.Linear as linear;
 ghost use Rattle.fd_model.specs.Linear.{nonzero, collect_term, sum_of, product_of, linear_of as linear_form};
 ghost use Rattle.linear_forms.specs.declared.LinearFault.TheVariants as fault;
 ghost use Rattle.linear_forms.specs.LinearForm.{form_of, IsOwnFault};
-ghost use Rattle.linear_forms.specs.Shares.{IsShare, both, scaled_share, share_at, IsWhole, open_count, coefficients, OverflowsBy};
+ghost use Rattle.linear_forms.specs.Shares.{IsShare, both, scaled_share, share_at, IsWhole, open_count, coefficients, OverflowsBy, IsOrOverflow, HasFew};
 ghost use Rattle.linear_forms.specs.Sums.{Adds, Exceeds, HasFitting, IsSum, IsKept, Gives, AddsSum, ExceedsSum, Scales, ScalesOver, Multiplies, ExceedsTimes, signed};
 
 use crate::integers::{product, sign, sum};
@@ -111,6 +111,28 @@ impl Sum {
     {
         self.terms.len() <= most || self.open_variables() <= most
     }
+
+    /// An overflow where more variables are left. No memory.
+    fn keep_to(&self, most: usize) -> Result<(), LinearFault>
+        ensures { HasFew (nat_lt most (open_count (values_of self.now.terms.entries))) result }
+    {
+        if self.has_few(most) {
+            Ok(())
+        } else {
+            Err(LinearFault::Overflow)
+        }
+    }
+}
+
+/// What there is, or an overflow where there is nothing. No memory.
+#[inline]
+fn or_overflow<T>(found: Option<T>) -> Result<T, LinearFault>
+    ensures { IsOrOverflow found result }
+{
+    match found {
+        Some(value) => Ok(value),
+        None => Err(LinearFault::Overflow),
+    }
 }
 
 /// The share of a variable with one more added.
@@ -154,9 +176,7 @@ fn scaled_terms(
 {
     let mut scaled = IndexMap::with_capacity(alloc, terms.len())?;
     for (variable, share) in terms.iter() {
-        let Some(product) = share.times(factor) else {
-            return Err(LinearFault::Overflow);
-        };
+        let product = or_overflow(share.times(factor))?;
         scaled.insert(*variable, product)?;
     }
     Ok(scaled)
@@ -168,10 +188,8 @@ fn times(alloc: Global, sum: &Sum, factor: i64) -> Result<Sum, LinearFault>
         (OverflowsBy (ExceedsTimes factor sum.now)) }
 {
     let terms = scaled_terms(alloc, &sum.terms, factor)?;
-    match product(factor, sum.constant) {
-        Some(constant) => Ok(Sum { terms, constant }),
-        None => Err(LinearFault::Overflow),
-    }
+    let constant = or_overflow(product(factor, sum.constant))?;
+    Ok(Sum { terms, constant })
 }
 
 /// A sum with the terms of another one added. The constant is that of both, and at most so many
@@ -181,15 +199,9 @@ fn added(mut longer: Sum, shorter: &Sum, most: usize) -> Result<Sum, LinearFault
         (OverflowsBy (ExceedsSum most longer shorter.now)) }
 {
     add_terms(&mut longer.terms, &shorter.terms)?;
-    let Some(constant) = sum(longer.constant, shorter.constant) else {
-        return Err(LinearFault::Overflow);
-    };
-    longer.constant = constant;
-    if longer.has_few(most) {
-        Ok(longer)
-    } else {
-        Err(LinearFault::Overflow)
-    }
+    longer.constant = or_overflow(sum(longer.constant, shorter.constant))?;
+    longer.keep_to(most)?;
+    Ok(longer)
 }
 
 /// The sum of two, of which the shorter one is added to the longer one.
@@ -204,6 +216,13 @@ pub(crate) fn plus(left: Sum, right: Sum) -> Result<Sum, LinearFault>
     }
 }
 
+/// The fault of a product of two sums with variables. No memory.
+fn nonlinear() -> Result<Sum, LinearFault>
+    ensures { result ≡ Err fault.Nonlinear }
+{
+    Err(LinearFault::Nonlinear)
+}
+
 /// The product of two, of which one has to be a constant.
 pub(crate) fn multiply(alloc: Global, left: Sum, right: Sum) -> Result<Sum, LinearFault>
     ensures { (s t : linear.Sum) (lo m hi : ℕ) → IsSum left s lo m → IsSum right t m hi
@@ -214,7 +233,7 @@ pub(crate) fn multiply(alloc: Global, left: Sum, right: Sum) -> Result<Sum, Line
     } else if right.is_constant() {
         times(alloc, &left, right.constant)
     } else {
-        Err(LinearFault::Nonlinear)
+        nonlinear()
     }
 }
 

@@ -1,14 +1,15 @@
 //! The walk over two terms, task by task.
 
-ghost use Rattle.std.specs.Prelude.{◌≡◌, ℕ, ◌<◌, List, length, Ok, IfErr, MatchResult};
+ghost use Rattle.std.specs.Prelude.{◌≡◌, ℕ, ◌<◌, List, [], ◌∷◌, length, Ok, Err, IfErr, MatchResult};
 ghost use Rattle.fd_language.specs.Term.{Var, Int};
 ghost use Rattle.fd_model.specs.Linear as linear;
 ghost use Rattle.fd_model.specs.Linear.{of_both, difference_of, sum_of, product_of, collect_term};
 ghost use Rattle.term_pool.specs.Terms.{term_of};
+ghost use Rattle.linear_forms.specs.declared.LinearFault.TheVariants as fault;
 ghost use Rattle.linear_forms.specs.declared.walk.Task.TheVariants as task;
 ghost use Rattle.linear_forms.specs.LinearForm.{IsOwnFault};
 ghost use Rattle.linear_forms.specs.Sums.{Gives, signed};
-ghost use Rattle.linear_forms.specs.Tasks.{before, on_two, operator_tasks, compound_tasks, Opens, IsOf, Makes, Applies, TakesTwo, HasNotTwo, Does, Refuses};
+ghost use Rattle.linear_forms.specs.Tasks.{before, on_two, operator_tasks, compound_tasks, Opens, IsOf, Makes, Applies, TakesTwo, HasNotTwo, Does, Refuses, Means};
 
 use crate::LinearFault;
 use crate::sums::{Sum, constant_alone, multiply, plus, variable_alone};
@@ -33,42 +34,63 @@ pub(crate) struct Made {
     pub met: u64,
 }
 
-/// Leaves an operator and its operands to tasks, the left operand first.
-fn open_operator(
+/// The fault of an atom. No memory.
+fn no_number() -> Result<(), LinearFault>
+    ensures { result ≡ Err fault.NotANumber }
+{
+    Err(LinearFault::NotANumber)
+}
+
+/// The tasks of an operator and its operands, the left operand last. No memory.
+fn tasks_of_operator(
     name: &str,
     left: TermId,
     right: TermId,
     negated: bool,
-    ahead: &mut Vec<Task>,
-) -> Result<(), LinearFault>
-    ensures { Opens (operator_tasks name.now left right negated) ahead.old.items ahead.new.items
-        result }
+) -> Result<[Task; 3], LinearFault>
+    ensures { Means (operator_tasks name.now left right negated) (λ tasks. tasks) result }
 {
     if name == "+" {
-        ahead.extend_from_slice(&[
+        Ok([
             Task::Add,
             Task::Collect(right, negated),
             Task::Collect(left, negated),
-        ])?;
+        ])
     } else if name == "-" {
-        ahead.extend_from_slice(&[
+        Ok([
             Task::Add,
             Task::Collect(right, !negated),
             Task::Collect(left, negated),
-        ])?;
+        ])
     } else if name == "*" {
-        ahead.extend_from_slice(&[
+        Ok([
             Task::Multiply,
             Task::Collect(right, negated),
             Task::Collect(left, false),
-        ])?;
+        ])
     } else {
-        return Err(LinearFault::NotANumber);
+        Err(LinearFault::NotANumber)
     }
-    Ok(())
 }
 
-/// Leaves a compound term to tasks.
+/// The task of a compound term that hasn't two parts: that of an opposite. No memory.
+fn task_of_opposite(name: &str, parts: &[TermId], negated: bool) -> Result<Task, LinearFault>
+    requires { length parts.now ≡ 2 → ⊥ }
+    ensures { Means (compound_tasks name.now parts.now negated) (λ task. task ∷ []) result }
+{
+    match parts {
+        [only] => {
+            if name == "-" {
+                Ok(Task::Collect(*only, !negated))
+            } else {
+                Err(LinearFault::NotANumber)
+            }
+        }
+        _ => Err(LinearFault::NotANumber),
+    }
+}
+
+/// Leaves a compound term to tasks, those of an operator's left operand first.
 fn open_compound(
     name: &str,
     parts: &[TermId],
@@ -78,18 +100,13 @@ fn open_compound(
     ensures { Opens (compound_tasks name.now parts.now negated) ahead.old.items ahead.new.items
         result }
 {
-    match parts {
-        [only] => {
-            if name != "-" {
-                return Err(LinearFault::NotANumber);
-            }
-            ahead.push(Task::Collect(*only, !negated))?;
-            Ok(())
-        }
-        [left, right] => open_operator(name, *left, *right, negated, ahead),
-        [] => Err(LinearFault::NotANumber),
-        [_, _, _, ..] => Err(LinearFault::NotANumber),
+    if let [left, right] = parts {
+        let tasks = tasks_of_operator(name, *left, *right, negated)?;
+        ahead.extend_from_slice(&tasks)?;
+    } else {
+        ahead.push(task_of_opposite(name, parts, negated)?)?;
     }
+    Ok(())
 }
 
 impl Made {
@@ -142,7 +159,7 @@ impl Made {
         match pool.view(term) {
             Node::Var(variable) => self.push_variable(alloc, variable, negated),
             Node::Int(integer) => self.push_constant(alloc, integer, negated),
-            Node::Atom(_) => Err(LinearFault::NotANumber),
+            Node::Atom(_) => no_number(),
             Node::Comp(name, parts) => open_compound(pool.name_of(name), parts, negated, ahead),
         }
     }

@@ -1,6 +1,5 @@
 -- A text has at most one fault, and a listing none.
 use Rattle.std.proofs.Common.{◌≡◌, ℕ, ◌<◌, ◌≤◌, List, [], ◌∷◌, ◌++◌, take, drop, refl, sym, ap, ◌∙◌, subst, inl, inr, arith, All, append_assoc}
-use Rattle.std.specs.Prelude.{codes}
 use Rattle.std.proofs.lemmas.Bool.{cases_order}
 use Rattle.std.proofs.lemmas.List.{length-take-le, take-append-drop}
 use Rattle.wam_code.specs.VerifiedCode.{IsVerifiedBy}
@@ -17,15 +16,9 @@ use Rattle.listing_loader.specs.Laws.{OneAnswer}
 use Rattle.listing_loader.proofs.Lists.{all_get}
 use Rattle.listing_loader.proofs.WrongLines.{not_wrong, one_wrong}
 use Rattle.listing_loader.proofs.CodeSheets.{held_sheet, held_good, held_verified}
+use Rattle.code_listing.proofs.Lemmas.{lines_append}
 
 -- ---- bad lines
-
-lines_append : (ts us : List (List ℕ)) → line_bytes (ts ++ us) ≡ line_bytes ts ++ line_bytes us
-lines_append [] us = refl
-lines_append (t ∷ ts) us =
-    ap (λ l. t ++ (codes "\n" ++ l)) (lines_append ts us)
-    ∙ ap (λ l. t ++ l) (sym (append_assoc (codes "\n") (line_bytes ts) (line_bytes us)))
-    ∙ sym (append_assoc t (codes "\n" ++ line_bytes ts) (line_bytes us))
 
 -- what begins as a sheet does so with fewer lines
 begins_less : (text : List ℕ) (k j : ℕ) (s : Sheet) → j ≤ k → BeginsAs text k s → BeginsAs text j s

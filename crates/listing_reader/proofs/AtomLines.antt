@@ -1,11 +1,11 @@
 -- The lines of atoms.
-use Rattle.std.proofs.Common.{◌≡◌, ◌⊎◌, ℕ, zero, suc, ◌+◌, ◌<◌, ◌≤◌, Bool, true, false, ◌||◌, ◌&&◌, not, cond, nat_eq, nat_lt, List, [], ◌∷◌, ◌++◌, length}
-use Rattle.std.proofs.Common.{get_or, refl, sym, ap, ◌∙◌, subst, inl, inr, arith, append_assoc, codes}
+use Rattle.std.proofs.Common.{◌≡◌, ◌⊎◌, ℕ, zero, suc, ◌<◌, ◌≤◌, Bool, true, false, ◌||◌, ◌&&◌, not, cond, nat_eq, nat_lt, List, [], ◌∷◌, ◌++◌, length}
+use Rattle.std.proofs.Common.{get_or, refl, sym, ap, ◌∙◌, subst, inl, inr, arith, codes}
 use Rattle.std.specs.Str.{IsAscii, IsUtf8, bytes_eq, chars}
-use Rattle.std.specs.List.{list_all, list_any}
+use Rattle.std.specs.List.{list_all}
 use Rattle.std.specs.Fmt.{digits}
 use Rattle.std.specs.Char.{is_ascii_uppercase}
-use Rattle.std.proofs.lemmas.Bool.{agree_below, agree_below_at, eqb-true, lt-ltb, ltb-false, ltb-true, ne_eqb, le-ltb, or_from}
+use Rattle.std.proofs.lemmas.Bool.{agree_below, agree_below_at, lt-ltb, ltb-true, ne_eqb}
 use Rattle.std.proofs.lemmas.List.{append-nil}
 use Rattle.std.proofs.lemmas.Slice.Eq.{bytes_eq-Decides}
 use Rattle.std.proofs.lemmas.Str.{IsUtf8-append, IsUtf8-encode, IsUtf8-from_ascii, IsUtf8-nil, encode_ascii, encodes-chars, inside_one, scalars-chars}
@@ -26,6 +26,7 @@ use Rattle.listing_reader.specs.Atoms.{written_name}
 use Rattle.listing_reader.specs.Reading.{has_byte}
 use Rattle.listing_reader.proofs.Digits.{and_true, and_left, and_right, join_all, without}
 use Rattle.listing_reader.proofs.LineWords.{is_inline}
+use Rattle.term_writer.proofs.Lemmas.{high_bytes, high_encode, low_or_high, quoted-append}
 
 -- ---- bytes of characters
 
@@ -40,13 +41,6 @@ without_join c (b ∷ v) w e f = go (nat_eq b c) e (λ g. without_join c v w g f
 no_byte : (c : ℕ) (w : List ℕ) → ((k : ℕ) → k < length w → ¬ (get_or w k 0 ≡ c)) → has_byte c w ≡ false
 no_byte c [] h = refl
 no_byte c (b ∷ w) h = without_join c (b ∷ []) w (ap (λ (t : Bool). t || false) (ne_eqb b c (h 0 (omega arith)))) (no_byte c w (λ k l. h (suc k) (omega (arith, l))))
-
-low_or_high : (c : ℕ) → (c < 128) ⊎ (128 ≤ c)
-low_or_high c = go (nat_lt c 128) refl
-  where
-    go : (b : Bool) → nat_lt c 128 ≡ b → (c < 128) ⊎ (128 ≤ c)
-    go true e = inl (ltb-true c 128 e)
-    go false e = inr (ltb-false c 128 e)
 
 encode_without : (c : ℕ) → c < 128 → (x : ℕ) → nat_eq x c ≡ false → has_byte c (encode x) ≡ false
 encode_without c l x e = go (low_or_high x)
@@ -69,27 +63,6 @@ encodes_without c l (x ∷ cs) h = without_join c (encode x) (encodes cs) (encod
     tail true e = absurd (cc (e))
 
 -- ---- bytes in quotes
-
-stands_by : (c : ℕ) → nat_eq c 92 ≡ false → nat_eq c 39 ≡ false → nat_eq c 10 ≡ false → nat_eq c 9 ≡ false → nat_eq c 13 ≡ false → (nat_lt c 32 || nat_eq c 127) ≡ false → quoted_byte c ≡ c ∷ []
-stands_by c a b d e f g = rw (a, b, d, e, f, g) refl
-
--- a byte over 127 stands as it is
-stands : (c : ℕ) → 128 ≤ c → quoted_byte c ≡ c ∷ []
-stands c h =
-    stands_by c (ne_eqb c 92 (λ e. omega (arith, e, h))) (ne_eqb c 39 (λ e. omega (arith, e, h))) (ne_eqb c 10 (λ e. omega (arith, e, h)))
-    (ne_eqb c 9 (λ e. omega (arith, e, h))) (ne_eqb c 13 (λ e. omega (arith, e, h)))
-    (or_from (nat_lt c 32) (nat_eq c 127) (le-ltb c 32 (omega (arith, h))) (ne_eqb c 127 (λ e. omega (arith, e, h))))
-
-high_bytes : (bs : List ℕ) → ((k : ℕ) → k < length bs → 128 ≤ get_or bs k 0) → quoted_bytes bs ≡ bs
-high_bytes [] h = refl
-high_bytes (b ∷ bs) h = ap (λ (w : List ℕ). w ++ quoted_bytes bs) (stands b (h 0 (omega arith))) ∙ ap (λ (w : List ℕ). b ∷ w) (high_bytes bs (λ k l. h (suc k) (omega (arith, l))))
-
-high_encode : (c : ℕ) → 128 ≤ c → (k : ℕ) → k < length (encode c) → 128 ≤ get_or (encode c) k 0
-high_encode c h k l = go (low_or_high (get_or (encode c) k 0))
-  where
-    go : (get_or (encode c) k 0 < 128) ⊎ (128 ≤ get_or (encode c) k 0) → 128 ≤ get_or (encode c) k 0
-    go (inl small) = (let same : c ≡ get_or (encode c) k 0 = inside_one c [] (encode c) k (sym (append-nil (encode c))) l small in absurd (omega (arith, same, small, h)))
-    go (inr big) = big
 
 is_low : ℕ → Bool
 is_low b = nat_lt b 128
@@ -114,10 +87,6 @@ quoted_ascii : (c : ℕ) → c < 128 → IsUtf8 (quoted_byte c)
 unfolding low_text always
 quoted_ascii c h = IsUtf8-from_ascii (quoted_byte c) (low_ascii (quoted_byte c) (agree_below_at low_text always 128 c low_table h))
 
-quoted_join : (xs ys : List ℕ) → quoted_bytes (xs ++ ys) ≡ quoted_bytes xs ++ quoted_bytes ys
-quoted_join [] ys = refl
-quoted_join (x ∷ xs) ys = ap (λ (w : List ℕ). quoted_byte x ++ w) (quoted_join xs ys) ∙ sym (append_assoc (quoted_byte x) (quoted_bytes xs) (quoted_bytes ys))
-
 quoted_char : (c : ℕ) → scalar c ≡ true → IsUtf8 (quoted_bytes (encode c))
 quoted_char c s = go (low_or_high c)
   where
@@ -127,7 +96,7 @@ quoted_char c s = go (low_or_high c)
 
 quoted_chars : (cs : List ℕ) → scalars cs ≡ true → IsUtf8 (quoted_bytes (encodes cs))
 quoted_chars [] h = IsUtf8-nil
-quoted_chars (c ∷ cs) h = subst IsUtf8 (sym (quoted_join (encode c) (encodes cs)))
+quoted_chars (c ∷ cs) h = subst IsUtf8 (sym (quoted-append (encode c) (encodes cs)))
     (IsUtf8-append (quoted_bytes (encode c)) (quoted_bytes (encodes cs)) (quoted_char c (and_left (scalar c) (scalars cs) h))
     (quoted_chars cs (and_right (scalar c) (scalars cs) h)))
 
@@ -248,6 +217,14 @@ inline_table = refl
 inline_low : (c : ℕ) → c < 128 → inline_byte c ≡ true
 unfolding always
 inline_low c h = agree_below_at inline_byte always 128 c inline_table h
+
+-- a byte over 127 stands as it is
+stands : (c : ℕ) → 128 ≤ c → quoted_byte c ≡ c ∷ []
+stands c h = sym (append-nil (quoted_byte c)) ∙ high_bytes (c ∷ []) each
+  where
+    each : (k : ℕ) → k < 1 → 128 ≤ get_or (c ∷ []) k 0
+    each zero l = h
+    each (suc k) l = absurd (omega (arith, l))
 
 inline_each : (c : ℕ) → list_all is_inline (quoted_byte c) ≡ true
 unfolding inline_byte

@@ -226,11 +226,6 @@ pub left_behind : (lines behind : Lines) (rest : List ℕ) → lines ≡ first_l
 left_behind lines behind rest is (BadLine l) (k, (d, lv)) = (suc k, (omega (arith, d), leaves_head rest first_line FromAtoms lines behind is k lv))
 left_behind lines behind rest is NoMemory u = tt
 
-pub wrong_front : {A W : Type 0} (g : W → List ℕ) (Fits : A → Type 0) (text : A → List ℕ) (ws : List W) (d : W) → 1 ≤ length ws
-    → ((x : A) → Fits x → ¬ (text x ≡ g (get_or ws 0 d))) → (x : A) (r : Lines) → Fits x → ¬ (map g ws ≡ text x ∷ r)
-wrong_front g Fits text [] d l none = absurd (omega (arith, l))
-wrong_front g Fits text (w ∷ ws) d l none = wrong_line Fits text (map g (w ∷ ws)) (map g ws) (g w) refl none
-
 pub head_none : (h : List ℕ) (lines : Lines) → lines ≡ [] → (behind : Lines) → ¬ (lines ≡ h ∷ behind)
 head_none h lines e behind f = let k : [] ≡ h ∷ behind = sym e ∙ f in cc
 

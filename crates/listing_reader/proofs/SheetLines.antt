@@ -26,7 +26,8 @@ use Rattle.listing_reader.specs.Sections.{TellsPlaces, first_line}
 use Rattle.listing_reader.specs.SheetTexts.{BeginsAs, IsBadLine, OneSheet, Tells}
 use Rattle.listing_reader.proofs.LinePrefixes.{Lines, all_head, all_tail, same_section}
 use Rattle.listing_reader.proofs.AtomLines.{atom_inline, one_name}
-use Rattle.listing_reader.proofs.TextLines.{front_of, lines_append, lines_begin, same_lines, text_of_lines, told_lines, without_front, without_join}
+use Rattle.listing_reader.proofs.TextLines.{front_of, lines_begin, same_lines, text_of_lines, told_lines, without_front, without_join}
+use Rattle.code_listing.proofs.Lemmas.{lines_append}
 use Rattle.listing_reader.proofs.LineTexts.{entry_inline, nodes_inline, one_entry, one_place, one_span, place_inline, span_inline}
 use Rattle.listing_reader.proofs.NodeWords.{one_range}
 use Rattle.listing_reader.proofs.TableNumbers.{codes_count, codes_fit, codes_numbers, codes_size, keys_of_places, lines_of_places, numbered_first, places_codes}

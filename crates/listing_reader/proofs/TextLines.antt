@@ -1,5 +1,5 @@
 -- The lines of a text.
-use Rattle.std.proofs.Common.{◌≡◌, ℕ, zero, suc, ◌<◌, ◌≤◌, List, [], ◌∷◌, ◌++◌, length, refl, sym, ap, ◌∙◌, subst, arith, append_assoc, codes}
+use Rattle.std.proofs.Common.{◌≡◌, ℕ, zero, suc, ◌<◌, ◌≤◌, List, [], ◌∷◌, ◌++◌, length, refl, sym, ap, ◌∙◌, append_assoc, codes}
 use Rattle.std.proofs.lemmas.List.{append-nil}
 use Rattle.code_listing.specs.Words.{between, each_behind, line_bytes}
 use Rattle.listing_reader.specs.Lines.{BeginAlike}
@@ -76,13 +76,6 @@ front_of (suc k) (x ∷ b) (y ∷ ls) h =
       count = ap suc f.count;
       also = ap (λ (z : List ℕ). z ∷ ls) (sym h.0) ∙ ap (λ (l : Lines). x ∷ l) f.also;
     }
-
--- the text of lines, with more behind
-pub lines_append : (ts us : Lines) → line_bytes (ts ++ us) ≡ line_bytes ts ++ line_bytes us
-lines_append [] us = refl
-lines_append (t ∷ ts) us =
-    ap (λ (x : List ℕ). t ++ (codes "\n" ++ x)) (lines_append ts us)
-    ∙ sym (append_assoc t (codes "\n" ++ line_bytes ts) (line_bytes us))
 
 -- the last of a list
 module _ {A : Type 0} where

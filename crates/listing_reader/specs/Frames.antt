@@ -14,5 +14,5 @@ IsSlot s = Unit {0}
 abbrev pub IsSlots : List Slot → Type 0
 IsSlots slots = Unit {0}
 
-abbrev pub IsFrame : Option (List Slot) → Type 0
-IsFrame f = Unit {0}
+abbrev pub AnyFrame : Option (List Slot) → Type 0
+AnyFrame f = Unit {0}

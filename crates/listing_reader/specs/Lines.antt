@@ -1,5 +1,5 @@
 -- What lines have a form, and the first line at which lines leave it.
-use Rattle.std.specs.Prelude.{◌≡◌, ℕ, zero, suc, ◌+◌, ◌<◌, List, [], ◌∷◌, ◌++◌, map, length, All, decimal}
+use Rattle.std.specs.Prelude.{◌≡◌, ◌⊎◌, ℕ, zero, suc, ◌+◌, ◌<◌, List, [], ◌∷◌, ◌++◌, map, length, All, decimal}
 use Rattle.code_listing.specs.Words.{words}
 use Rattle.code_listing.specs.Listing.{counted}
 use Rattle.listing_reader.specs.NumberBounds.{IsNumber}
@@ -70,6 +70,10 @@ pub record Follows {A : Type 0} (name : List ℕ) (Fits : A → Type 0) (text : 
   pub behind : List (List ℕ)
   pub are : lines ≡ counted name (map text xs) ++ behind
   pub then : Then behind
+
+-- more lines than so many, or one that isn't ended
+abbrev pub GoesOn : {W : Type 0} → ℕ → List W → List ℕ → Type 0
+GoesOn size lines rest = (size < length lines) ⊎ (¬ (rest ≡ []))
 
 -- Of a text with these lines, and this behind its last newline: the first k lines are those of something of the form, nothing of the form has the first k + 1,
 -- and the text is nothing of the form.

@@ -1,5 +1,5 @@
 -- The sections of a listing.
-use Rattle.std.specs.Prelude.{◌≡◌, ℕ, List, [], ◌∷◌, ◌++◌, codes, map, length, All, IsUtf8}
+use Rattle.std.specs.Prelude.{◌≡◌, ℕ, List, ◌∷◌, codes, map, length, All, IsUtf8}
 use Rattle.fd_language.specs.Term.{Name}
 use Rattle.fd_language.specs.TermTexts.{Quoted, atom_text}
 use Rattle.fd_language.specs.declared.range_node.RangeNode.{RangeNode}
@@ -43,6 +43,10 @@ FromAtoms = Joined IsAtoms FromRanges
 
 abbrev pub first_line : List ℕ
 first_line = codes "clpfd code 1"
+
+-- lines that don't begin with it
+abbrev pub HasNoFirst : List (List ℕ) → Type 0
+HasNoFirst lines = (behind : List (List ℕ)) → ¬ (lines ≡ first_line ∷ behind)
 
 abbrev pub IsListing : List (List ℕ) → Type 0
 IsListing = Headed first_line FromAtoms

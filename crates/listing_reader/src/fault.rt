@@ -1,7 +1,7 @@
 //! Why a text is no listing.
 
-ghost use Rattle.std.specs.Prelude.{◌≡◌};
-ghost use Rattle.listing_reader.specs.declared.fault.SheetFault.TheVariants.{NoMemory};
+ghost use Rattle.std.specs.Prelude.{◌≡◌, None, Some, IfErr, IfOk};
+ghost use Rattle.listing_reader.specs.declared.fault.SheetFault.TheVariants.{BadLine, NoMemory};
 
 use fd_language::NoMemory;
 use std::alloc::{AllocError, AllocFailed};
@@ -40,4 +40,13 @@ impl<T: Drop> From<AllocFailed<T>> for SheetFault {
     fn from(_error: AllocFailed<T>) -> SheetFault {
         SheetFault::NoMemory
     }
+}
+
+/// What was found, if anything was. Else this line is a bad one.
+#[inline]
+pub(crate) fn or_bad_line<T>(found: Option<T>, line: usize) -> Result<T, SheetFault>
+    ensures found { IfOk result (λ x. found ≡ Some x) }
+    ensures fault { IfErr result (λ e. (found ≡ None) × (e ≡ BadLine line)) }
+{
+    found.ok_or(SheetFault::BadLine { line })
 }

@@ -1,16 +1,16 @@
 //! The sheet that a text tells.
 
-ghost use Rattle.std.specs.Prelude.{◌≡◌, ◌↔◌, ◌∷◌, [], ◌+◌, ◌<◌, ◌^◌, ℕ, List, IfErr, IfOk, IsTrue, length, map, MatchResult, string_bytes};
+ghost use Rattle.std.specs.Prelude.{◌≡◌, ◌↔◌, ◌∷◌, [], ◌+◌, ◌<◌, ◌≤◌, ◌^◌, ℕ, List, IfErr, IfOk, IsTrue, length, map, MatchOption, MatchResult, OnOk, string_bytes};
 ghost use Rattle.wam_code.specs.Area.{span_of};
 ghost use Rattle.code_listing.specs.Listing.{Sheet as Seen};
-ghost use Rattle.listing_reader.specs.Lines.{IsLeft};
+ghost use Rattle.listing_reader.specs.Lines.{GoesOn, IsLeft};
 ghost use Rattle.listing_reader.specs.Places.{place_in};
-ghost use Rattle.listing_reader.specs.Sections.{FromAtoms, FromEntries, FromQueries, FromRanges, IsListing, IsPlaces, TellsAtoms, TellsEntries, TellsPlaces, TellsQueries, TellsRanges, first_line};
+ghost use Rattle.listing_reader.specs.Sections.{FromAtoms, FromEntries, FromQueries, FromRanges, HasNoFirst, IsListing, IsPlaces, TellsAtoms, TellsEntries, TellsPlaces, TellsQueries, TellsRanges, first_line};
 ghost use Rattle.listing_reader.specs.Sheets.{sheet_in};
 ghost use Rattle.listing_reader.specs.LineContents.{TellsAll, TellsBehind, TellsListing, sheet_of_all};
 ghost use Rattle.listing_reader.specs.SheetTexts.{IsSheetFault, OneSheet, Tells};
 
-use crate::fault::SheetFault;
+use crate::fault::{SheetFault, or_bad_line};
 use crate::places::{Place, apart};
 use crate::sections::{read_atoms, read_entries, read_places, read_queries, read_ranges};
 use crate::sheet::Sheet;
@@ -19,6 +19,22 @@ use fd_language::RangeNode;
 use std::alloc::Global;
 use term_writer::laws::quoted_is_read;
 use wam_code::{Entry, QueryEntry};
+
+/// Refuses more lines than so many, and a last line that isn't ended. So many lines stand before
+/// them, and this behind the last newline.
+fn check_end(lines: &[&[u8]], size: usize, at: usize, rest: &[u8]) -> Result<(), SheetFault>
+    requires room { at + size + 1 < 2 ^ 64 }
+    ensures ended { OnOk result ((length lines.now ≤ size) × (rest.now ≡ [])) }
+    ensures fault { IfErr result (λ e. GoesOn size lines.now rest.now
+        × (e ≡ SheetFault.BadLine (at + size + 1))) }
+{
+    if size < lines.len() || !rest.is_empty() {
+        return Err(SheetFault::BadLine {
+            line: at + size + 1,
+        });
+    }
+    Ok(())
+}
 
 /// The places, behind which nothing stands. So many lines stand before them, and this behind the
 /// last newline.
@@ -36,11 +52,7 @@ fn from_places(
 {
     let places = read_places(alloc, lines, at)?;
     let size = places.len() + 1;
-    if size < lines.len() || !rest.is_empty() {
-        return Err(SheetFault::BadLine {
-            line: at + size + 1,
-        });
-    }
+    check_end(lines, size, at, rest)?;
     Ok(places)
 }
 
@@ -136,6 +148,21 @@ fn is_first_line(line: &[u8]) -> bool
     line == b"clpfd code 1".as_slice()
 }
 
+/// The lines behind the first of every listing, if the lines begin with it.
+fn behind_first<'l, 't>(lines: &'l [&'t [u8]]) -> Option<&'l [&'t [u8]]>
+    ensures { MatchOption result (HasNoFirst (map (λ w. w.now) lines.now))
+        (λ later. map (λ w. w.now) lines.now ≡ first_line ∷ map (λ w. w.now) later.now) }
+{
+    let [first, later @ ..] = lines else {
+        return None;
+    };
+    if is_first_line(first) {
+        Some(later)
+    } else {
+        None
+    }
+}
+
 /// All that the lines of a listing tell.
 fn from_first(
     alloc: Global,
@@ -148,12 +175,7 @@ fn from_first(
     ensures fault { IfErr result (λ e. IsLeft IsListing
         (map (λ w. w.now) lines.now) rest.now 0 e) }
 {
-    let [first, later @ ..] = lines else {
-        return Err(SheetFault::BadLine { line: 1 });
-    };
-    if !is_first_line(first) {
-        return Err(SheetFault::BadLine { line: 1 });
-    }
+    let later = or_bad_line(behind_first(lines), 1)?;
     let (atoms, behind) = from_atoms(alloc, later, 1, rest)?;
     Ok((atoms, behind))
 }

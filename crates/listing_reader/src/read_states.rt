@@ -4,7 +4,7 @@ ghost use Rattle.std.specs.Prelude.{◌≡◌, ◌∷◌, [], All, IfOk, map, op
 ghost use Rattle.code_listing.specs.Texts.{argument_word, frame_word, registers_word, slot_letter};
 ghost use Rattle.code_listing.specs.States.{slot_of, state_of};
 ghost use Rattle.listing_reader.specs.NumberBounds.{IsNumber, IsSmallState};
-ghost use Rattle.listing_reader.specs.Frames.{IsFrame, IsSlot, IsSlots, letters};
+ghost use Rattle.listing_reader.specs.Frames.{AnyFrame, IsSlot, IsSlots, letters};
 ghost use Rattle.listing_reader.specs.Lists.{state_words};
 ghost use Rattle.listing_reader.specs.Reading.{Reads, ReadsAs};
 
@@ -69,7 +69,7 @@ fn read_slots(alloc: Global, word: &[u8]) -> Result<Option<Vec<Slot>>, NoMemory>
 
 /// The frame that a word writes.
 fn read_frame(alloc: Global, word: &[u8]) -> Result<Option<Option<Vec<Slot>>>, NoMemory>
-    ensures { IfOk result (λ r. ReadsAs (option_map (λ v. map slot_of v.items)) IsFrame
+    ensures { IfOk result (λ r. ReadsAs (option_map (λ v. map slot_of v.items)) AnyFrame
         frame_word word.now r) }
 {
     if word.is_empty() {

@@ -1,6 +1,6 @@
 //! The sections of a listing, line by line.
 
-ghost use Rattle.std.specs.Prelude.{◌≡◌, ◌∷◌, ◌+◌, ◌<◌, ◌^◌, ℕ, List, All, codes, false, IfErr, IfOk, IsUtf8, length, map, MatchOption, string_bytes};
+ghost use Rattle.std.specs.Prelude.{◌≡◌, [], ◌∷◌, ◌+◌, ◌<◌, ◌^◌, ℕ, List, All, codes, false, IfErr, IfOk, IsUtf8, length, map, MatchOption, string_bytes};
 ghost use Rattle.fd_language.specs.TermTexts.{Quoted, atom_text};
 ghost use Rattle.wam_code.specs.Area.{span_of};
 ghost use Rattle.code_listing.specs.Texts.{entry_text, nodes_text, span_text};
@@ -11,7 +11,7 @@ ghost use Rattle.listing_reader.specs.Places.{place_in};
 ghost use Rattle.listing_reader.specs.Reading.{Reads, has_byte};
 ghost use Rattle.listing_reader.specs.Sections.{IsAtoms, IsEntries, IsPlaces, IsQueries, IsRanges};
 
-use crate::fault::SheetFault;
+use crate::fault::{SheetFault, or_bad_line};
 use crate::places::Place;
 use crate::read_lines::{read_atom, read_entry, read_place, read_query, read_range};
 use crate::read_words::read_number;
@@ -52,6 +52,18 @@ fn announced<'l, 't>(lines: &'l [&'t [u8]], name: &[u8]) -> Option<(usize, &'l [
     Some((count, behind))
 }
 
+/// The first of the lines, and those behind it.
+#[inline]
+fn next_line<'l, 't>(lines: &'l [&'t [u8]]) -> Option<(&'t [u8], &'l [&'t [u8]])>
+    ensures { MatchOption result (map (λ w. w.now) lines.now ≡ [])
+        (λ x. map (λ w. w.now) lines.now ≡ x.0.now ∷ map (λ w. w.now) x.1.now) }
+{
+    let [first, behind @ ..] = lines else {
+        return None;
+    };
+    Some((*first, behind))
+}
+
 /// The section of atoms. So many lines stand before it.
 pub(crate) fn read_atoms(
     alloc: Global,
@@ -63,22 +75,13 @@ pub(crate) fn read_atoms(
         (map (λ w. w.now) lines.now) (map string_bytes v.items)) }
     ensures fault { IfErr result (λ e. IsStop IsAtoms (map (λ w. w.now) lines.now) at e) }
 {
-    let Some((count, behind)) = announced(lines, b"atoms") else {
-        return Err(SheetFault::BadLine { line: at + 1 });
-    };
+    let (count, behind) = or_bad_line(announced(lines, b"atoms"), at + 1)?;
     let mut names = Vec::new(alloc);
     let mut rest = behind;
     for index in 0..count {
-        let [line, later @ ..] = rest else {
-            return Err(SheetFault::BadLine {
-                line: at + index + 2,
-            });
-        };
-        let Some(name) = read_atom(alloc, line)? else {
-            return Err(SheetFault::BadLine {
-                line: at + index + 2,
-            });
-        };
+        let number = at + index + 2;
+        let (line, later) = or_bad_line(next_line(rest), number)?;
+        let name = or_bad_line(read_atom(alloc, line)?, number)?;
         names.push(name)?;
         rest = later;
     }
@@ -96,22 +99,13 @@ pub(crate) fn read_ranges(
         (map (λ w. w.now) lines.now) (map (λ r. r.items) v.items)) }
     ensures fault { IfErr result (λ e. IsStop IsRanges (map (λ w. w.now) lines.now) at e) }
 {
-    let Some((count, behind)) = announced(lines, b"ranges") else {
-        return Err(SheetFault::BadLine { line: at + 1 });
-    };
+    let (count, behind) = or_bad_line(announced(lines, b"ranges"), at + 1)?;
     let mut ranges = Vec::new(alloc);
     let mut rest = behind;
     for index in 0..count {
-        let [line, later @ ..] = rest else {
-            return Err(SheetFault::BadLine {
-                line: at + index + 2,
-            });
-        };
-        let Some(nodes) = read_range(alloc, line)? else {
-            return Err(SheetFault::BadLine {
-                line: at + index + 2,
-            });
-        };
+        let number = at + index + 2;
+        let (line, later) = or_bad_line(next_line(rest), number)?;
+        let nodes = or_bad_line(read_range(alloc, line)?, number)?;
         ranges.push(nodes)?;
         rest = later;
     }
@@ -129,22 +123,13 @@ pub(crate) fn read_entries(
         (map (λ w. w.now) lines.now) v.items) }
     ensures fault { IfErr result (λ e. IsStop IsEntries (map (λ w. w.now) lines.now) at e) }
 {
-    let Some((count, behind)) = announced(lines, b"entries") else {
-        return Err(SheetFault::BadLine { line: at + 1 });
-    };
+    let (count, behind) = or_bad_line(announced(lines, b"entries"), at + 1)?;
     let mut entries = Vec::new(alloc);
     let mut rest = behind;
     for index in 0..count {
-        let [line, later @ ..] = rest else {
-            return Err(SheetFault::BadLine {
-                line: at + index + 2,
-            });
-        };
-        let Some(entry) = read_entry(alloc, line)? else {
-            return Err(SheetFault::BadLine {
-                line: at + index + 2,
-            });
-        };
+        let number = at + index + 2;
+        let (line, later) = or_bad_line(next_line(rest), number)?;
+        let entry = or_bad_line(read_entry(alloc, line)?, number)?;
         entries.push(entry)?;
         rest = later;
     }
@@ -162,22 +147,13 @@ pub(crate) fn read_queries(
         (map (λ w. w.now) lines.now) (map span_of v.items)) }
     ensures fault { IfErr result (λ e. IsStop IsQueries (map (λ w. w.now) lines.now) at e) }
 {
-    let Some((count, behind)) = announced(lines, b"queries") else {
-        return Err(SheetFault::BadLine { line: at + 1 });
-    };
+    let (count, behind) = or_bad_line(announced(lines, b"queries"), at + 1)?;
     let mut queries = Vec::new(alloc);
     let mut rest = behind;
     for index in 0..count {
-        let [line, later @ ..] = rest else {
-            return Err(SheetFault::BadLine {
-                line: at + index + 2,
-            });
-        };
-        let Some(query) = read_query(alloc, line)? else {
-            return Err(SheetFault::BadLine {
-                line: at + index + 2,
-            });
-        };
+        let number = at + index + 2;
+        let (line, later) = or_bad_line(next_line(rest), number)?;
+        let query = or_bad_line(read_query(alloc, line)?, number)?;
         queries.push(query)?;
         rest = later;
     }
@@ -195,22 +171,13 @@ pub(crate) fn read_places(
         (map (λ w. w.now) lines.now) (map place_in v.items)) }
     ensures fault { IfErr result (λ e. IsStop IsPlaces (map (λ w. w.now) lines.now) at e) }
 {
-    let Some((count, behind)) = announced(lines, b"code") else {
-        return Err(SheetFault::BadLine { line: at + 1 });
-    };
+    let (count, behind) = or_bad_line(announced(lines, b"code"), at + 1)?;
     let mut places = Vec::new(alloc);
     let mut rest = behind;
     for index in 0..count {
-        let [line, later @ ..] = rest else {
-            return Err(SheetFault::BadLine {
-                line: at + index + 2,
-            });
-        };
-        let Some(place) = read_place(alloc, line)? else {
-            return Err(SheetFault::BadLine {
-                line: at + index + 2,
-            });
-        };
+        let number = at + index + 2;
+        let (line, later) = or_bad_line(next_line(rest), number)?;
+        let place = or_bad_line(read_place(alloc, line)?, number)?;
         places.push(place)?;
         rest = later;
     }

@@ -278,7 +278,7 @@ fn verified_code_of_no_program(rt: HostRuntime) -> Result<(), Fail> {
     let code = unmeant_code(alloc)?;
     assert_eq!(rt; code.queries(), 1);
     assert_eq!(rt; code.pool().atoms(), 3);
-    assert!(rt; code.parts().code.len() > 3 && matches!(code.code_at(3), Code::AnswerNow));
+    assert!(rt; code.parts().code.len() > 3 && matches!(*code.code_at(3), Code::AnswerNow));
     let lines = run_code(alloc, code, limits, Fifo::new(alloc), 2, 1)?;
     same(&rt, lines.as_str(), "answer 0; end; end; 0", "the code");
     Ok(())

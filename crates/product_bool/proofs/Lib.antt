@@ -4,3 +4,4 @@ mod Factors
 mod Gates
 mod TellingSums
 mod ReifiedParts
+pub mod Lemmas

@@ -1,5 +1,5 @@
 -- How a fault is seen.
-use Rattle.std.specs.Prelude.{◌≡◌, Option, Some, None, MatchOption, Result, Err}
+use Rattle.std.specs.Prelude.{◌≡◌, Option, Some, None, MatchOption, MatchResult, Result, Err}
 use Rattle.fd_model.specs.declared.kinds.QueryFault.{QueryFault}
 use Rattle.fd_model.specs.declared.kinds.QueryFault.TheVariants.{Instantiation, BadType}
 use Rattle.fd_model.specs.declared.kinds.ListCause.{ListCause}
@@ -30,3 +30,7 @@ outer linear.Nonlinear = fault.Linear linear.Nonlinear
 outer linear.NotANumber = fault.Linear linear.NotANumber
 outer linear.Overflow = fault.Linear linear.Overflow
 outer linear.NoMemory = fault.NoMemory
+
+-- what there is, or an overflow where there is nothing
+abbrev pub IsOrOverflow : {A : Type 0} → Option A → Result A SplitFault → Type 0
+IsOrOverflow found r = MatchResult r (λ value. found ≡ Some value) (λ f. (f ≡ fault.Linear linear.Overflow) × (found ≡ None))

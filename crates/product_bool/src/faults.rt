@@ -2,7 +2,7 @@
 
 ghost use Rattle.std.specs.Prelude.{◌≡◌};
 ghost use Rattle.product_bool.specs.declared.faults.SplitFault.TheVariants.{BadArgument, NoMemory};
-ghost use Rattle.product_bool.specs.Faults.{outer};
+ghost use Rattle.product_bool.specs.Faults.{outer, IsOrOverflow};
 
 use fd_language::NoMemory;
 use fd_model::kinds::ListCause;
@@ -66,5 +66,16 @@ impl From<LinearFault> for SplitFault {
             LinearFault::NotANumber => SplitFault::Linear(LinearFault::NotANumber),
             LinearFault::Overflow => SplitFault::Linear(LinearFault::Overflow),
         }
+    }
+}
+
+/// What there is, or an overflow where there is nothing. No memory.
+#[inline]
+pub(crate) fn or_overflow<T>(found: Option<T>) -> Result<T, SplitFault>
+    ensures { IsOrOverflow found result }
+{
+    match found {
+        Some(value) => Ok(value),
+        None => Err(SplitFault::Linear(LinearFault::Overflow)),
     }
 }

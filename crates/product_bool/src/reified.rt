@@ -13,14 +13,14 @@ ghost use Rattle.product_bool.specs.Sums.{IsNormal};
 ghost use Rattle.product_bool.specs.Views.{Gives};
 
 use crate::booleans::{post_and, post_not};
-use crate::faults::SplitFault;
+use crate::faults::{SplitFault, or_overflow};
 use crate::members::{Placed, read_member};
 use crate::parts::Split;
 use crate::posts::post_bit;
 use crate::sums::{reach, tell};
 use fd_language::NoMemory;
 use fd_model::kinds::{ListCause, Relation};
-use linear_forms::{Linear, LinearFault, collect, normal_form, turn};
+use linear_forms::{Linear, collect, normal_form, turn};
 use monotone_check::Checked;
 use std::alloc::Global;
 use term_pool::{Node, Pool, TermId};
@@ -196,10 +196,7 @@ fn told_form(
     ensures { Gives (told_parts (comparison relation) told placed
         (pos (reach_of INFINITY (form_of linear.now))) (form_of linear.now)) result }
 {
-    let far = match reach(linear) {
-        Some(far) => far,
-        None => return Err(SplitFault::Linear(LinearFault::Overflow)),
-    };
+    let far = or_overflow(reach(linear))?;
     match relation {
         Relation::Equal => told_equal(alloc, told, placed, far, linear),
         Relation::Differ => told_other(alloc, told, placed, far, linear),

@@ -10,9 +10,9 @@ ghost use Rattle.linear_forms.specs.Shares.{IsWithin};
 ghost use Rattle.product_bool.specs.Reified.{IsFar};
 ghost use Rattle.product_bool.specs.Sums.{IsNormal, FindsProduct, Exceeds, Adds, Tells};
 
-use crate::faults::SplitFault;
+use crate::faults::{SplitFault, or_overflow};
 use fd_language::{INFINITY, NoMemory};
-use linear_forms::{Linear, LinearFault, negated, product, sum};
+use linear_forms::{Linear, negated, product, sum};
 use std::alloc::Global;
 
 /// The magnitude of an integer.
@@ -111,18 +111,9 @@ pub(crate) fn tell(
     requires far { IsFar far (form_of linear.now) }
     ensures { Tells teller far (form_of linear.now) sums.old.items sums.new.items result }
 {
-    let terms = match with_product(alloc, &linear.terms, teller, far)? {
-        Some(terms) => terms,
-        None => return Err(SplitFault::Linear(LinearFault::Overflow)),
-    };
-    let most = match sum(linear.constant, far) {
-        Some(most) => most,
-        None => return Err(SplitFault::Linear(LinearFault::Overflow)),
-    };
-    let least = match sum(-linear.constant, -1) {
-        Some(least) => least,
-        None => return Err(SplitFault::Linear(LinearFault::Overflow)),
-    };
+    let terms = or_overflow(with_product(alloc, &linear.terms, teller, far)?)?;
+    let most = or_overflow(sum(linear.constant, far))?;
+    let least = or_overflow(sum(-linear.constant, -1))?;
     let turned = negated(alloc, &terms)?;
     sums.push(Linear {
         terms,

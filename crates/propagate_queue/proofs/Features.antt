@@ -17,7 +17,7 @@ use Rattle.fd_language.specs.RangeVerdict.{is_accepted}
 use Rattle.fd_language.specs.Range.{Range, Role, leaf, a_parameter, a_min, a_max, a_val, a_dom}
 use Rattle.range_code.specs.declared.frame.Arg.{Arg}
 use Rattle.range_code.specs.Slots.{slot_of, in_slots, slot_features}
-use Rattle.range_code.specs.Frames.{IsFrame, slot_variable, slot_integer, posted}
+use Rattle.range_code.specs.Frames.{IsArgumentFrame, slot_variable, slot_integer, posted}
 use Rattle.range_code.specs.Nodes.{IsSeen}
 use Rattle.range_code.proofs.Lemmas.{all_readable, one_use, posted_monotone, features_seen, all_once}
 use Rattle.fd_language.proofs.Lemmas.{same_feature, whole_nodes, renamed_leaves, filled_leaves, same_leaves, collected_by}
@@ -83,13 +83,13 @@ read_alike r args ds c x e =
     ∙ sym (ap (list_any q) (range_named (λ y. slot_integer args (slot_of r y)) (λ y. slot_variable args (slot_of r y)) r))
 
 -- each slot that is read has a variable
-pub slots_seen : (count : ℕ) (r : Range) (args : List Arg) → is_accepted INFINITY r ≡ true → IsFrame count r args → All (λ d. IsSeen count args d.0) (slot_features r)
+pub slots_seen : (count : ℕ) (r : Range) (args : List Arg) → is_accepted INFINITY r ≡ true → IsArgumentFrame count r args → All (λ d. IsSeen count args d.0) (slot_features r)
 slots_seen count r args h frame = all_once (λ d. IsSeen count args d.0) (range_features (in_slots r))
     (subst (λ (l : List Pair). All (λ d. IsSeen count args d.0) l) (whole_nodes feature_at (in_slots r))
     (features_seen count args (nodes_of (in_slots r)) (all_readable count r args frame (one_use r h))))
 
 pub slot_read : (count : ℕ) (r q : Range) (args : List Arg) (fs : List Pair) (i : ℕ) (d : Pair) → q ≡ r → is_accepted INFINITY q ≡ true → fs ≡ slot_features q
-    → IsFrame count r args → i < length fs → IsSeen count args (get_or fs i d).0
+    → IsArgumentFrame count r args → i < length fs → IsSeen count args (get_or fs i d).0
 slot_read count r q args fs i d e h f frame l = subst (λ (z : List Pair). All (λ b. IsSeen count args b.0) z) (sym (f ∙ ap slot_features e))
     (slots_seen count r args (sym (ap (is_accepted INFINITY) e) ∙ h) frame) i d l
 
@@ -102,7 +102,7 @@ one_more_read args fs i v old new d l e f g h =
     ∙ sym (ap (map (named (slot_variable args))) (take_more fs i (0, feature.Min) l) ∙ map-append (named (slot_variable args)) (take i fs) (get_or fs i (0, feature.Min) ∷ []))
 
 pub all_read : (count : ℕ) (r q : Range) (args : List Arg) (fs ds : List Pair) → q ≡ r → is_accepted INFINITY q ≡ true → fs ≡ slot_features q
-    → IsFrame count r args → ds ≡ map (named (slot_variable args)) fs → All (λ d. d.0 < count) ds
+    → IsArgumentFrame count r args → ds ≡ map (named (slot_variable args)) fs → All (λ d. d.0 < count) ds
 all_read count r q args fs ds e h f frame g = subst (λ (z : List Pair). All (λ d. d.0 < count) z) (sym g)
     (All-map (λ d. d.0 < count) (named (slot_variable args)) fs (λ k d l. (slot_read count r q args fs k d e h f frame l).1))
 
@@ -110,5 +110,5 @@ pub read_same : (r q : Range) (args : List Arg) (fs ds : List Pair) → q ≡ r 
     → (x : ℕ) (c : Change) → is_woken c x ds ≡ is_woken c x (range_features (posted r args))
 read_same r q args fs ds e f g x c = read_alike r args ds c x (g ∙ ap (map (named (slot_variable args))) (f ∙ ap slot_features e))
 
-pub monotone : (count : ℕ) (r q : Range) (args : List Arg) → q ≡ r → is_accepted INFINITY q ≡ true → IsFrame count r args → IsMonotone INFINITY (posted r args)
+pub monotone : (count : ℕ) (r q : Range) (args : List Arg) → q ≡ r → is_accepted INFINITY q ≡ true → IsArgumentFrame count r args → IsMonotone INFINITY (posted r args)
 monotone count r q args e h frame = posted_monotone count r args (sym (ap (is_accepted INFINITY) e) ∙ h) frame

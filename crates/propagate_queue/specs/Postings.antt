@@ -7,7 +7,7 @@ use Rattle.fd_language.specs.Features.{range_features}
 use Rattle.fd_model.specs.Levels.{range_coded}
 use Rattle.range_code.specs.declared.frame.Arg.{Arg}
 use Rattle.range_code.specs.contracts.frame.Arg as arg
-use Rattle.range_code.specs.Frames.{IsFrame, posted}
+use Rattle.range_code.specs.Frames.{IsArgumentFrame, posted}
 use Rattle.dependency_chains.specs.declared.Change.{Change}
 use Rattle.dependency_chains.specs.AgentReads.{AgentRead}
 use Rattle.dependency_chains.specs.WokenAgents.{wakes, is_woken}
@@ -44,7 +44,7 @@ pub record IsAdded (more old new : List Posting) : Type 0 where
 
 -- its variables are among the first so many, and its integers meet their needs
 abbrev pub IsPosting : ℕ → Posting → Type 0
-IsPosting count p = (p.target < count) × IsFrame count p.range p.args
+IsPosting count p = (p.target < count) × IsArgumentFrame count p.range p.args
 
 -- the agents that a change of x wakes are those that read what changed
 pub record AreReaders (ps : List Indexical) (reads : List AgentRead) : Type 0 where

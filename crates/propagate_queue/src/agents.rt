@@ -6,7 +6,7 @@ ghost use Rattle.fd_language.specs.Family.{IsFamily};
 ghost use Rattle.fd_language.specs.PostfixRanges.{nodes_of};
 ghost use Rattle.fd_language.specs.Range.{set_of, is_none_left};
 ghost use Rattle.domain_ranges.specs.Narrowing.{IsNarrowed};
-ghost use Rattle.range_code.specs.Frames.{family_of, IsFrame};
+ghost use Rattle.range_code.specs.Frames.{family_of, IsArgumentFrame};
 ghost use Rattle.range_code.specs.SetReaches.{IsReach};
 ghost use Rattle.propagate_queue.specs.Instances.{posting_of};
 ghost use Rattle.propagate_queue.specs.Postings.{Posting, ranged, posting_at};
@@ -96,7 +96,7 @@ impl Agents {
     #[inline(always)]
     pub fn find_reach<V: View>(&self, number: usize, view: &V) -> Reach
         requires number { number < length self.now }
-        requires frame { IsFrame (length (V.sets view.now))
+        requires frame { IsArgumentFrame (length (V.sets view.now))
             (posting_at self.now number).range (posting_at self.now number).args }
         requires some { (k : ℕ) → is_none_left (family_of (V.sets view.now) k) ≡ false }
         ensures { IsReach
@@ -122,7 +122,7 @@ impl Agents {
         n: &mut Activations,
     ) -> Result<Narrowed, NoMemory>
         requires number { number < length self.old }
-        requires frame { IsFrame (length (V.sets view.now))
+        requires frame { IsArgumentFrame (length (V.sets view.now))
             (posting_at self.old number).range (posting_at self.old number).args }
         requires some { (k : ℕ) → is_none_left (family_of (V.sets view.now) k) ≡ false }
         requires family { IsFamily TOP (family_of (V.sets view.now)) }

@@ -5,7 +5,7 @@ ghost use Rattle.fd_language.specs.declared.TheConstants.{INFINITY as TOP};
 ghost use Rattle.fd_language.specs.Features.{range_features};
 ghost use Rattle.fd_language.specs.Monotonicity.{IsMonotone};
 ghost use Rattle.fd_model.specs.ClosedFamilies.{AllPosted};
-ghost use Rattle.range_code.specs.Frames.{variable_of, slot_variable, posted, IsFrame};
+ghost use Rattle.range_code.specs.Frames.{variable_of, slot_variable, posted, IsArgumentFrame};
 ghost use Rattle.dependency_chains.specs.declared.Change.{Change as Told};
 ghost use Rattle.dependency_chains.specs.WokenAgents.{is_woken};
 ghost use Rattle.propagate_queue.specs.Instances.{posting, posting_of, IsInstance};
@@ -45,7 +45,7 @@ fn read_features(
     vars: usize,
     into: &mut Vec<(usize, Feature)>,
 ) -> Result<(), NoMemory>
-    requires { IsFrame vars code.now.value args.now }
+    requires { IsArgumentFrame vars code.now.value args.now }
     ensures same { OnOk result ((x : ℕ) (c : Told) → is_woken c x into.new.items ≡ is_woken c x
         (range_features (posted code.now.value args.now))) }
     ensures vars { OnOk result (All (λ d. d.0 < vars) into.new.items) }

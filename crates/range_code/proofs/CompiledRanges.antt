@@ -35,13 +35,13 @@ use Rattle.fd_language.specs.Needs.{meets, meets_needs}
 use Rattle.range_code.proofs.Fits.{divides, fits}
 use Rattle.range_code.proofs.PostedRanges.{fits_table}
 use Rattle.range_code.proofs.FoldedRanges.{pieces_are}
-use Rattle.range_code.specs.Forms.{IsForm, IsShifted}
+use Rattle.range_code.specs.Forms.{IsEvaluation, IsShifted}
 use Rattle.range_code.specs.declared.form.Evaluation.{Evaluation}
 use Rattle.range_code.specs.declared.compile.ReadKind.{ReadKind}
 use Rattle.range_code.specs.declared.evaluate.Steps.{Steps}
 use Rattle.range_code.specs.SlotNumbering.{IsNumbered}
 use Rattle.range_code.specs.declared.compile.Numbered.{Numbered}
-use Rattle.range_code.proofs.Variables.{node_variables_of, names_of, one_more}
+use Rattle.range_code.proofs.Variables.{node_variables_of, renamed_nodes, one_more}
 use Rattle.range_code.proofs.SlotNeeds.{need_more, needs_found}
 use Rattle.std.specs.Option.{option_to_list}
 
@@ -131,7 +131,7 @@ shaped q ns slots keys asked ms by_slot nodes slotted keyed named d needed =
     let all : once (node_variables ns) ≡ slots_of q = ap once (ap node_variables nodes ∙ node_variables_of q) in (
       slotted ∙ all,
       needed ∙ (ap (λ l. map (need_in l) slots) d ∙ (ap (map (need_in (needs q))) (slotted ∙ all) ∙ needs_found q)),
-      named ∙ (ap (λ l. map (rename_node (λ y. position_or_len (nat_eq y) l)) ns) (keyed ∙ all) ∙ (ap (map (rename_node (slot_of q))) nodes ∙ names_of (slot_of q) q)),
+      named ∙ (ap (λ l. map (rename_node (λ y. position_or_len (nat_eq y) l)) ns) (keyed ∙ all) ∙ (ap (map (rename_node (slot_of q))) nodes ∙ renamed_nodes (slot_of q) q)),
     )
 
 -- what is gathered of a range in slots
@@ -152,7 +152,7 @@ none_there (y ∷ ys) n e h = absurd (let k : n ≡ 0 = eqb-true n 0 h in let z 
 pub compiled : (r q : Range) (slots : List ℕ) (ms : List RangeNode) (fs : List (ℕ × Feature)) (kinds : List (ℕ × ReadKind)) (ys : List ℕ)
     (by_slot : List (Option Need)) (pieces : List Piece) (steps : Steps) (form : Evaluation) (high : ℕ) →
     IsTrue (is_accepted INFINITY r) → q ≡ r → Gathers r slots ms fs kinds ys by_slot →
-    reverse pieces ≡ fold taken [] ms → AreStepsOf by_slot ys (literals pieces) (map piece_node pieces) steps → ((x : Range) → ms ≡ nodes_of x → IsForm x form)
+    reverse pieces ≡ fold taken [] ms → AreStepsOf by_slot ys (literals pieces) (map piece_node pieces) steps → ((x : Range) → ms ≡ nodes_of x → IsEvaluation x form)
     → (IsShifted form → ys ≡ []) → high ≡ tallest (map piece_node pieces) →
     IsCompiled q slots by_slot fs kinds ys ms steps form high
 compiled r q slots ms fs kinds ys by_slot pieces steps form high accepted e g ps st fm sh hi =

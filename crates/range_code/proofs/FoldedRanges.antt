@@ -33,7 +33,7 @@ use Rattle.range_code.specs.declared.form.Evaluation.{Evaluation}
 use Rattle.range_code.specs.declared.form.Shift.{Shift}
 use Rattle.range_code.specs.declared.form.Evaluation.TheVariants.{Nodes, Differs, Above, Below, Between, Row, Without, Except, Chosen}
 use Rattle.range_code.specs.declared.form.Bound.{Bound}
-use Rattle.range_code.specs.Forms.{IsShiftUsable, IsUsable, IsInterval, IsForm}
+use Rattle.range_code.specs.Forms.{IsShiftUsable, IsUsable, IsInterval, IsEvaluation}
 use Rattle.range_code.proofs.Tables.{one_is, union_is, inter_is, outside_is, plus_is, minus_is, times_is, over_is}
 
 -- the last piece of a list is the first one of the list turned round
@@ -286,7 +286,7 @@ interval_folded r a b h = record { set = λ S p. set_folded S p r ∙ h.set S p;
 shift_folded : (r : Range) (s : Shift) → IsShiftUsable r s → IsShiftUsable (folded_range r) s
 shift_folded r s u = record { width = u.width; seen = λ count args h. u.seen count args (readable_unfolded count args r h) }
 
-pub form_folded : (r : Range) (f : Evaluation) → IsForm r f → IsForm (folded_range r) f
+pub form_folded : (r : Range) (f : Evaluation) → IsEvaluation r f → IsEvaluation (folded_range r) f
 form_folded r Nodes h = tt
 form_folded r (Differs slot) h = ap folded_range h
 form_folded r (Above s z) h = record { set = λ S p. set_folded S p r ∙ h.set S p; usable = shift_folded r s h.usable }

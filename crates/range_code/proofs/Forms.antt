@@ -38,7 +38,7 @@ use Rattle.range_code.specs.declared.form.Addend.{Addend}
 use Rattle.range_code.specs.Nodes.{IsReadable, IsSeen}
 use Rattle.range_code.specs.Work.{filled_value, filled_set}
 use Rattle.range_code.specs.Steps.{outside}
-use Rattle.range_code.specs.Forms.{IsForm, end_of, width_of, sum_of, total_of, divided, bound_value, product_value, leaf_amount, amount, AreNarrow, AreSeen}
+use Rattle.range_code.specs.Forms.{IsEvaluation, end_of, width_of, sum_of, total_of, divided, bound_value, product_value, leaf_amount, amount, AreNarrow, AreSeen}
 use Rattle.range_code.specs.Forms.{IsLeafSeen, IsPositive, IsUsable, IsInterval, IsComplement, IsException, IsAbove, IsBelow, IsShiftOf, IsShiftUsable}
 use Rattle.range_code.specs.Forms.{all_but_val, IsLeaf, IsSigned, IsDivision, IsPart, IsAdded, IsBound, other_end, IsOpposite, AreOpposite}
 use Rattle.range_code.proofs.Tables.{outside_is, one_is}
@@ -379,8 +379,8 @@ greatest_limit M [] n r e = omega (arith, e)
 greatest_limit M (x ∷ xs) n r e = has_high 0 M (x ∷ xs) n r (ap (has (x ∷ xs)) e ∙ greatest_in (x ∷ xs) refl)
 
 -- the nodes of a range spell it
-pub form_spells : (nodes : List RangeNode) (r : Range) (form : Evaluation) → nodes ≡ nodes_of r → IsForm r form → IsForm (spelled_range nodes) form
-form_spells nodes r form e = subst (λ x. IsForm x form) (sym (ap spelled_range e ∙ spelled_range-nodes r))
+pub form_spells : (nodes : List RangeNode) (r : Range) (form : Evaluation) → nodes ≡ nodes_of r → IsEvaluation r form → IsEvaluation (spelled_range nodes) form
+form_spells nodes r form e = subst (λ x. IsEvaluation x form) (sym (ap spelled_range e ∙ spelled_range-nodes r))
 
 pub spells_itself : (nodes : List RangeNode) → IsSpelled nodes → nodes ≡ nodes_of (spelled_range nodes)
 spells_itself nodes (r, e) = sym e ∙ ap nodes_of (sym (spelled_range-nodes r) ∙ ap spelled_range e)

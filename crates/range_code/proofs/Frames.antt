@@ -23,9 +23,9 @@ use Rattle.fd_language.proofs.Lemmas.{has_once, in_left, in_right, in_flat, rang
 use Rattle.range_code.specs.declared.frame.Arg.{Arg}
 use Rattle.range_code.specs.declared.frame.Arg.TheVariants.{Var, Int}
 use Rattle.range_code.specs.Slots.{slots_of, slot_of, need_at, in_slots}
-use Rattle.range_code.specs.Frames.{IsArg, AreArgs, IsFrame, variable_of, arg_at}
+use Rattle.range_code.specs.Frames.{IsArg, AreArgs, IsArgumentFrame, variable_of, arg_at}
 use Rattle.range_code.specs.Nodes.{IsSeen, IsReadable, rename_node}
-use Rattle.range_code.proofs.Variables.{names_of}
+use Rattle.range_code.proofs.Variables.{renamed_nodes}
 
 abbrev pub of_occurrences : List Occurrence → List ℕ
 of_occurrences ps = map (λ q. q.variable) ps
@@ -84,7 +84,7 @@ module _ (count : ℕ) (args : List Arg) (f : ℕ → ℕ) where
   range_readable : (r : Range) → ((y : ℕ) → has (reads r) y ≡ true → IsSeen count args (f y)) → ((x : ℕ) → has (params r) x ≡ true → f x < length args)
       → All (IsReadable count args) (nodes_of (rename_range f r))
   range_readable r s t =
-      subst (All (IsReadable count args)) (names_of f r)
+      subst (All (IsReadable count args)) (renamed_nodes f r)
       (All-map (IsReadable count args) (rename_node f) (nodes_of r)
       (all_nodes (λ n. IsReadable count args (rename_node f n)) Finds operator_readable leaf_readable r
       (each_finds (leaves r) (λ y e. s y (subst (λ l. has l y ≡ true) (sym (range_leaves read_at r)) e)) (λ x e. t x (subst (λ l. has l x ≡ true) (sym (range_leaves param_at r)) e)))))
@@ -133,7 +133,7 @@ no_parameter (x ∷ xs) ys y h g = or_from (x == y) (has xs y) (apart (cases_Boo
   apart (inl e) = absurd (flip (has ys x) (first_so (not (has ys x)) (list_all (λ z. not (has ys z)) xs) h) (subst (λ z. has ys z ≡ true) (sym (eqb-true x y e)) g))
   apart (inr e) = e
 
-module _ (count : ℕ) (r : Range) (args : List Arg) (fit : IsFrame count r args) (one : has_one_use r ≡ true) where
+module _ (count : ℕ) (r : Range) (args : List Arg) (fit : IsArgumentFrame count r args) (one : has_one_use r ≡ true) where
   pub slotted : (y : ℕ) → has (of_occurrences (range_occurrences r)) y ≡ true → HasArg count (need_at r) (slots_of r) args y
   slotted y h = has_arg count (need_at r) (slots_of r) args y fit (has_once (of_occurrences (range_occurrences r)) y ∙ h)
 

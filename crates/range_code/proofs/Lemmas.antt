@@ -11,3 +11,5 @@ pub use Rattle.range_code.proofs.PostedRanges.{one_use, posted_below, posted_mon
 pub use Rattle.range_code.proofs.Standings.{all_once, features_seen, reads_filled, universe_some}
 -- How the members of a target that are chosen are gathered.
 pub use Rattle.range_code.proofs.ChosenMembers.{keeps_none}
+-- The variables of nodes, and the nodes of a range with other variables.
+pub use Rattle.range_code.proofs.Variables.{node_variables_of, one_more, renamed_nodes}

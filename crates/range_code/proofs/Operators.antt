@@ -1,11 +1,7 @@
 -- The operators of terms by their instructions.
-use Rattle.std.proofs.Common.{arith, ◌≡◌, ◌∙◌, ap, ℕ, ℤ, pos, negsuc, suc, zero, neg_ℤ, ◌-ℤ◌, ◌≤ℤ◌, refl, SFits, of_z}
+use Rattle.std.proofs.Common.{arith, ◌≡◌, ◌∙◌, ℤ, pos, negsuc, ◌-ℤ◌, ◌≤ℤ◌, refl, SFits}
 use Rattle.std.proofs.Math.IntN.{+ℤ_idl}
-use Rattle.std.proofs.lemmas.Int.{ints}
 use mir.Syntax.{w128}
-use Rattle.std.specs.Int.{int_div_euclid}
-use Rattle.fd_language.specs.declared.TheConstants.{INFINITY}
-use Rattle.fd_language.specs.Range.{div_up, down_by}
 use Rattle.range_code.specs.declared.instr.RangeInstr.{RangeInstr}
 use Rattle.range_code.specs.declared.instr.RangeInstr.TheVariants as instr
 use Rattle.range_code.specs.Instructions.{operator_of}
@@ -14,15 +10,6 @@ use Rattle.range_code.specs.Work.{IsLimited, operated}
 pub fits_limited : (z : ℤ) → IsLimited z → SFits w128 z
 fits_limited (pos n) h = record { sfits = omega (arith, h) }
 fits_limited (negsuc n) h = record { sfits = omega (arith, h) }
-
-down_is : (z : ℤ) (n : ℕ) → int_div_euclid z (pos (suc n)) ≡ down_by z n
-down_is (pos a) n = refl
-down_is (negsuc a) n = refl
-
-pub up_is : (a b : ℤ) → pos 1 ≤ℤ b → pos 0 -ℤ int_div_euclid (pos 0 -ℤ a) b ≡ div_up INFINITY a b
-up_is a (pos (suc n)) h = +ℤ_idl (neg_ℤ (int_div_euclid (pos 0 -ℤ a) (pos (suc n)))) ∙ ap neg_ℤ (ap (λ z. int_div_euclid z (pos (suc n))) (+ℤ_idl (neg_ℤ a)) ∙ down_is (neg_ℤ a) n)
-up_is a (pos zero) h = absurd (omega (arith, ints, h))
-up_is a (negsuc n) h = absurd (omega (arith, ints, h))
 
 -- what an instruction gives that is no operator of terms
 pub none_operated : (i : RangeInstr) (a b : ℤ) → (i ≡ instr.Add → ⊥) → (i ≡ instr.Sub → ⊥) → (i ≡ instr.Mul → ⊥) → (i ≡ instr.DivDown → ⊥)
@@ -33,8 +20,3 @@ none_operated instr.Mul a b add sub mul down up = absurd (mul refl)
 none_operated instr.DivDown a b add sub mul down up = absurd (down refl)
 none_operated instr.DivUp a b add sub mul down up = absurd (up refl)
 none_operated i a b add sub mul down up = refl
-
-pub above_zero : (b : ℤ) → pos 0 ≤ℤ b → (of_z w128 b ≡ 0 → ⊥) → pos 1 ≤ℤ b
-above_zero (pos zero) h e = absurd (e refl)
-above_zero (pos (suc n)) h e = omega (arith, ints)
-above_zero (negsuc n) h e = absurd (omega (arith, ints, h))

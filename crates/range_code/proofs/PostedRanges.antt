@@ -17,7 +17,7 @@ use Rattle.fd_language.proofs.Lemmas.{of_asks, range_asked, has_once, accepted_i
 use Rattle.range_code.specs.declared.frame.Arg.{Arg}
 use Rattle.range_code.specs.declared.frame.Arg.TheVariants.{Var, Int}
 use Rattle.range_code.specs.Slots.{slot_of}
-use Rattle.range_code.specs.Frames.{IsArg, IsFrame, arg_integer, arg_at, slot_variable, slot_integer, posted}
+use Rattle.range_code.specs.Frames.{IsArg, IsArgumentFrame, arg_integer, arg_at, slot_variable, slot_integer, posted}
 use Rattle.range_code.proofs.Frames.{params_occur, slotted, reads_seen}
 use Rattle.range_code.proofs.Standings.{reads_filled}
 
@@ -43,7 +43,7 @@ fits_table r h = (and_parts (range_fits INFINITY r true) (has_one_use r) ((and_p
 pub one_use : (r : Range) → is_accepted INFINITY r ≡ true → has_one_use r ≡ true
 one_use r h = (and_parts (range_fits INFINITY r true) (has_one_use r) ((and_parts (range_within INFINITY r) (range_fits INFINITY r true && has_one_use r) h).1)).1
 
-module _ (count : ℕ) (r : Range) (args : List Arg) (accepted : is_accepted INFINITY r ≡ true) (frame : IsFrame count r args) where
+module _ (count : ℕ) (r : Range) (args : List Arg) (accepted : is_accepted INFINITY r ≡ true) (frame : IsArgumentFrame count r args) where
   abbrev by_variable : ℕ → ℤ
   by_variable y = slot_integer args (slot_of r y)
 

@@ -26,7 +26,7 @@ use Rattle.range_code.specs.declared.form.Division.TheVariants.{Whole}
 use Rattle.range_code.specs.declared.quick_forms.Quick.TheVariants.{Within, Differs, Above, Below, Moved, Plus, Minus}
 use Rattle.range_code.specs.declared.quick_forms.Pair.{Pair}
 use Rattle.range_code.specs.declared.Reach.TheVariants as reach
-use Rattle.range_code.specs.Frames.{IsFrame, posted, family_of, slot_set, slot_integer, slot_variable}
+use Rattle.range_code.specs.Frames.{IsArgumentFrame, posted, family_of, slot_set, slot_integer, slot_variable}
 use Rattle.range_code.specs.Nodes.{IsSeen, IsReadable}
 use Rattle.range_code.specs.Kinds.{val_slots}
 use Rattle.range_code.specs.Slots.{in_slots}
@@ -102,7 +102,7 @@ less_once : (a : ℤ) (n : ℕ) → a +ℤ negsuc 0 *ℤ pos n ≡ a -ℤ pos n
 less_once a n = grind (arith, ints)
 
 module _ (r : Range) (args : List Arg) (accepted : is_accepted INFINITY r ≡ true) where
-  nodes : (count : ℕ) → IsFrame count r args → All (IsReadable count args) (nodes_of (in_slots r))
+  nodes : (count : ℕ) → IsArgumentFrame count r args → All (IsReadable count args) (nodes_of (in_slots r))
   nodes count fit = all_readable count r args fit (one_use r accepted)
 
   there : (count slot k : ℕ) → slot_variable args slot ≡ k → IsSeen count args slot → k < count
@@ -112,11 +112,11 @@ module _ (r : Range) (args : List Arg) (accepted : is_accepted INFINITY r ≡ tr
   set sets = set_of INFINITY (family_of sets) (posted r args)
 
   -- all numbers but a moved value
-  module _ (z : ℤ) (slot k : ℕ) (e : slot_variable args slot ≡ k) (seen : (count : ℕ) → IsFrame count r args → IsSeen count args slot) (small : IsSmall z)
+  module _ (z : ℤ) (slot k : ℕ) (e : slot_variable args slot ≡ k) (seen : (count : ℕ) → IsArgumentFrame count r args → IsSeen count args slot) (small : IsSmall z)
       (left : (S : Family) (p : ℕ → ℤ) → filled_set S p (in_slots r) ≡ all_but (z +ℤ pos (least (S slot))))
-      (opened : (sets : List (List ℕ)) → IsFrame (length sets) r args → ((x : ℕ) → is_none_left (family_of sets x) ≡ false)
+      (opened : (sets : List (List ℕ)) → IsArgumentFrame (length sets) r args → ((x : ℕ) → is_none_left (family_of sets x) ≡ false)
       → list_any (λ s. is_several (slot_set sets args s)) (val_slots r) ≡ is_several (slot_set sets args slot)) where
-    differs_in : (sets : List (List ℕ)) → IsFrame (length sets) r args → ((x : ℕ) → is_none_left (family_of sets x) ≡ false) → (b : Bool) → is_several (slot_set sets args slot) ≡ b
+    differs_in : (sets : List (List ℕ)) → IsArgumentFrame (length sets) r args → ((x : ℕ) → is_none_left (family_of sets x) ≡ false) → (b : Bool) → is_several (slot_set sets args slot) ≡ b
         → IsReach (set sets) (cond b reach.All (reach.Except (z +ℤ pos (least (family_of sets k)))))
     differs_in sets fit some true g = open_set sets r args accepted fit (val_slots r) some refl (sym (opened sets fit some ∙ g))
     differs_in sets fit some false g = settled_set sets r args accepted fit some (opened sets fit some ∙ g)
@@ -168,11 +168,11 @@ module _ (r : Range) (args : List Arg) (accepted : is_accepted INFINITY r ≡ tr
     }
 
     module _ (a b : Bound) (h : IsInterval (in_slots r) a b) where
-      row : (sets : List (List ℕ)) → IsFrame (length sets) r args → ((x : ℕ) → is_none_left (family_of sets x) ≡ false) → (y z : ℤ)
+      row : (sets : List (List ℕ)) → IsArgumentFrame (length sets) r args → ((x : ℕ) → is_none_left (family_of sets x) ≡ false) → (y z : ℤ)
           → bound_value (slot_set sets args) a ≡ y → bound_value (slot_set sets args) b ≡ z → set sets ≡ between y z
       row sets fit some y z e f = shifted_set sets r args accepted fit some no_val ∙ (h.set (slot_set sets args) (slot_integer args) ∙ two between e f)
 
-      low_seen : (count : ℕ) → IsFrame count r args → AreSeen count args a.products.items
+      low_seen : (count : ℕ) → IsArgumentFrame count r args → AreSeen count args a.products.items
       low_seen count fit = h.low.seen count args (nodes count fit)
 
       pub moved_quick : (s t : Shift) (k : ℕ) → slot_variable args s.slot ≡ k → s.slot ≡ t.slot → s.constant ≡ t.constant → IsShiftOf a Least s

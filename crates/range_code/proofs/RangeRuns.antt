@@ -25,7 +25,7 @@ use Rattle.domain_ranges.specs.declared.Narrowed.{Narrowed}
 use Rattle.domain_ranges.specs.Narrowing.{IsNarrowed, all_but}
 use Rattle.range_code.specs.Slots.{slot_of, in_slots, slots_of, slot_needs, need_at}
 use Rattle.range_code.specs.Kinds.{has_pair, val_slots}
-use Rattle.range_code.specs.Frames.{IsFrame, slot_variable, slot_integer, family_of, slot_set, posted}
+use Rattle.range_code.specs.Frames.{IsArgumentFrame, slot_variable, slot_integer, family_of, slot_set, posted}
 use Rattle.range_code.specs.Nodes.{IsSeen, IsReadable}
 use Rattle.range_code.specs.Standings.{opens, standing_of, tested, IsTestSeen, TestRises}
 use Rattle.range_code.specs.declared.instr.RangeInstr.{RangeInstr}
@@ -111,7 +111,7 @@ module _ (sets : List (List ℕ)) (r : Range) (args : List Arg) where
   settled_by false false h g e = sym (by_standing false false h g)
 
 -- what is kept of an accepted range, whose arguments fit
-module _ (sets : List (List ℕ)) (r : Range) (args : List Arg) (accepted : is_accepted INFINITY r ≡ true) (fit : IsFrame (length sets) r args) where
+module _ (sets : List (List ℕ)) (r : Range) (args : List Arg) (accepted : is_accepted INFINITY r ≡ true) (fit : IsArgumentFrame (length sets) r args) where
   pub read_nodes : All (IsReadable (length sets) args) (nodes_of (in_slots r))
   read_nodes = all_readable (length sets) r args fit (one_use r accepted)
 

@@ -11,7 +11,7 @@ use Rattle.range_code.specs.declared.frame.Arg.{Arg}
 use Rattle.range_code.specs.Slots.{slot_of, in_slots}
 use Rattle.range_code.specs.Frames.{slot_variable, slot_integer, posted}
 use Rattle.range_code.specs.Nodes.{rename_node}
-use Rattle.range_code.proofs.Variables.{names_of}
+use Rattle.range_code.proofs.Variables.{renamed_nodes}
 
 -- Filling in integers and naming anew commute, so what is posted depends on the slots alone.
 by_slots : (r : Range) (args : List Arg) → rename_range (slot_variable args) (fill_range (slot_integer args) (in_slots r)) ≡ posted r args
@@ -26,7 +26,7 @@ pub same_slots : (ns ms : List RangeNode) (r q : Range) → ns ≡ nodes_of (in_
 same_slots ns ms r q e f h = sym (spelled_range-nodes (in_slots r)) ∙ (ap spelled_range (sym e ∙ (h ∙ f)) ∙ spelled_range-nodes (in_slots q))
 
 pub slots_keep : (r : Range) → length (nodes_of (in_slots r)) ≡ length (nodes_of r)
-slots_keep r = ap length (sym (names_of (slot_of r) r)) ∙ length-map (nodes_of r) (rename_node (slot_of r))
+slots_keep r = ap length (sym (renamed_nodes (slot_of r) r)) ∙ length-map (nodes_of r) (rename_node (slot_of r))
 
 -- as many nodes
 pub same_length : (r q : Range) → in_slots r ≡ in_slots q → length (nodes_of r) ≡ length (nodes_of q)

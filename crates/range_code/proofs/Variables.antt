@@ -49,5 +49,5 @@ range_names f (One t) rest = expr_names f t (node.One ∷ rest)
 range_names f (Dom y) rest = refl
 range_names f (Outside r) rest = range_names f r (node.Outside ∷ rest)
 
-pub names_of : (f : ℕ → ℕ) (r : Range) → map (rename_node f) (nodes_of r) ≡ nodes_of (rename_range f r)
-names_of f r = range_names f r []
+pub renamed_nodes : (f : ℕ → ℕ) (r : Range) → map (rename_node f) (nodes_of r) ≡ nodes_of (rename_range f r)
+renamed_nodes f r = range_names f r []

@@ -11,7 +11,7 @@ use Rattle.range_code.specs.declared.compile.ReadKind.{ReadKind}
 use Rattle.range_code.specs.declared.evaluate.Steps.{Steps}
 use Rattle.range_code.specs.declared.form.Evaluation.{Evaluation}
 use Rattle.range_code.specs.declared.Shape.{Shape}
-use Rattle.range_code.specs.Forms.{IsForm, IsShifted}
+use Rattle.range_code.specs.Forms.{IsEvaluation, IsShifted}
 use Rattle.range_code.specs.Slots.{slots_of, slot_needs, slot_features, in_slots}
 use Rattle.range_code.specs.Kinds.{slot_kinds, val_slots}
 use Rattle.range_code.specs.Heights.{height}
@@ -40,6 +40,6 @@ pub record IsCompiled (r : Range) (vs : List ℕ) (ns : List (Option Need)) (fs 
   pub vals : ys ≡ val_slots r
   pub nodes : ms ≡ nodes_of (in_slots r)
   pub steps : AreStepsOf (slot_needs r) (val_slots r) (integers (folded_nodes r)) (folded_nodes r) s
-  pub form : IsForm (in_slots r) way
+  pub form : IsEvaluation (in_slots r) way
   pub shifted : IsShifted way → val_slots r ≡ []
   pub height : high ≡ height r

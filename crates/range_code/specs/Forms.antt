@@ -132,16 +132,16 @@ pub record IsException (r : Range) (a : Bound) : Type 0 where
   pub value : IsUsable r a
 
 -- the form is one of the range
-abbrev pub IsForm : Range → Evaluation → Type 0
-IsForm r Nodes = Unit {0}
-IsForm r (Differs slot) = r ≡ all_but_val slot
-IsForm r (Above s z) = IsAbove r s z
-IsForm r (Below z s) = IsBelow r z s
-IsForm r (Between a b) = IsInterval r a b
-IsForm r (Row a b) = IsInterval r a b × AreOpposite a.products.items b.products.items
-IsForm r (Without a b) = IsComplement r a b
-IsForm r (Except a) = IsException r a
-IsForm r (Chosen c) = IsChoice r c
+abbrev pub IsEvaluation : Range → Evaluation → Type 0
+IsEvaluation r Nodes = Unit {0}
+IsEvaluation r (Differs slot) = r ≡ all_but_val slot
+IsEvaluation r (Above s z) = IsAbove r s z
+IsEvaluation r (Below z s) = IsBelow r z s
+IsEvaluation r (Between a b) = IsInterval r a b
+IsEvaluation r (Row a b) = IsInterval r a b × AreOpposite a.products.items b.products.items
+IsEvaluation r (Without a b) = IsComplement r a b
+IsEvaluation r (Except a) = IsException r a
+IsEvaluation r (Chosen c) = IsChoice r c
 
 -- the form reads one end of one domain
 abbrev pub IsShifted : Evaluation → Type 0

@@ -23,8 +23,8 @@ AreArgs count (n ∷ ns) (a ∷ as') = IsArg count n a × AreArgs count ns as'
 AreArgs count ns as' = ⊥
 
 -- one argument for each slot of the range
-abbrev pub IsFrame : ℕ → Range → List Arg → Type 0
-IsFrame count r args = AreArgs count (slot_needs r) args
+abbrev pub IsArgumentFrame : ℕ → Range → List Arg → Type 0
+IsArgumentFrame count r args = AreArgs count (slot_needs r) args
 
 abbrev pub variable_of : Arg → ℕ
 variable_of (Var k) = k

@@ -11,7 +11,7 @@ use Rattle.range_code.specs.declared.quick_forms.Quick.TheVariants.{Other, Withi
 use Rattle.range_code.specs.declared.quick_forms.Pair.{Pair}
 use Rattle.range_code.specs.declared.Reach.{Reach}
 use Rattle.range_code.specs.declared.Reach.TheVariants as reach
-use Rattle.range_code.specs.Frames.{IsFrame, posted, family_of}
+use Rattle.range_code.specs.Frames.{IsArgumentFrame, posted, family_of}
 use Rattle.range_code.specs.Nodes.{IsSeen}
 use Rattle.range_code.specs.Forms.{end_of, bound_value, AreNarrow, AreSeen}
 use Rattle.range_code.specs.SetReaches.{IsReach}
@@ -47,8 +47,8 @@ IsWithin count (Minus x y z) = (x < count) × (y < count) × IsSmallForTwo z
 
 -- wherever the range may be evaluated, the quick form may be, and reaches its set
 pub record IsQuick (r : Range) (args : List Arg) (quick : Quick) : Type 0 where
-  pub within : (count : ℕ) → IsFrame count r args → IsWithin count quick
-  pub reach : (sets : List (List ℕ)) → IsFrame (length sets) r args → ((k : ℕ) → is_none_left (family_of sets k) ≡ false)
+  pub within : (count : ℕ) → IsArgumentFrame count r args → IsWithin count quick
+  pub reach : (sets : List (List ℕ)) → IsArgumentFrame (length sets) r args → ((k : ℕ) → is_none_left (family_of sets k) ≡ false)
       → IsReach (set_of INFINITY (family_of sets) (posted r args)) (reached sets quick)
 
 -- the interval between two parameters

@@ -12,7 +12,7 @@ ghost use Rattle.range_code.specs.Steps.{outside};
 ghost use Rattle.fd_language.specs.declared.TheConstants.{INFINITY as TOP};
 ghost use Rattle.fd_language.specs.Family.{universe};
 ghost use Rattle.range_code.specs.Choices.{is_chosen, AreRising};
-ghost use Rattle.range_code.specs.Forms.{IsForm};
+ghost use Rattle.range_code.specs.Forms.{IsEvaluation};
 ghost use Rattle.range_code.specs.Instructions.{node_of, IsPlaced};
 ghost use Rattle.range_code.specs.StepNodes.{steps_from, all_steps, ArePlaced, IsAt};
 ghost use Rattle.domain_ranges.specs.Narrowing.{between, IsNarrowed};
@@ -300,7 +300,7 @@ pub(crate) fn evaluate_narrowing<V: View>(
 ) -> Result<Narrowed, NoMemory>
     requires spelled { IsSpelled (all_steps steps.now) }
     requires placed { ArePlaced steps.now }
-    requires form { IsForm (spelled_range (all_steps steps.now)) form.now }
+    requires form { IsEvaluation (spelled_range (all_steps steps.now)) form.now }
     requires readable { All (IsReadable (length (V.sets view.now)) args.now) (all_steps steps.now) }
     requires fits { RangeFits (slot_set (V.sets view.now) args.now) (slot_integer args.now)
         (spelled_range (all_steps steps.now)) }

@@ -7,7 +7,7 @@ ghost use Rattle.fd_language.specs.PostfixRanges.{nodes_of};
 ghost use Rattle.fd_language.specs.Range.{Range};
 ghost use Rattle.range_code.specs.Frames.{slot_set};
 ghost use Rattle.range_code.specs.Nodes.{IsSeen};
-ghost use Rattle.range_code.specs.Forms.{end_of as end_of_set, sum_of, total_of, divided as divided_by, leaf_amount, amount, bound_value, shift_value, IsShiftOf, all_but_val, AreNarrow, AreSeen, IsPositive, IsLeaf, IsSigned, IsDivision, IsPart, IsAdded, IsBound, IsInterval, IsComplement, IsForm, IsShifted, other_end, IsOpposite, AreOpposite};
+ghost use Rattle.range_code.specs.Forms.{end_of as end_of_set, sum_of, total_of, divided as divided_by, leaf_amount, amount, bound_value, shift_value, IsShiftOf, all_but_val, AreNarrow, AreSeen, IsPositive, IsLeaf, IsSigned, IsDivision, IsPart, IsAdded, IsBound, IsInterval, IsComplement, IsEvaluation, IsShifted, other_end, IsOpposite, AreOpposite};
 
 use crate::choice::{Choice, read_choice};
 use crate::frame::{Arg, slot_domain};
@@ -512,7 +512,7 @@ pub(crate) fn form_of(
     no_val: bool,
 ) -> Result<Evaluation, NoMemory>
     ensures form { IfOk result
-        (λ form. (r : Range) → nodes.now ≡ nodes_of r → IsForm r form) }
+        (λ form. (r : Range) → nodes.now ≡ nodes_of r → IsEvaluation r form) }
     ensures shifted { IfOk result (λ form. IsShifted form → IsTrue no_val) }
 {
     if let Some(slot) = differing_slot(nodes) {
@@ -527,7 +527,7 @@ pub(crate) fn form_of(
 /// Its form where it is made of sums.
 fn sums_form(alloc: Global, nodes: &[RangeNode], no_val: bool) -> Result<Evaluation, NoMemory>
     ensures form { IfOk result
-        (λ form. (r : Range) → nodes.now ≡ nodes_of r → IsForm r form) }
+        (λ form. (r : Range) → nodes.now ≡ nodes_of r → IsEvaluation r form) }
     ensures shifted { IfOk result (λ form. IsShifted form → IsTrue no_val) }
 {
     let Some((low, rest)) = read_bound(alloc, nodes)? else {
@@ -654,7 +654,8 @@ pub(crate) fn shift_of(bound: &Bound, end: End) -> Option<Shift>
 
 /// The form of the interval between two bounds, where one is a number and the other a moved end.
 fn shifted_form(low: &Bound, high: &Bound) -> Option<Evaluation>
-    ensures { IfSome result (λ form. (r : Range) → IsInterval r low.now high.now → IsForm r form) }
+    ensures { IfSome result (λ form. (r : Range) → IsInterval r low.now high.now
+        → IsEvaluation r form) }
 {
     if let Some(number) = number_of(high) {
         let shift = shift_of(low, End::Least)?;
@@ -667,7 +668,7 @@ fn shifted_form(low: &Bound, high: &Bound) -> Option<Evaluation>
 
 /// The form of the interval between two bounds: where their products are opposite, one pass gives both.
 fn between_form(low: Bound, high: Bound, no_val: bool) -> Evaluation
-    ensures form { (r : Range) → IsInterval r low high → IsForm r result }
+    ensures form { (r : Range) → IsInterval r low high → IsEvaluation r result }
     ensures shifted { IsShifted result → IsTrue no_val }
 {
     if no_val {
@@ -694,7 +695,7 @@ fn is_one_sum(a: &Bound, b: &Bound) -> bool
 
 /// The form of the complement of the interval between two bounds: where they are one sum, a single number is left out.
 fn outside_form(low: Bound, high: Bound) -> Evaluation
-    ensures form { (r : Range) → IsComplement r low high → IsForm r result }
+    ensures form { (r : Range) → IsComplement r low high → IsEvaluation r result }
     ensures unshifted { IsShifted result → ⊥ }
 {
     if is_one_sum(&low, &high) {

@@ -15,10 +15,10 @@ ghost use Rattle.range_code.specs.Pieces.{pieces_of, piece_node, literals};
 ghost use Rattle.range_code.specs.CodeFields.{AreStepsOf, IsShapeOf};
 ghost use Rattle.range_code.specs.Instructions.{instructions_of, tests_of};
 ghost use Rattle.range_code.specs.StepNodes.{all_steps, ArePlaced};
-ghost use Rattle.range_code.specs.Forms.{IsForm, IsShifted};
+ghost use Rattle.range_code.specs.Forms.{IsEvaluation, IsShifted};
 ghost use Rattle.range_code.specs.SetReaches.{IsReach};
 ghost use Rattle.std.specs.List.{list_any};
-ghost use Rattle.range_code.specs.Frames.{IsFrame, posted, family_of, slot_set};
+ghost use Rattle.range_code.specs.Frames.{IsArgumentFrame, posted, family_of, slot_set};
 ghost use Rattle.range_code.specs.declared.frame.Arg.{Arg as AnyArg};
 
 mod choice;
@@ -224,7 +224,7 @@ impl RangeCode {
     /// How the range is evaluated where it narrows.
     #[inline(always)]
     fn form(&self) -> &Evaluation
-        ensures form { IsForm (in_slots self.now) result.now }
+        ensures form { IsEvaluation (in_slots self.now) result.now }
         ensures shifted { IsShifted result.now → val_slots self.now ≡ [] }
         ensures accepted { IsTrue (is_accepted INFINITY self.now) }
     {
@@ -329,7 +329,7 @@ pub fn run_range<V: View>(
     view: &V,
     n: &mut Activations,
 ) -> Result<Domain, NoMemory>
-    requires { IsFrame (length (V.sets view.now)) code.now args.now }
+    requires { IsArgumentFrame (length (V.sets view.now)) code.now args.now }
     ensures set { IfOk result (λ d. d ≡ set_of INFINITY (family_of (V.sets view.now))
         (posted code.now args.now)) }
     ensures count { n.new.count ≡ min (n.old.count + 1) (2 ^ 64 - 1) }
@@ -409,7 +409,7 @@ fn reach_without(domain: &Domain) -> Reach
 /// The set of the range, as far as numbers tell it, where each variable that is read by val has a single member.
 #[inline(always)]
 fn settled_reach<V: View>(code: &RangeCode, args: &[Arg], view: &V) -> Reach
-    requires frame { IsFrame (length (V.sets view.now)) code.now args.now }
+    requires frame { IsArgumentFrame (length (V.sets view.now)) code.now args.now }
     requires some { (k : ℕ) → is_none_left (family_of (V.sets view.now) k) ≡ false }
     requires settled { list_any (λ s. is_several (slot_set (V.sets view.now) args.now s))
         (val_slots code.now) ≡ false }
@@ -433,7 +433,7 @@ fn settled_reach<V: View>(code: &RangeCode, args: &[Arg], view: &V) -> Reach
 /// The set of the range over the domains of a view, as far as numbers tell it.
 #[inline(always)]
 fn reach_of<V: View>(code: &RangeCode, args: &[Arg], view: &V) -> Reach
-    requires frame { IsFrame (length (V.sets view.now)) code.now args.now }
+    requires frame { IsArgumentFrame (length (V.sets view.now)) code.now args.now }
     requires some { (k : ℕ) → is_none_left (family_of (V.sets view.now) k) ≡ false }
     ensures reach { IsReach
         (set_of INFINITY (family_of (V.sets view.now)) (posted code.now args.now)) result }
@@ -462,7 +462,7 @@ fn reach_of<V: View>(code: &RangeCode, args: &[Arg], view: &V) -> Reach
 /// The arguments are those of `run_range`. No set of the view is empty. A caller may not rely on when `Other` comes.
 #[inline(always)]
 pub fn find_reach<V: View>(code: &RangeCode, args: &[Arg], view: &V) -> Reach
-    requires frame { IsFrame (length (V.sets view.now)) code.now args.now }
+    requires frame { IsArgumentFrame (length (V.sets view.now)) code.now args.now }
     requires some { (k : ℕ) → is_none_left (family_of (V.sets view.now) k) ≡ false }
     ensures { IsReach
         (set_of INFINITY (family_of (V.sets view.now)) (posted code.now args.now)) result }
@@ -483,7 +483,7 @@ pub fn narrow<V: View>(
     stacks: &mut Stacks,
     n: &mut Activations,
 ) -> Result<Narrowed, NoMemory>
-    requires frame { IsFrame (length (V.sets view.now)) code.now args.now }
+    requires frame { IsArgumentFrame (length (V.sets view.now)) code.now args.now }
     requires some { (k : ℕ) → is_none_left (family_of (V.sets view.now) k) ≡ false }
     requires family { IsFamily INFINITY (family_of (V.sets view.now)) }
     requires room { height code.now ≤ stacks.old }

@@ -19,18 +19,18 @@ use Rattle.range_terms.specs.declared.walk.Task.TheVariants as task
 use Rattle.range_terms.specs.declared.walk.Found.{Found}
 use Rattle.term_pool.specs.PlacedTerms.{placed_by, placed_of}
 use Rattle.range_terms.specs.TermNodes.{Wanted, wanted}
-use Rattle.range_terms.specs.Forms.{of_operand, IsForm, IsNoVariable}
+use Rattle.range_terms.specs.Forms.{of_operand, IsRangeForm, IsNoVariable}
 use Rattle.range_terms.specs.Walk.{IsOf, Replaces}
 use Rattle.range_terms.proofs.Walks.{load_two, load_three, step_open}
 
 -- the form of a term is that of its shape
 pub at_shape : (N : ℕ) (c : Contents) → IsPool c → (o : Operand) (s u : Shape) (p : ℕ) (f : RangeForm) → shape_at c o.term ≡ Some u → shape_at c o.term ≡ Some s → place_at c o.term ≡ Some p
-    → IsForm N c (wanted N o.position (placed_by c.names (placed_of c) p u)) p (parts_of u) f → IsForm N c (of_operand N c o) p (parts_of s) f
+    → IsRangeForm N c (wanted N o.position (placed_by c.names (placed_of c) p u)) p (parts_of u) f → IsRangeForm N c (of_operand N c o) p (parts_of s) f
 at_shape N c v o s u p f hu hs hp h =
     let same : u ≡ s = same_Some u s (sym hu ∙ hs) in
     let placed : placed_of c o.term ≡ placed_by c.names (placed_of c) p u = placed_of_shape c v o.term u p hu hp in
-    subst (λ (x : PlacedTerm). IsForm N c (wanted N o.position x) p (parts_of s) f) (sym placed)
-    (subst (λ (r : Shape). IsForm N c (wanted N o.position (placed_by c.names (placed_of c) p u)) p (parts_of r) f) same h)
+    subst (λ (x : PlacedTerm). IsRangeForm N c (wanted N o.position x) p (parts_of s) f) (sym placed)
+    (subst (λ (r : Shape). IsRangeForm N c (wanted N o.position (placed_by c.names (placed_of c) p u)) p (parts_of r) f) same h)
 
 -- whether a term is a variable
 pub a_variable : (c : Contents) → IsPool c → (t : TermId) (x : ℕ) → t.number < length c.entries → shape_at c t ≡ Some (pool.var x) → (q : ℕ) × (placed_of c t ≡ var x q)
@@ -59,7 +59,7 @@ has_weight c v t s h = omega (arith, size_of c v t s h)
 -- a node behind its operand
 pub step_unary : (N : ℕ) (c : Contents) → IsPool c → (t : TermId) (s : Shape) (p : ℕ) (w : Wanted) (n : RangeNode) (a : Operand) (found : Found)
     (ahead next : List Task) → t.number < length c.entries → shape_at c t ≡ Some s
-    → IsForm N c w p (parts_of s) (form.Unary n a) → next ≡ ahead ++ (task.Put n p ∷ task.Read a ∷ []) → Replaces N c w (2 * size (term_of c t)) found ahead found next
+    → IsRangeForm N c w p (parts_of s) (form.Unary n a) → next ≡ ahead ++ (task.Put n p ∷ task.Read a ∷ []) → Replaces N c w (2 * size (term_of c t)) found ahead found next
 step_unary N c v t s p w n a found ahead next l h f e =
     let within : All (λ u. u.number < length c.entries) (a.term ∷ []) = subst (All (λ u. u.number < length c.entries)) f.0 (parts_within c v t s l h) in
     let first : IsOf c (task.Read a) = All-head (λ u. u.number < length c.entries) a.term [] within in
@@ -71,7 +71,7 @@ step_unary N c v t s p w n a found ahead next l h f e =
 -- a node behind its two operands
 pub step_binary : (N : ℕ) (c : Contents) → IsPool c → (t : TermId) (s : Shape) (p : ℕ) (w : Wanted) (n : RangeNode) (a b : Operand) (found : Found)
     (ahead next : List Task) → t.number < length c.entries → shape_at c t ≡ Some s
-    → IsForm N c w p (parts_of s) (form.Binary n a b) → next ≡ ahead ++ (task.Put n p ∷ task.Read b ∷ task.Read a ∷ []) → Replaces N c w (2 * size (term_of c t)) found ahead found next
+    → IsRangeForm N c w p (parts_of s) (form.Binary n a b) → next ≡ ahead ++ (task.Put n p ∷ task.Read b ∷ task.Read a ∷ []) → Replaces N c w (2 * size (term_of c t)) found ahead found next
 step_binary N c v t s p w n a b found ahead next l h f e =
     let inside : TermId → Type 0 = λ u. u.number < length c.entries in
     let within : All inside (a.term ∷ b.term ∷ []) = subst (All inside) f.0 (parts_within c v t s l h) in

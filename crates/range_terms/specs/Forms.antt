@@ -17,11 +17,11 @@ abbrev pub of_operand : ℕ → Contents → Operand → Wanted
 of_operand N c o = wanted N o.position (placed_of c o.term)
 
 -- the form of a term at the place p with the parts ts, of which w is wanted
-abbrev pub IsForm : ℕ → Contents → Wanted → ℕ → List TermId → RangeForm → Type 0
-IsForm N c w p ts (form.Leaf n) = w ≡ one_node n p
-IsForm N c w p ts (form.Unary n a) = (ts ≡ a.term ∷ []) × (w ≡ joined (of_operand N c a) (one_node n p))
-IsForm N c w p ts (form.Binary n a b) = (ts ≡ a.term ∷ b.term ∷ []) × (w ≡ joined (joined (of_operand N c a) (of_operand N c b)) (one_node n p))
-IsForm N c w p ts form.Misfit = (w.places ≡ []) × (w.offenders ≡ p ∷ [])
+abbrev pub IsRangeForm : ℕ → Contents → Wanted → ℕ → List TermId → RangeForm → Type 0
+IsRangeForm N c w p ts (form.Leaf n) = w ≡ one_node n p
+IsRangeForm N c w p ts (form.Unary n a) = (ts ≡ a.term ∷ []) × (w ≡ joined (of_operand N c a) (one_node n p))
+IsRangeForm N c w p ts (form.Binary n a b) = (ts ≡ a.term ∷ b.term ∷ []) × (w ≡ joined (joined (of_operand N c a) (of_operand N c b)) (one_node n p))
+IsRangeForm N c w p ts form.Misfit = (w.places ≡ []) × (w.offenders ≡ p ∷ [])
 
 -- what is wanted of a number: a node where a number is wanted, and it fits nowhere where a range is
 abbrev pub IsNumber : Position → RangeNode → ℕ → Wanted → Type 0

@@ -6,7 +6,7 @@ ghost use Rattle.fd_language.specs.Spelling.{read_dom};
 ghost use Rattle.term_pool.specs.Contents.{Contents, Shape, shape_at, place_at, parts_of};
 ghost use Rattle.term_pool.specs.PlacedTerms.{placed_of, parts_by};
 ghost use Rattle.range_terms.specs.TermNodes.{Wanted, wanted, of_range};
-ghost use Rattle.range_terms.specs.Forms.{IsForm, IsNoVariable, IsOfTerms, IsNumber, of_operand};
+ghost use Rattle.range_terms.specs.Forms.{IsRangeForm, IsNoVariable, IsOfTerms, IsNumber, of_operand};
 ghost use Rattle.range_terms.specs.declared.forms.Position.TheVariants as place_in;
 
 use crate::names::{feature, range_operator, term_operator};
@@ -61,7 +61,7 @@ fn variable_of(pool: &Pool, t: TermId) -> Option<u64>
 /// `dom` of a variable.
 fn domain_form(pool: &Pool, only: TermId) -> RangeForm
     requires { only.number < length pool.now.entries }
-    ensures { (N p : ℕ) → IsForm N pool.now (of_range (read_dom (placed_of pool.now only) p)) p
+    ensures { (N p : ℕ) → IsRangeForm N pool.now (of_range (read_dom (placed_of pool.now only) p)) p
         (only ∷ []) result }
 {
     match variable_of(pool, only) {
@@ -73,7 +73,7 @@ fn domain_form(pool: &Pool, only: TermId) -> RangeForm
 /// A range with one part.
 fn single_range_form(pool: &Pool, name: &str, only: TermId) -> RangeForm
     requires { only.number < length pool.now.entries }
-    ensures { (N p : ℕ) → IsForm N pool.now
+    ensures { (N p : ℕ) → IsRangeForm N pool.now
         (wanted N place_in.Range (comp name.now p (one (placed_of pool.now only)))) p
         (only ∷ []) result }
 {
@@ -98,7 +98,7 @@ fn single_range_form(pool: &Pool, name: &str, only: TermId) -> RangeForm
 
 /// A range with two parts.
 fn double_range_form(pool: &Pool, name: &str, first: TermId, second: TermId) -> RangeForm
-    ensures { (N p : ℕ) → IsForm N pool.now
+    ensures { (N p : ℕ) → IsRangeForm N pool.now
         (wanted N place_in.Range (comp name.now p (two (placed_of pool.now first)
         (placed_of pool.now second)))) p (first ∷ second ∷ []) result }
 {
@@ -121,7 +121,7 @@ fn double_range_form(pool: &Pool, name: &str, first: TermId, second: TermId) -> 
 /// `min`, `max` or `val` of a variable.
 fn feature_form(pool: &Pool, name: &str, only: TermId) -> RangeForm
     requires { only.number < length pool.now.entries }
-    ensures { (N p : ℕ) → IsForm N pool.now
+    ensures { (N p : ℕ) → IsRangeForm N pool.now
         (wanted N place_in.Term (comp name.now p (one (placed_of pool.now only)))) p
         (only ∷ []) result }
 {
@@ -143,7 +143,7 @@ fn operation_form(
     position: Position,
 ) -> RangeForm
     requires { IsOfTerms position }
-    ensures { (N p : ℕ) → IsForm N pool.now
+    ensures { (N p : ℕ) → IsRangeForm N pool.now
         (wanted N position (comp name.now p (two (placed_of pool.now first)
         (placed_of pool.now second)))) p (first ∷ second ∷ []) result }
 {
@@ -166,7 +166,7 @@ fn operation_form(
 /// A compound where a range is wanted.
 fn range_form(pool: &Pool, name: &str, parts: &[TermId]) -> RangeForm
     requires { All (λ t. t.number < length pool.now.entries) parts.now }
-    ensures { (N p : ℕ) → IsForm N pool.now
+    ensures { (N p : ℕ) → IsRangeForm N pool.now
         (wanted N place_in.Range (comp name.now p (parts_by (placed_of pool.now) parts.now))) p
         parts.now result }
 {
@@ -181,7 +181,7 @@ fn range_form(pool: &Pool, name: &str, parts: &[TermId]) -> RangeForm
 /// A compound where a number is wanted.
 fn term_form(pool: &Pool, name: &str, parts: &[TermId]) -> RangeForm
     requires { All (λ t. t.number < length pool.now.entries) parts.now }
-    ensures { (N p : ℕ) → IsForm N pool.now
+    ensures { (N p : ℕ) → IsRangeForm N pool.now
         (wanted N place_in.Term (comp name.now p (parts_by (placed_of pool.now) parts.now))) p
         parts.now result }
 {
@@ -195,7 +195,7 @@ fn term_form(pool: &Pool, name: &str, parts: &[TermId]) -> RangeForm
 
 /// A compound where a number is wanted that no domain changes.
 fn constant_form(pool: &Pool, name: &str, parts: &[TermId]) -> RangeForm
-    ensures { (N p : ℕ) → IsForm N pool.now (wanted N place_in.Constant
+    ensures { (N p : ℕ) → IsRangeForm N pool.now (wanted N place_in.Constant
         (comp name.now p (parts_by (placed_of pool.now) parts.now))) p parts.now result }
 {
     match parts {
@@ -209,7 +209,7 @@ fn constant_form(pool: &Pool, name: &str, parts: &[TermId]) -> RangeForm
 /// A compound in its position.
 fn compound_form(pool: &Pool, name: &str, parts: &[TermId], position: Position) -> RangeForm
     requires { All (λ t. t.number < length pool.now.entries) parts.now }
-    ensures { (N p : ℕ) → IsForm N pool.now
+    ensures { (N p : ℕ) → IsRangeForm N pool.now
         (wanted N position (comp name.now p (parts_by (placed_of pool.now) parts.now))) p parts.now
         result }
 {
@@ -223,7 +223,7 @@ fn compound_form(pool: &Pool, name: &str, parts: &[TermId], position: Position) 
 /// A number, which fits where one is wanted.
 fn number_form(node: RangeNode, position: Position) -> RangeForm
     ensures { (N : ℕ) (c : Contents) (w : Wanted) (p : ℕ) → IsNumber position node p w
-        → IsForm N c w p [] result }
+        → IsRangeForm N c w p [] result }
 {
     match position {
         Position::Range => RangeForm::Misfit,
@@ -236,7 +236,8 @@ pub(crate) fn form_of(pool: &Pool, operand: Operand, infinity: u32) -> RangeForm
     requires { operand.term.number < length pool.now.entries }
     ensures { (s : Shape) (p : ℕ) → shape_at pool.now operand.term ≡ Some s
         → place_at pool.now operand.term ≡ Some p
-        → IsForm infinity pool.now (of_operand infinity pool.now operand) p (parts_of s) result }
+        → IsRangeForm infinity pool.now (of_operand infinity pool.now operand) p (parts_of s)
+        result }
 {
     match pool.view(operand.term) {
         Node::Var(variable) => number_form(RangeNode::Param(variable), operand.position),

@@ -8,11 +8,12 @@ use Rattle.fd_model.specs.ProgramLaws.{ScopedProgram}
 use Rattle.fd_model.specs.Queries.{program_of}
 use Rattle.fd_model.specs.Refusals.{Refusal, first_refusal}
 use Rattle.fd_model.specs.RunnablePrograms.{IsRunnableProgram, QueriesRunnable, QueriesScoped, ClausesScoped}
-use Rattle.fd_model.specs.Verdict.{accepted, refused, sentences_verdict, reading_verdict, IsVerdict}
+use Rattle.fd_model.specs.Verdict.{accepted, sentences_verdict, reading_verdict, IsVerdict}
 use Rattle.fd_model.proofs.Lemmas.{accepted_runnable}
 use Rattle.run_laws.specs.AnyUnifiers.{AnyQueries}
 use Rattle.run_laws.specs.Laws.{AnyRuns, AnyOutput}
 use Rattle.run_laws.proofs.AnyRuns.{any_run_is, run_any}
+use Rattle.fd_model.proofs.Lemmas.{not_accepted}
 
 pub any_runs : AnyRuns
 any_runs M N prog q n k runnable runs scoped low es r = (any_run_is M N prog runnable scoped q runs low n k es r, λ a. run_any M N prog q a)
@@ -27,9 +28,6 @@ accepted_runs M N ss (Some r) prog i e = absurd (cc)
 read_runs : (M N : ℕ) (text : List ℕ) (prog : Program) (r : reading.Reading) → reading.IsReading text r → accepted prog ≡ reading_verdict M N r → IsRunnableProgram M prog
 read_runs M N text prog (sentences ss) h e = accepted_runs M N ss (first_refusal M N (map (λ s. s.term) ss) (map (λ s. s.term) ss)) prog refl e
 read_runs _ _ text prog _ h e = absurd (cc)
-
-not_accepted : (p : ℕ) (reason : List ℕ) (prog : Program) → accepted prog ≡ refused p reason → ⊥
-not_accepted p reason prog e = cc
 
 text_runs : (M N : ℕ) (text : List ℕ) (prog : Program) → IsVerdict M N text (accepted prog) → IsRunnableProgram M prog
 text_runs M N text prog (inl h) = absurd (not_accepted _ _ prog h.1)

@@ -5,22 +5,21 @@ use Rattle.fd_language.specs.Term.{Term, Var, Substitution}
 use Rattle.fd_language.specs.Family.{Family}
 use Rattle.fd_language.specs.Lists.{Each}
 use Rattle.fd_language.proofs.Lemmas.{identity}
-use Rattle.fd_model.specs.declared.kinds.BuiltinKind.TheVariants.{Write}
 use Rattle.fd_model.specs.declared.kinds.Order.{Order}
-use Rattle.fd_model.specs.BranchViews.{IsView, seen}
+use Rattle.fd_model.specs.BranchViews.{IsView}
 use Rattle.fd_model.specs.Branches.{look_in, sets_in}
 use Rattle.fd_model.specs.ClosedFamilies.{constrained}
 use Rattle.fd_model.specs.Children.{Offer, Faults, Gives, Seeks, KeptOffer, offer, kept_by, last_of}
-use Rattle.fd_model.specs.Goal.{Goal, Builtin, first_argument, Program, Query, Branch, Event, Answer, Limit, Fault, Wrote, start_of}
+use Rattle.fd_model.specs.Goal.{Goal, Program, Query, Branch, Event, Answer, Limit, Fault, start_of}
 use Rattle.fd_model.specs.Leaves.{Leaves, no_leaves, leaf, grows, IsSeenAs, IsBetter, IsAsGood, BestLeaf, SoughtLeaf}
-use Rattle.fd_model.specs.Lines.{answer_line, says, written_text}
+use Rattle.fd_model.specs.Lines.{answer_line, says}
 use Rattle.fd_model.specs.Run.{Run, over, last, fewer, any, spent, faulty, taken}
 use Rattle.fd_model.specs.RunnablePrograms.{EachBelow, ClausesScoped, AreRunnable, IsRunnableProgram}
 use Rattle.fd_model.proofs.Lemmas.{offer_sound, all_marked, each_marked}
 use Rattle.run_laws.specs.AnyUnifiers.{IsAnyView, AnyLeaves, IsAnySeenAs, AnyBestLeaf, AnySoughtLeaf, AnyKeptOffer, AnyRun}
 use Rattle.run_laws.specs.AnyUnifiers as free
-use Rattle.run_laws.proofs.SeenTwice.{line_same, written_same}
-use Rattle.run_laws.proofs.Scopes.{OffersScoped, offer_scoped, look_below}
+use Rattle.run_laws.proofs.Scopes.{OffersScoped, offer_scoped}
+use Rattle.fd_model.proofs.Lemmas.{look_below, line_same, says_by, written_same}
 use Rattle.run_laws.proofs.Pairs.{ArePair, any_view}
 use Rattle.run_laws.proofs.Offers.{SameOffer, offers_pair}
 use Rattle.run_laws.proofs.Leaves.{IsGood, AllGood, good_both, kept_good, view_here, general_u, match_sets, sought_back}
@@ -41,12 +40,6 @@ good_length M N (b ∷ bs) (c ∷ cs) h = ap suc (good_length M N bs cs h.1)
 good_last : (M N k : ℕ) (bs cs : List Branch) → AllGood M N bs cs → AllGood M N (last_of k bs) (last_of k cs)
 good_last M N k bs cs h =
     subst (λ l. AllGood M N (last_of k bs) (drop (l - k) cs)) (sym (good_length M N bs cs h)) (good_drop M N (length bs - k) bs cs h)
-
--- what a goal writes
-says_by : (b c : Branch) (s u : Substitution) (D E : Family) → ((t : Term) → written_text (constrained b.posted) s D (seen s D (constrained b.posted) t) ≡ written_text (constrained c.posted) u E
-    (seen u E (constrained c.posted) t)) → (g : Goal) → says s D b g ≡ says u E c g
-says_by b c s u D E h (Builtin Write t) = ap (λ x. Wrote x ∷ []) (h (first_argument t))
-says_by b c s u _ _ h _ = refl
 
 -- what is kept of what a goal gives
 abbrev SameKept : ℕ → ℕ → Offer → Offer → Type 0

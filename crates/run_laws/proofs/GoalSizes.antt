@@ -1,5 +1,5 @@
 -- The constraints of a program have no more occurrences of variables than the sentences that it was made from.
-use Rattle.std.proofs.Common.{◌≡◌, ℕ, ◌+◌, ◌≤◌, Bool, List, [], ◌∷◌, length, map, Option, Some, None, subst, inl, inr}
+use Rattle.std.proofs.Common.{◌≡◌, ℕ, ◌≤◌, Bool, List, [], ◌∷◌, length, map, Option, Some, None, subst, inl, inr}
 use Rattle.std.proofs.Common.{arith}
 use Rattle.std.specs.Str.{bytes_eq}
 use Rattle.std.specs.Prelude.{codes}
@@ -15,11 +15,12 @@ use Rattle.fd_model.specs.Queries.{queries_by, queries_of, clauses_by, clauses_o
 use Rattle.fd_model.specs.Goal.{Goals, no_goals, goal, listed, True, Fail, Unify, Post, Constrain, Label, Call, Either, Builtin, Cut, If, IfElse, Not}
 use Rattle.fd_model.specs.Goal.{Best}
 use Rattle.fd_model.specs.Goal.{Clause, Query, Program}
-use Rattle.fd_model.specs.Verdict.{accepted, refused, sentences_verdict, reading_verdict}
+use Rattle.fd_model.specs.Verdict.{accepted, sentences_verdict, reading_verdict}
 use Rattle.fd_model.proofs.Lemmas.{either}
 use Rattle.run_laws.specs.ConstraintSizes.{IsSmall, AreSmall, HasSmallConstraints}
 use Rattle.run_laws.specs.Laws.{SmallConstraints}
 use Rattle.run_laws.proofs.TermSizes.{size, one_size, two_size, sentence_sizes}
+use Rattle.fd_model.proofs.Lemmas.{not_accepted}
 
 module _ (n : ℕ) where
   abbrev IsWithin : PlacedTerm → Type 0
@@ -176,9 +177,6 @@ read_small M N text prog (sentences ss) h e =
     accepted_small (length text) N ss (first_refusal M N (map (λ s. s.term) ss) (map (λ s. s.term) ss)) prog e
     (record { clauses = clauses_small (length text) N ss (sentence_sizes text ss h); queries = queries_small (length text) N ss (sentence_sizes text ss h) })
 read_small _ _ text prog _ h e = absurd (cc)
-
-not_accepted : (p : ℕ) (reason : List ℕ) (prog : Program) → accepted prog ≡ refused p reason → ⊥
-not_accepted p reason prog e = cc
 
 pub small_constraints : SmallConstraints
 small_constraints M N text prog (inl h) = absurd (not_accepted _ _ prog h.1)

@@ -5,7 +5,7 @@ use Rattle.fd_language.specs.Unifier.{IsMostGeneral}
 use Rattle.fd_language.specs.Family.{Family, has}
 use Rattle.fd_language.specs.Lists.{Each}
 use Rattle.fd_language.specs.Variables.{TermBelow, variables_of}
-use Rattle.fd_language.proofs.Lemmas.{first_member}
+use Rattle.fd_language.proofs.Lemmas.{first_member, each_after, each_both}
 use Rattle.fd_model.specs.declared.kinds.Order.{Order}
 use Rattle.fd_model.specs.declared.kinds.QueryFault.{QueryFault}
 use Rattle.fd_model.specs.BranchViews.{IsConsistent, IsView, set_at}
@@ -22,7 +22,9 @@ use Rattle.branch_meaning.proofs.Lemmas.{label_in}
 use Rattle.run_laws.specs.AnyUnifiers.{IsAnyView, AnyLeaves, IsAnySeenAs, IsAnyBest, AnyBestLeaf, AnySoughtLeaf}
 use Rattle.run_laws.specs.AnyUnifiers as any
 use Rattle.run_laws.proofs.SamePosted.{AreEqual}
-use Rattle.run_laws.proofs.Scopes.{IsScoped, AllScoped, below_under, look_below, variable_below}
+use Rattle.run_laws.proofs.Scopes.{IsScoped, AllScoped, variable_below}
+use Rattle.fd_model.proofs.Lemmas.{below_under}
+use Rattle.fd_model.proofs.Lemmas.{look_below}
 use Rattle.run_laws.proofs.Pairs.{ArePair, AllPairs, pair_goals, pair_equations, any_view, consistent_there, consistent_back, general_here, match}
 use Rattle.run_laws.proofs.Offers.{name_of, seen_there, still_own, named_in, equal_name, labelled_there}
 
@@ -154,10 +156,6 @@ module _ (M N : ℕ) (prog : Program) (o : Order) (t : Term) (n : ℕ) (below : 
   abbrev AllFrom : List Branch → Type 0
   AllFrom bs = Each (λ b. b.fresh ≡ n) bs
 
-  from_both : (bs cs : List Branch) → AllFrom bs → AllFrom cs → AllFrom (bs ++ cs)
-  from_both [] cs h g = g
-  from_both (b ∷ bs) cs h g = (h.0, from_both bs cs h.1 g)
-
   kept_from : (bs cs : List Branch) → AllFrom bs → Kept M N bs cs → AllFrom cs
   kept_from [] cs h k = subst AllFrom (sym k) tt
   kept_from (b ∷ bs) cs h (inl k) = subst AllFrom (sym k.1.1) (h.0, kept_from bs k.1.0 h.1 k.1.2)
@@ -200,7 +198,7 @@ module _ (M N : ℕ) (prog : Program) (o : Order) (t : Term) (n : ℕ) (below : 
         values = some.1;
         equal = subst (AreEqual b.equations back.0) back.2 (equal_there M N b c good s D v u E w 0 prog back.0 own);
         low = variable_below b.fresh (apply (look_in b s D) t)
-            (below_under b.fresh (look_in b s D) (look_below b.fresh b s D v.general good.scoped.equations) t (subst (λ k. TermBelow k t) (sym from) below)) back.0 inside;
+            (below_under b.fresh b.fresh (look_in b s D) (look_below b.fresh b s D v.general good.scoped.equations) t (subst (λ k. TermBelow k t) (sym from) below)) back.0 inside;
       }
 
   leaf_back : (b c : Branch) (good : IsGood M N b c) → (s : Substitution) (D : Family) (v : IsView M N b.equations b.posted s D) (u : Substitution) (E : Family)
@@ -234,7 +232,7 @@ module _ (M N : ℕ) (prog : Program) (o : Order) (t : Term) (n : ℕ) (below : 
       (children_pair M N b c h.0.pair one.variable y one.equal values) (children_sound M N b c h.0.pair h.0.sound one.variable values)
       (children_scoped M N b c h.0.pair h.0.scoped one.variable one.low values) there in
       let later = leaves_back more (own.0 ++ bs) (good_both M N own.0 kids bs _ own.2 h.1)
-      (from_both own.0 bs (kept_from (map (by_value b b.goals one.variable) values) own.0 (children_from b one.variable values f.0) own.1) f.1) in
+      (each_both (λ b. b.fresh ≡ n) own.0 bs (kept_from (map (by_value b b.goals one.variable) values) own.0 (children_from b one.variable values f.0) own.1) f.1) in
       (later.0, grows v.0 v.1 one.members one.variable own.0 v.2 one.read one.picked own.1 later.1, later.2, later.3)
 
 -- ---- the best leaf
@@ -296,12 +294,8 @@ module _ (M N : ℕ) (prog : Program) (least : Bool) (x : Term) where
           later = each_back (λ z. IsAsGood least i.cost z) k.rest i.behind k.later i.later;
         },
         k.good,
-        at k.front k.own k.rest (subst (Each (λ d. d.fresh ≡ n)) k.among e),
+        (each_after (λ d. d.fresh ≡ n) k.front (k.own ∷ k.rest) (subst (Each (λ d. d.fresh ≡ n)) k.among e)).0,
       )
-    where
-      at : (front : List Branch) (b : Branch) (rest : List Branch) → Each (λ d. d.fresh ≡ n) (front ++ b ∷ rest) → b.fresh ≡ n
-      at [] b rest e = e.0
-      at (d ∷ ds) b rest e = at ds b rest e.1
 
   -- what a search for the best leaf finds
   pub sought_back : (b c : Branch) (rest : List Goal) (o : Order) (t : Term) (cs : List Branch) → IsGood M N b c → TermBelow b.fresh t → AreRunnable M rest → EachBelow b.fresh rest

@@ -1,10 +1,7 @@
 mod TermSizes
 mod GoalSizes
 mod FlatTexts
-mod SeenTwice
-mod PostKinds
 mod SamePosted
-mod LabelNames
 mod RowNames
 mod Scopes
 mod Pairs

@@ -1,10 +1,9 @@
 -- What a goal gives in two branches that are a pair, each seen by a most general unifier of its own, are pairs again.
-use Rattle.std.proofs.Common.{◌≡◌, ℕ, ◌<◌, ◌≤◌, Bool, true, false, cond, ◌==◌, ℤ, List, [], ◌∷◌, ◌++◌, map, Option, Some, None, Result, Ok, Err}
+use Rattle.std.proofs.Common.{◌≡◌, ℕ, ◌<◌, ◌≤◌, Bool, true, false, cond, ℤ, List, [], ◌∷◌, ◌++◌, map, Option, Some, None, Result, Ok, Err}
 use Rattle.std.proofs.Common.{refl, ap, sym, ◌∙◌, subst, inl, inr}
-use Rattle.std.proofs.Common.{eqb-true}
-use Rattle.std.proofs.lemmas.Bool.{cases_Bool, or_cases, true≢false}
-use Rattle.fd_language.specs.Term.{Term, Var, Int, Atom, Comp, term, Substitution, apply}
-use Rattle.fd_language.specs.Unifier.{Equation, IsMostGeneral, Unifies}
+use Rattle.std.proofs.lemmas.Bool.{cases_Bool, true≢false}
+use Rattle.fd_language.specs.Term.{Term, Var, Int, Atom, Comp, Substitution, apply}
+use Rattle.fd_language.specs.Unifier.{Equation, IsMostGeneral}
 use Rattle.fd_language.specs.Family.{Family, has}
 use Rattle.fd_language.specs.Range.{Indexical}
 use Rattle.fd_language.specs.RangeRenaming.{rename_indexical}
@@ -15,7 +14,7 @@ use Rattle.fd_model.specs.declared.kinds.QueryFault.{QueryFault}
 use Rattle.fd_model.specs.declared.kinds.QueryFault.TheVariants.{Parameter}
 use Rattle.fd_model.specs.declared.kinds.BuiltinKind.{BuiltinKind}
 use Rattle.fd_model.specs.declared.kinds.ConstraintKind.{ConstraintKind}
-use Rattle.fd_model.specs.BranchViews.{seen, set_at}
+use Rattle.fd_model.specs.BranchViews.{set_at}
 use Rattle.fd_model.specs.Builtins.{Finding, faulted, decided, equated, found, finding, first_argument, second_argument}
 use Rattle.fd_model.specs.ClosedFamilies.{constrained}
 use Rattle.fd_model.specs.ConstraintLaws.{AllFresh}
@@ -34,12 +33,12 @@ use Rattle.fd_model.proofs.Lemmas.{scoped_rows, SameFinding, found_renamed, unif
 use Rattle.branch_meaning.specs.Labelling.{Labelled, faults, done, labels, labelled, rename_labelled, by_labelled}
 use Rattle.branch_meaning.specs.Rows.{rename_products, rename_row}
 use Rattle.branch_meaning.proofs.Lemmas.{row_by, label_in, seen_by_variable, of_arguments}
-use Rattle.run_laws.proofs.SeenTwice.{after, after_is, after_back, seen_other, seen_variables}
-use Rattle.run_laws.proofs.PostKinds.{SameKind, post_same}
-use Rattle.run_laws.proofs.LabelNames.{rename_members, rename_listing, list_renamed, labelled_renamed, AllIn, list_in, ListedIn}
+use Rattle.branch_meaning.proofs.Lemmas.{SameKind, post_same, rename_members, rename_listing, list_renamed, labelled_renamed, list_in, ListedIn}
 use Rattle.run_laws.proofs.RowNames.{row_name, row_named, old_name, fresh_name}
 use Rattle.run_laws.proofs.SamePosted.{AreEqual, AreRenamed, named}
-use Rattle.run_laws.proofs.Scopes.{EquationsBelow, below_under, look_below, variable_below}
+use Rattle.run_laws.proofs.Scopes.{variable_below}
+use Rattle.fd_model.proofs.Lemmas.{below_under}
+use Rattle.fd_model.proofs.Lemmas.{EquationsBelow, look_below, after, after_is, after_back, seen_other, seen_variables, split_both}
 use Rattle.run_laws.proofs.Pairs.{ArePair, AllPairs, pair_goals, pair_equations, pair_ranges}
 
 abbrev pub SameOffer : Branch → Branch → Offer → Offer → Type 0
@@ -93,14 +92,6 @@ cost_renamed u f ms (Int z) h a = refl
 cost_renamed u f ms (Atom a) h i = refl
 cost_renamed u f ms (Comp g ts) h a = refl
 
-open_in : (vs : List ℕ) (u : Substitution) (f : ℕ → ℕ) (here there : ℕ → List ℕ) (ms : List Member) → AllIn u f here there vs ms → (y : ℕ) → has (open_ones ms) y ≡ true → has vs y ≡ true
-open_in vs u f here there [] i y h = absurd (true≢false (sym h))
-open_in vs u f here there (Open x ∷ ms) i y h = elim (or_cases (x == y) (has (open_ones ms) y) h) [
-  | inl e ↦ subst (λ z. has vs z ≡ true) (eqb-true x y e) i.0
-  | inr e ↦ open_in vs u f here there ms i.1 y e
-]
-open_in vs u f here there (Known z ∷ ms) i y h = open_in vs u f here there ms i y h
-
 -- b is seen by s and D, and the branch of the goals gs, the equations ds and the ranges qs by u and E.
 module _ (M N m : ℕ) (prog : Program) (b : Branch) (gs : List Goal) (ds : List Equation) (qs : List Indexical) (s u : Substitution) (D E : Family) (g : IsMostGeneral b.equations s)
     (h : IsMostGeneral b.equations u) (match : (y z : ℕ) → s y ≡ Var y → u y ≡ Var z → s z ≡ Var y → set_at u E (constrained qs) z ≡ set_at s D (constrained b.posted) y)
@@ -143,7 +134,7 @@ module _ (M N m : ℕ) (prog : Program) (b : Branch) (gs : List Goal) (ds : List
   named_in t y c = name_is y (still_own t y c)
 
   low : (t : Term) → TermBelow n t → (y : ℕ) → has (variables_of (apply here t)) y ≡ true → y < n
-  low t k y c = variable_below n (apply here t) (below_under n here (look_below n b s D g own) t k) y c
+  low t k y c = variable_below n (apply here t) (below_under n n here (look_below n b s D g own) t k) y c
 
   name_low : (y : ℕ) → s y ≡ Var y → y < n → name_of y < n
   name_low y i l = subst (TermBelow n) (name_is y i) (unifier_below n b.equations u h own y l)
@@ -250,16 +241,9 @@ module _ (M N m : ℕ) (prog : Program) (b : Branch) (gs : List Goal) (ds : List
             (subst (λ l. SameOffer b other (by_constraint b rest (Ok x)) (by_constraint other rest (Ok (record { equated = x.equated; ranges = map (rename_indexical row_to) x.ranges; fresh = l }))))
             (sym (fresh_row x.fresh scoped.grows)) (
               pair_ranges b other p (equations x.equated) (equations x.equated) (λ w a i. i) (λ w a i. i) rest x.fresh x.ranges (map (rename_indexical row_to) x.ranges)
-                  (all_renamed (equations x.equated ++ b.equations) row_to x.ranges (λ v c w i. equal v c w (later_unifies w i))),
+                  (all_renamed (equations x.equated ++ b.equations) row_to x.ranges (λ v c w i. equal v c w (split_both w (equations x.equated) b.equations i).1)),
               tt,
             ))
-          where
-            later_unifies : (w : Substitution) → Unifies w (equations x.equated ++ b.equations) → Unifies w b.equations
-            later_unifies w i = drop_front w (equations x.equated) b.equations i
-              where
-                drop_front : (w : Substitution) (es fs : List Equation) → Unifies w (es ++ fs) → Unifies w fs
-                drop_front w [] fs i = i
-                drop_front w (e ∷ es) fs i = drop_front w es fs i.1
 
       labelled_pair : (o : Goal) (l : Labelled) → ((x : ℕ) (ns : List ℕ) → l ≡ labels x ns → s x ≡ Var x)
           → SameOffer b other (by_labelled b o rest l) (by_labelled other o rest (rename_labelled name_of l))
@@ -274,15 +258,15 @@ module _ (M N m : ℕ) (prog : Program) (b : Branch) (gs : List Goal) (ds : List
           (by_cost w (Seeks other rest o least t c) (read_list (apply there t)))) (seen_there c)
           (subst (λ l. SameOffer b other (by_cost (apply here c) (Seeks b rest o least t c) (read_list (apply here t))) (by_cost (apply u (apply here c)) (Seeks other rest o least t c) l))
           (sym (list_renamed u name_of (apply here t) (named_in t)) ∙ ap read_list (seen_there t))
-          (by_members (read_list (apply here t)) (list_in u name_of values_here values_there (apply here t))))
+          (by_members (read_list (apply here t)) (list_in (apply here t))))
         where
-          by_members : (l : Result (List Member) QueryFault) → ListedIn u name_of values_here values_there (variables_of (apply here t)) l
+          by_members : (l : Result (List Member) QueryFault) → ListedIn (variables_of (apply here t)) l
               → SameOffer b other (by_cost (apply here c) (Seeks b rest o least t c) l) (by_cost (apply u (apply here c)) (Seeks other rest o least t c) (rename_listing name_of l))
           by_members (Err f) i = refl
           by_members (Ok ms) i =
               subst (λ k. SameOffer b other (unless_fault (cost_fault ms (apply here c)) (Seeks b rest o least t c)) (unless_fault k (Seeks other rest o least t c)))
               (sym (cost_renamed u name_of ms (apply here c) (named_in c)
-              (λ x y j k e. name_apart y x (still_own t y (open_in (variables_of (apply here t)) u name_of values_here values_there ms i y j)) (still_own c x k) e)))
+              (λ x y j k e. name_apart y x (still_own t y (i y j)) (still_own c x k) e)))
               (by_fault (cost_fault ms (apply here c)))
             where
               by_fault : (f : Option QueryFault) → SameOffer b other (unless_fault f (Seeks b rest o least t c)) (unless_fault f (Seeks other rest o least t c))

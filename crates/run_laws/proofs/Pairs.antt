@@ -2,7 +2,7 @@
 use Rattle.std.proofs.Common.{◌≡◌, ℕ, Bool, true, false, cond, ◌==◌, List, [], ◌∷◌, ◌++◌, Option, Some, None, refl, ap, sym, ◌∙◌, subst, inl, inr, ◌⊎◌}
 use Rattle.std.proofs.Common.{eqb-true, eq-eqb}
 use Rattle.std.proofs.lemmas.Bool.{or_cases, or_left, or_right, true≢false}
-use Rattle.fd_language.specs.Term.{Term, Var, Int, Atom, Comp, Substitution, apply}
+use Rattle.fd_language.specs.Term.{Term, Var, Substitution, apply}
 use Rattle.fd_language.specs.Unifier.{Equation, IsMostGeneral, Unifies}
 use Rattle.fd_language.specs.Family.{Family, has}
 use Rattle.fd_language.specs.Range.{Indexical}
@@ -12,7 +12,7 @@ use Rattle.fd_model.specs.BranchViews.{IsConsistent, IsView, set_at, is_variable
 use Rattle.fd_model.specs.Branches.{with_goals, with_equations}
 use Rattle.fd_model.specs.Goal.{Goal, Branch}
 use Rattle.fd_model.specs.Models.{IsModel}
-use Rattle.fd_model.proofs.Lemmas.{closed_either, consistent_from, has_view, join_both, split_both}
+use Rattle.fd_model.proofs.Lemmas.{closed_either, consistent_from, has_view, is_variable_true, join_both, split_both}
 use Rattle.run_laws.specs.AnyUnifiers.{IsAnyView}
 use Rattle.run_laws.proofs.SamePosted.{AreEqual, AreRenamed, still_renamed, renamed_both, monotone_there, target, target_is, source, source_is, model_there}
 use Rattle.run_laws.proofs.SamePosted.{model_back, greatest_same}
@@ -95,12 +95,6 @@ module _ (M N : ℕ) (b c : Branch) (p : ArePair b c) where
 
 -- ---- the sets of open variables
 
-is_var : (t : Term) (x : ℕ) → is_variable t x ≡ true → t ≡ Var x
-is_var (Var v) x q = ap Var (eqb-true v x q)
-is_var (Int n) x q = absurd (true≢false (sym q))
-is_var (Atom n) x q = absurd (true≢false (sym q))
-is_var (Comp n ts) x q = absurd (true≢false (sym q))
-
 not_var : (t : Term) (x : ℕ) → is_variable t x ≡ false → t ≡ Var x → ⊥
 not_var t x q e = true≢false (sym (ap (λ w. is_variable w x) e ∙ eq-eqb x x refl) ∙ q)
 
@@ -112,7 +106,7 @@ set_is s D [] y = inr (refl, λ v h e. true≢false (sym h))
 set_is s D (w ∷ ws) y = by_test (is_variable (s w) y) refl (set_is s D ws y)
   where
     by_test : (b : Bool) → is_variable (s w) y ≡ b → IsSet s D ws y (set_at s D ws y) → IsSet s D (w ∷ ws) y (cond b (Some (D w)) (set_at s D ws y))
-    by_test true e later = inl (w, or_left (w == w) (has ws w) (eq-eqb w w refl), is_var (s w) y e, refl)
+    by_test true e later = inl (w, or_left (w == w) (has ws w) (eq-eqb w w refl), is_variable_true (s w) y e, refl)
     by_test false e (inl k) = inl (k.0, or_right (w == k.0) (has ws k.0) k.1, k.2, k.3)
     by_test false e (inr k) = inr (
       k.0,

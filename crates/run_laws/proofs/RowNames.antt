@@ -1,5 +1,5 @@
 -- The row of a constraint under other names of its variables, by a heap that has nothing but these names.
-use Rattle.std.proofs.Common.{◌≡◌, ℕ, ◌-◌, ◌<◌, ◌≤◌, true, [], None, refl, ap, sym, ◌∙◌, subst, arith}
+use Rattle.std.proofs.Common.{◌≡◌, ℕ, ◌<◌, ◌≤◌, true, [], None, refl, ap, sym, ◌∙◌, subst, arith}
 use Rattle.std.proofs.lemmas.Bool.{true≢false}
 use Rattle.fd_model.specs.declared.kinds.ConstraintKind.{ConstraintKind}
 use Rattle.fd_language.specs.Term.{Term, Terms, Var, Int, Atom, Comp, no_terms, term, Substitution, apply}
@@ -10,6 +10,7 @@ use Rattle.fd_model.specs.ClosedFamilies.{IsClosed}
 use Rattle.fd_model.specs.BranchViews.{IsConsistent, IsView, seen}
 use Rattle.fd_model.specs.Models.{IsModel}
 use Rattle.fd_model.specs.ConstraintExpansion.{arguments, expand}
+use Rattle.fd_model.proofs.Lemmas.{number}
 use Rattle.branch_meaning.specs.Heap.{Of, AllOf}
 use Rattle.branch_meaning.specs.HeldBranches.{HeldState, IsHeld, IsAtRest}
 use Rattle.branch_meaning.specs.Rows.{rename_row}
@@ -39,10 +40,6 @@ module _ (M N n : ℕ) (s u : Substitution) (after : ℕ → ℕ) (after_is : (y
 
   abbrev state : HeldState
   state = record { heap = λ x. Var x; cells = n; link = λ c. None; store = [] }
-
-  abbrev number : Term → ℕ
-  number (Var z) = z
-  number _ = 0
 
   none_named : (v : ℕ) → has [] v ≡ true → ⊥
   none_named v h = true≢false (sym h)

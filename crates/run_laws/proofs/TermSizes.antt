@@ -13,7 +13,7 @@ use Rattle.fd_language.specs.Grammar.{nil_name, list_of, Reads, an_integer, a_ne
 use Rattle.fd_language.specs.Grammar.{in_parens, operator_in_parens, a_list, a_list_tail, in_curly, a_prefix, an_infix, Arg, a_term, an_operator, Args, last}
 use Rattle.fd_language.specs.Grammar.{more, Sentences, none, next}
 use Rattle.fd_language.specs.Reading.{terminals, names_behind, Sentence, IsSentences}
-use Rattle.fd_language.proofs.Lemmas.{tokens_are_slices}
+use Rattle.fd_language.proofs.Lemmas.{each_map, tokens_are_slices}
 
 -- ---- by the grammar
 
@@ -96,10 +96,6 @@ each_sentence : (n : ℕ) (ss : List Sentence) → Each (λ t. size t ≤ n) (ma
 each_sentence n [] h = tt
 each_sentence n (s ∷ ss) h = (h.0, each_sentence n ss h.1)
 
-weaker : (n m : ℕ) (ts : List PlacedTerm) → n ≤ m → Each (λ t. size t ≤ n) ts → Each (λ t. size t ≤ m) ts
-weaker n m [] l h = tt
-weaker n m (t ∷ ts) l h = (let k = h.0 in omega (arith, l, k), weaker n m ts l h.1)
-
 -- no sentence of a text has more occurrences of variables than the text has bytes
 pub sentence_sizes : (text : List ℕ) (ss : List Sentence) → IsSentences text ss → Each (λ s. size s.term ≤ length text) ss
 sentence_sizes text ss a =
@@ -109,5 +105,5 @@ sentence_sizes text ss a =
     let found = (sentences_size a.terms.text).1 in
     let each = each_reversed (λ t. size t ≤ length (terminals [] a.lexemes)) (reverse terms) [] found tt in
     each_sentence (length text) ss
-    (weaker (length (terminals [] a.lexemes)) (length text) terms few
+    (each_map (λ t. size t ≤ length (terminals [] a.lexemes)) (λ t. size t ≤ length text) (λ t k. omega (arith, few, k)) terms
     (subst (λ ts. Each (λ t. size t ≤ length (terminals [] a.lexemes)) ts) (reverse-reverse terms) each))

@@ -1,6 +1,6 @@
 //! The summary of a generated text's run.
 
-ghost use Rattle.std.specs.Prelude.{◌≡◌, ◌<◌, ◌≤◌, ◌∷◌, [], ℕ, true, List, length, IfOk};
+ghost use Rattle.std.specs.Prelude.{◌≡◌, ◌+◌, ◌<◌, ◌≤◌, ◌^◌, ◌∷◌, [], ℕ, true, List, length, IfOk, OnErr};
 ghost use Rattle.fd_language.specs.Term.{Name};
 ghost use Rattle.fd_language.specs.declared.TheConstants.{INFINITY as TOP};
 ghost use Rattle.fd_model.specs.Generator.{count_answers, queens_text as queens_bytes};
@@ -15,7 +15,8 @@ ghost use Rattle.machine_events.specs.Events.{event_of};
 ghost use Rattle.code_machine.specs.States.{StandsFor};
 ghost use Rattle.byte_ports.specs.Ends.{sink_at};
 ghost use Rattle.text_output.specs.Endings.{Ending, IsRunOf};
-ghost use Rattle.text_output.specs.Pieces.{lines_of, HandedEnding};
+ghost use Rattle.byte_ports.specs.Lines.{lines_of};
+ghost use Rattle.text_output.specs.Pieces.{HandedEnding};
 ghost use Rattle.run_summary.specs.Summaries.{IsTally};
 
 use crate::queens::queens_text;
@@ -53,6 +54,14 @@ fn answers_in(event: &MachineEvent) -> u64
     }
 }
 
+/// The count of answers with those of one event more. More than can be counted are want of memory.
+fn counted(answers: u64, more: u64) -> Result<u64, NoMemory>
+    ensures sum { IfOk result (λ n. n ≡ answers + more) }
+    ensures memory { OnErr result (2 ^ 64 ≤ answers + more) }
+{
+    answers.checked_add(more).ok_or(NoMemory)
+}
+
 /// Runs a machine to its last event. More answers than can be counted are want of memory.
 fn count_events<A: Agenda + Drop>(machine: &mut Machine<A>) -> Result<Tally, NoMemory>
     ensures last { IfOk result (λ t. is_fixed t.last ≡ true) }
@@ -70,10 +79,7 @@ fn count_events<A: Agenda + Drop>(machine: &mut Machine<A>) -> Result<Tally, NoM
                 last: event,
             });
         }
-        match answers.checked_add(answers_in(&event)) {
-            Some(more) => answers = more,
-            None => return Err(NoMemory),
-        }
+        answers = counted(answers, answers_in(&event))?;
     }
 }
 

@@ -80,42 +80,55 @@ const WEIGHED_SUM: [RangeNode; 15] = [
     RangeNode::Span,
 ];
 
+/// A search, and the values that it finds.
+struct Search<'a> {
+    rows: &'a [(usize, &'a [RangeNode], &'a [Arg])],
+    order: Order,
+    cost: Member,
+    least: bool,
+    want: Option<&'a [u32]>,
+    at: &'a str,
+}
+
 /// Posts the rows on a store of three variables, and searches it. `None`: the posted ranges leave some variable no value.
 fn finds<A: Agenda + Drop>(
     rt: &impl Abort,
     alloc: Global,
     agenda: A,
-    rows: &[(usize, &[RangeNode], &[Arg])],
-    order: Order,
-    cost: Member,
-    least: bool,
-    want: Option<&[u32]>,
-    at: &str,
+    search: &Search<'_>,
 ) -> Result<(), Fail> {
     let mut store = Store::new(alloc, agenda);
     let mut n = Activations::new();
     for _ in 0..3 {
         let _ = store.new_var()?;
     }
-    for (target, nodes, args) in rows {
+    for (target, nodes, args) in search.rows {
         let code = shared_code(alloc, nodes)?;
         let range = instance(alloc, &code, *target, args)?;
         same(
             rt,
             post_one(alloc, &mut store, range, &mut n)?,
             Posted::Kept,
-            at,
+            search.at,
         );
     }
     let list = [Member::Var(X), Member::Var(Y), Member::Var(C)];
     let vars = store.vars();
-    if store.failed() || !may_search(&list, cost, vars) {
+    if store.failed() || !may_search(&list, search.cost, vars) {
         return Err(Fail::new("no search"));
     }
-    let found = best(alloc, &mut store, order, &list, cost, least, &mut n)?;
+    let found = best(
+        alloc,
+        &mut store,
+        search.order,
+        &list,
+        search.cost,
+        search.least,
+        &mut n,
+    )?;
     match &found {
-        Some(values) => same(rt, Some(values.as_slice()), want, at),
-        None => same(rt, None, want, at),
+        Some(values) => same(rt, Some(values.as_slice()), search.want, search.at),
+        None => same(rt, None, search.want, search.at),
     }
     Ok(())
 }
@@ -172,98 +185,71 @@ const FEWER: [(usize, &[RangeNode], &[Arg]); 7] = [
     (C, &TO_THREE, &[]),
 ];
 
+const SEARCHES: [Search<'static>; 7] = [
+    Search {
+        rows: &WEIGHED,
+        order: Order::Leftmost,
+        cost: Member::Var(C),
+        least: true,
+        want: Some(&[3, 0, 6]),
+        at: "least of a weighed sum",
+    },
+    Search {
+        rows: &WEIGHED,
+        order: Order::Leftmost,
+        cost: Member::Var(C),
+        least: false,
+        want: Some(&[3, 3, 15]),
+        at: "greatest of a weighed sum",
+    },
+    Search {
+        rows: &SUMS,
+        order: Order::Leftmost,
+        cost: Member::Var(C),
+        least: true,
+        want: Some(&[0, 2, 2]),
+        at: "first of equal sums",
+    },
+    Search {
+        rows: &APART,
+        order: Order::Leftmost,
+        cost: Member::Var(C),
+        least: false,
+        want: Some(&[1, 2, 3]),
+        at: "first of the greatest",
+    },
+    Search {
+        rows: &CROWDED,
+        order: Order::Leftmost,
+        cost: Member::Var(C),
+        least: true,
+        want: None,
+        at: "no leaf",
+    },
+    Search {
+        rows: &FEWER,
+        order: Order::Leftmost,
+        cost: Member::Fixed(-7),
+        least: true,
+        want: Some(&[1, 1, 2]),
+        at: "first leaf",
+    },
+    Search {
+        rows: &FEWER,
+        order: Order::FirstFail,
+        cost: Member::Fixed(-7),
+        least: true,
+        want: Some(&[2, 0, 2]),
+        at: "first leaf by first-fail",
+    },
+];
+
 #[test]
 fn searches(rt: HostRuntime) -> Result<(), Fail> {
     let alloc = rt.alloc();
-    let c = Member::Var(C);
-    let first = Order::Leftmost;
-    let fewest = Order::FirstFail;
-    finds(
-        &rt,
-        alloc,
-        Fifo::new(alloc),
-        &WEIGHED,
-        first,
-        c,
-        true,
-        Some(&[3, 0, 6]),
-        "least of a weighed sum",
-    )?;
-    finds(
-        &rt,
-        alloc,
-        Fifo::new(alloc),
-        &WEIGHED,
-        first,
-        c,
-        false,
-        Some(&[3, 3, 15]),
-        "greatest of a weighed sum",
-    )?;
-    finds(
-        &rt,
-        alloc,
-        Fifo::new(alloc),
-        &SUMS,
-        first,
-        c,
-        true,
-        Some(&[0, 2, 2]),
-        "first of equal sums",
-    )?;
-    finds(
-        &rt,
-        alloc,
-        Cheapest::new(alloc),
-        &SUMS,
-        first,
-        c,
-        true,
-        Some(&[0, 2, 2]),
-        "first of equal sums",
-    )?;
-    finds(
-        &rt,
-        alloc,
-        Fifo::new(alloc),
-        &APART,
-        first,
-        c,
-        false,
-        Some(&[1, 2, 3]),
-        "first of the greatest",
-    )?;
-    finds(
-        &rt,
-        alloc,
-        Fifo::new(alloc),
-        &CROWDED,
-        first,
-        c,
-        true,
-        None,
-        "no leaf",
-    )?;
-    finds(
-        &rt,
-        alloc,
-        Fifo::new(alloc),
-        &FEWER,
-        first,
-        Member::Fixed(-7),
-        true,
-        Some(&[1, 1, 2]),
-        "first leaf",
-    )?;
-    finds(
-        &rt,
-        alloc,
-        Fifo::new(alloc),
-        &FEWER,
-        fewest,
-        Member::Fixed(-7),
-        true,
-        Some(&[2, 0, 2]),
-        "first leaf by first-fail",
-    )
+    for search in &SEARCHES {
+        finds(&rt, alloc, Fifo::new(alloc), search)?;
+        finds(&rt, alloc, Cheapest::new(alloc), search)?;
+    }
+    Ok(())
 }

@@ -24,7 +24,7 @@ pub(crate) fn argument_at(code: &CodeArea, at: usize) -> Argument
     requires unify { IsUnifyAt code.now at }
     ensures { Holds code.now at (code_of result) }
 {
-    match code.code_at(at) {
+    match *code.code_at(at) {
         Code::UnifyVariable(r) => Argument::Variable(r),
         Code::UnifyValue(r) => Argument::Value(r),
         Code::UnifyConstant(c) => Argument::Constant(c),

@@ -125,7 +125,7 @@ fn look_at_register<A: Agenda + Drop>(
     ensures { IfOk result (TakesOne code.now cells.now branch.now from areas.old areas.new) }
 {
     let cell = cells[from.next];
-    match code.code_at(from.at) {
+    match *code.code_at(from.at) {
         Code::UnifyVariable(r) => {
             write(areas, r, cell)?;
             Ok(true)

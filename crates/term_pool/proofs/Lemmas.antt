@@ -10,3 +10,5 @@ pub use Rattle.term_pool.proofs.Parts.{one_part, two_parts}
 pub use Rattle.term_pool.proofs.PlacedShapes.{entry_of, parts_by_same, numbered_seam, front_kept, placed_of_shape}
 -- Why a walk over the terms of a pool ends. It keeps a list of the ids that it has still to look at, and replaces an id by those of its parts.
 pub use Rattle.term_pool.proofs.Walks.{rest_is_smaller, parts_are_smaller, total_size-nil, total_size-cons, total_size-append, size_of_shape, size_above_zero}
+-- Names and their numbers.
+pub use Rattle.term_pool.proofs.NameNumbers.{atom_other, atom_same, other_name, same_id, same_names}

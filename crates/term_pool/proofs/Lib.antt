@@ -5,3 +5,4 @@ mod Growth
 mod PlacedShapes
 pub mod Lemmas
 mod Parts
+mod NameNumbers

@@ -16,5 +16,6 @@ mod Verdicts
 mod TextOutcomes
 mod PlainTerms
 mod VariableNames
+mod SentenceLists
 pub mod Lemmas
 mod GivenParts

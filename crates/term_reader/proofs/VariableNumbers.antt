@@ -19,12 +19,7 @@ use Rattle.term_pool.specs.Contents.{Contents, atom_name}
 use Rattle.term_pool.specs.PoolInvariant.{IsPool}
 use Rattle.term_pool.proofs.Lemmas.{slice_get-append, pushed_at}
 use Rattle.term_reader.specs.VariableNumbers.{IsIndexed, id_number, with_id}
-
-abbrev of_number : ℕ → AtomId
-of_number n = record { number = n }
-
-pub same_id : (a b : AtomId) → a.number ≡ b.number → a ≡ b
-same_id a b e = ap of_number e
+use Rattle.term_pool.proofs.Lemmas.{same_id}
 
 -- ---- by ids
 

@@ -20,3 +20,4 @@ mod Compounds
 mod Numbers
 mod Sentences
 mod Variables
+pub mod Lemmas

@@ -48,20 +48,20 @@ high_stands c h =
     stands c (ne_eqb c 92 (λ e. omega arith)) (ne_eqb c 39 (λ e. omega arith)) (ne_eqb c 10 (λ e. omega arith)) (ne_eqb c 9 (λ e. omega arith)) (ne_eqb c 13 (λ e. omega arith))
     (or_from (nat_lt c 32) (c == 127) (le-ltb c 32 (omega arith)) (ne_eqb c 127 (λ e. omega arith)))
 
-high_bytes : (bs : List ℕ) → ((k : ℕ) → k < length bs → 128 ≤ get_or bs k 0) → quoted_bytes bs ≡ bs
+pub high_bytes : (bs : List ℕ) → ((k : ℕ) → k < length bs → 128 ≤ get_or bs k 0) → quoted_bytes bs ≡ bs
 high_bytes [] h = refl
 high_bytes (b ∷ bs) h =
     ap (λ (w : List ℕ). w ++ quoted_bytes bs) (high_stands b (h 0 (omega arith)))
     ∙ ap (λ (w : List ℕ). b ∷ w) (high_bytes bs (λ k l. h (suc k) (omega arith)))
 
-low_or_high : (c : ℕ) → (c < 128) ⊎ (128 ≤ c)
+pub low_or_high : (c : ℕ) → (c < 128) ⊎ (128 ≤ c)
 low_or_high c = go (nat_lt c 128) refl
   where
     go : (b : Bool) → nat_lt c 128 ≡ b → (c < 128) ⊎ (128 ≤ c)
     go true e = inl (ltb-true c 128 e)
     go false e = inr (ltb-false c 128 e)
 
-high_encode : (c : ℕ) → 128 ≤ c → (k : ℕ) → k < length (encode c) → 128 ≤ get_or (encode c) k 0
+pub high_encode : (c : ℕ) → 128 ≤ c → (k : ℕ) → k < length (encode c) → 128 ≤ get_or (encode c) k 0
 high_encode c h k l = go (low_or_high (get_or (encode c) k 0))
   where
     go : (get_or (encode c) k 0 < 128) ⊎ (128 ≤ get_or (encode c) k 0) → 128 ≤ get_or (encode c) k 0
@@ -85,7 +85,7 @@ character_scalars c s = go (low_or_high c)
     go (inl h) = (low_encodes (quoted_byte c) (low_quoted c h)).1
     go (inr h) = ap scalars (high_stands c h) ∙ and_from (scalar c) true s refl
 
-quoted-append : (xs ys : List ℕ) → quoted_bytes (xs ++ ys) ≡ quoted_bytes xs ++ quoted_bytes ys
+pub quoted-append : (xs ys : List ℕ) → quoted_bytes (xs ++ ys) ≡ quoted_bytes xs ++ quoted_bytes ys
 quoted-append [] ys = refl
 quoted-append (x ∷ xs) ys = ap (λ (w : List ℕ). quoted_byte x ++ w) (quoted-append xs ys) ∙ sym (append_assoc (quoted_byte x) (quoted_bytes xs) (quoted_bytes ys))
 

@@ -11,7 +11,7 @@ use Rattle.term_pool.specs.Terms.{terms_by, term_of}
 use Rattle.name_syntax.specs.declared.operators.Operator.{Operator as CodeOperator}
 use Rattle.term_writer.specs.declared.pieces.CompoundForm.TheVariants as form
 use Rattle.term_writer.specs.declared.pieces.Rest.TheVariants as rest
-use Rattle.term_writer.specs.Pieces.{IsForm, IsRest, weight}
+use Rattle.term_writer.specs.Pieces.{IsCompoundForm, IsRest, weight}
 use Rattle.term_writer.proofs.Steps.{first_within, second_within}
 
 abbrev IsTail : TermText → Type 0
@@ -37,7 +37,7 @@ module _ (c : Contents) (t : TermId) where
     as_parts : (us : List TermId) → ts ≡ us → term_of c t ≡ Comp f (terms_by (term_of c) us)
     as_parts us s = e ∙ ap (λ (vs : List TermId). Comp f (terms_by (term_of c) vs)) s
 
-    pub rest_curly : (u : TermId) → IsForm f ts (form.Curly u) → IsRest c t rest.Tail
+    pub rest_curly : (u : TermId) → IsCompoundForm f ts (form.Curly u) → IsRest c t rest.Tail
     rest_curly u h =
         tail_as (Comp f (terms_by (term_of c) (u ∷ []))) (as_parts (u ∷ []) h.0) (λ mode vars.
         let x : TermText = spelled mode vars (term_of c u) in
@@ -47,7 +47,7 @@ module _ (c : Contents) (t : TermId) where
         either true v w = refl
         either false v w = refl
 
-    pub rest_operation : (r : CodeOperator) (u v : TermId) → IsForm f ts (form.Infix r u v) → IsRest c t rest.Tail
+    pub rest_operation : (r : CodeOperator) (u v : TermId) → IsCompoundForm f ts (form.Infix r u v) → IsRest c t rest.Tail
     rest_operation r u v h =
         tail_as (Comp f (terms_by (term_of c) (u ∷ v ∷ []))) (as_parts (u ∷ v ∷ []) h.0) (λ mode vars.
         let x : TermText = spelled mode vars (term_of c u) in
@@ -58,10 +58,10 @@ module _ (c : Contents) (t : TermId) where
         }) (spelled_infix mode f (infix_of f) x y))) (sym h.1)
         (subst (λ (o : Option Operator). IsTail (spelled_infix mode f o x y)) (sym h.2) refl))
 
-    pub rest_call : IsForm f ts form.Call → IsRest c t rest.Tail
+    pub rest_call : IsCompoundForm f ts form.Call → IsRest c t rest.Tail
     rest_call h = tail_as (Comp f (terms_by (term_of c) ts)) e (λ mode vars. subst IsTail (sym (h mode vars (term_of c))) refl)
 
-    pub rest_list : (u v : TermId) → All (λ w. w.number < length c.entries) ts → IsForm f ts (form.Cell u v) → IsRest c t (rest.Cell u v)
+    pub rest_list : (u v : TermId) → All (λ w. w.number < length c.entries) ts → IsCompoundForm f ts (form.Cell u v) → IsRest c t (rest.Cell u v)
     rest_list u v all h =
         let both = subst (All (λ w. w.number < length c.entries)) h.0 all in
         let is : term_of c t ≡ Comp f (terms_by (term_of c) (u ∷ v ∷ [])) = as_parts (u ∷ v ∷ []) h.0 in

@@ -75,11 +75,11 @@ pub record Replaces (c : Contents) (mode : Mode) (vars : ℕ → List ℕ) (want
   pub within : All (IsOf c) more
 
 -- the form in which a compound is written
-abbrev pub IsForm : Name → List TermId → CompoundForm → Type 0
-IsForm f ts (form.Curly t) = (ts ≡ t ∷ []) × (bytes_eq f (codes "{}") ≡ true)
-IsForm f ts (form.Cell t u) = (ts ≡ t ∷ u ∷ []) × (bytes_eq f (codes ".") ≡ true)
-IsForm f ts (form.Infix o t u) = (ts ≡ t ∷ u ∷ []) × (bytes_eq f (codes ".") ≡ false) × (infix_of f ≡ Some (operator_of f o))
-IsForm f ts form.Call =
+abbrev pub IsCompoundForm : Name → List TermId → CompoundForm → Type 0
+IsCompoundForm f ts (form.Curly t) = (ts ≡ t ∷ []) × (bytes_eq f (codes "{}") ≡ true)
+IsCompoundForm f ts (form.Cell t u) = (ts ≡ t ∷ u ∷ []) × (bytes_eq f (codes ".") ≡ true)
+IsCompoundForm f ts (form.Infix o t u) = (ts ≡ t ∷ u ∷ []) × (bytes_eq f (codes ".") ≡ false) × (infix_of f ≡ Some (operator_of f o))
+IsCompoundForm f ts form.Call =
     (mode : Mode) (vars : ℕ → List ℕ) (part : TermId → Term)
     → spelled_compound mode f (spelled_each mode vars (terms_by part ts)) ≡ spelled_alone (call_text mode f (spelled_each mode vars (terms_by part ts)))
 

@@ -1,7 +1,7 @@
 //! What is still to be written of a term.
 
 ghost use Rattle.std.specs.Prelude.{[], ◌∷◌};
-ghost use Rattle.term_writer.specs.Pieces.{IsForm};
+ghost use Rattle.term_writer.specs.Pieces.{IsCompoundForm};
 
 use name_syntax::operators::{Operator, roles_of};
 use term_pool::TermId;
@@ -44,7 +44,7 @@ pub(crate) enum Rest {
 }
 
 fn pair_form(name: &str, first: TermId, second: TermId) -> CompoundForm
-    ensures { IsForm name.now (first ∷ second ∷ []) result }
+    ensures { IsCompoundForm name.now (first ∷ second ∷ []) result }
 {
     if name == "." {
         return CompoundForm::Cell(first, second);
@@ -57,7 +57,7 @@ fn pair_form(name: &str, first: TermId, second: TermId) -> CompoundForm
 
 /// How the compound of this name and these parts is written.
 pub(crate) fn form_of(name: &str, parts: &[TermId]) -> CompoundForm
-    ensures { IsForm name.now parts.now result }
+    ensures { IsCompoundForm name.now parts.now result }
 {
     match parts {
         [] => CompoundForm::Call,

@@ -228,7 +228,8 @@ queries_at qs i q e =
     drop-cons qs i q (slice_get_within qs i q e) ∙ ap (λ (x : Query). x ∷ drop (suc i) qs) (get_or_from_slice_get qs i q q e) ∙ ap (λ (n : ℕ). q ∷ drop n qs) one
 
 pub program_next : (N steps : ℕ) (answers : Option ℕ) (prog : Program) (i : ℕ) (q : Query) (old now : PieceSink) (stopped : Bool) (out : List (List ℕ)) (stop : Bool)
-    → slice_get prog.queries i ≡ Some q → Behind N steps answers prog (i + 1) (drop i prog.queries) old now stopped out stop → Next N steps answers prog (i + 1) q (drop (i + 1) prog.queries) old now stopped out stop
+    → slice_get prog.queries i ≡ Some q → Behind N steps answers prog (i + 1) (drop i prog.queries) old now stopped out stop
+    → Next N steps answers prog (i + 1) q (drop (i + 1) prog.queries) old now stopped out stop
 program_next N steps answers prog i q old now stopped out stop e k =
     next_query N steps answers prog (i + 1) q (drop (i + 1) prog.queries) old now stopped out stop
     (subst (λ (qs : List Query). Behind N steps answers prog (i + 1) qs old now stopped out stop) (queries_at prog.queries i q e) k)

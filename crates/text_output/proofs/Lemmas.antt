@@ -7,4 +7,3 @@ pub use Rattle.text_output.proofs.Events.{final_names, goes_on, no_ending, queri
 pub use Rattle.text_output.proofs.Endings.{no_memory, no_pieces, without_memory}
 -- An output's pieces, and that joined they are the output.
 pub use Rattle.text_output.proofs.Events.{query_pieces}
-pub use Rattle.text_output.proofs.Lines.{joined_lines}

@@ -1,6 +1,6 @@
 -- The pieces in which an output is handed to a sink: each line is one, and so is the text of each `write`.
-use Rattle.std.specs.Prelude.{◌≡◌, ℕ, ◌+◌, ◌==◌, Bool, false, List, [], ◌∷◌, ◌++◌, Option, Result, MatchResult, if◌then◌else◌, codes, decimal, map}
-use Rattle.std.specs.List.{concat, onto_first}
+use Rattle.std.specs.Prelude.{◌≡◌, ℕ, ◌+◌, Bool, false, List, [], ◌∷◌, ◌++◌, Option, Result, MatchResult, codes, decimal, map}
+use Rattle.std.specs.List.{concat}
 use Rattle.fd_model.specs.declared.Status.{Status}
 use Rattle.fd_model.specs.declared.Status.TheVariants.{WriteFault, NoMemory}
 use Rattle.fd_model.specs.Goal.{Event, Program, Query, start_of}
@@ -9,24 +9,10 @@ use Rattle.fd_model.specs.Output.{refusal, is_stop, or_stop}
 use Rattle.fd_model.specs.Run.{Run}
 use Rattle.fd_model.specs.Verdict.{Verdict, accepted, refused}
 use Rattle.byte_ports.specs.Ends.{SinkState, WroteAll, sink_at}
+use Rattle.byte_ports.specs.Lines.{lines_of}
 use Rattle.byte_ports.specs.Ports.{Handed, HandedFront}
 use Rattle.text_output.specs.declared.fault.Fault.{Fault}
 use Rattle.text_output.specs.Endings.{CutBy}
-
--- ---- lines
-
-abbrev pub is_newline : ℕ → Bool
-is_newline b = b == 10
-
--- each line with the newline that ends it; what stands behind the last newline is a line without one
-abbrev pub lines_of : List ℕ → List (List ℕ)
-lines_of [] = []
-lines_of (b ∷ bs) = if is_newline b then (b ∷ []) ∷ lines_of bs else onto_first b (lines_of bs)
-
--- the first of them, where there is one
-abbrev pub first_line : List ℕ → List ℕ
-first_line [] = []
-first_line (b ∷ bs) = if is_newline b then b ∷ [] else b ∷ first_line bs
 
 -- ---- the pieces of an output
 

@@ -11,13 +11,14 @@ ghost use Rattle.term_pool.specs.Contents.{atom_name};
 ghost use Rattle.clause_check.specs.Programs.{program_in};
 ghost use Rattle.code_machine.specs.States.{StandsFor, names_of};
 ghost use Rattle.byte_ports.specs.Ends.{sink_at};
+ghost use Rattle.byte_ports.specs.Lines.{lines_of};
 ghost use Rattle.text_output.specs.Endings.{limits_of, Ending, HasLast, IsEnding, IsRunBy, LastBy, LastFrom, RunsProgram, WroteOutput};
-ghost use Rattle.text_output.specs.Pieces.{lines_of, first_line, sink_seen, Gave, HandedEnding, QueryPieces, VerdictPieces};
+ghost use Rattle.text_output.specs.Pieces.{sink_seen, Gave, HandedEnding, QueryPieces, VerdictPieces};
 ghost use Rattle.text_verdict.specs.Verdicts.{verdict_of, HasNames};
 
 use crate::fault::Fault;
 use answer_text::{event_text, query_text, refusal_text};
-use byte_ports::{Sink, write_all};
+use byte_ports::{Sink, first_line, write_all};
 use clause_check::Program;
 use clause_compiler::compile;
 use code_machine::Machine;
@@ -25,7 +26,6 @@ use command_words::{AgendaName, Options};
 use fd_language::NoMemory;
 use fd_model::Status;
 use machine_events::{Limits, MachineEvent};
-use memchr::memchr;
 use propagate_queue::{Agenda, Cheapest, Fifo};
 use std::alloc::Global;
 use std::rc::Rc;
@@ -45,18 +45,6 @@ pub fn put_last<K: Sink>(sink: &mut K, lines: &[u8], status: Status) -> Status
     match put_lines(sink, lines) {
         Ok(()) => status,
         Err(fault) => fault.status(),
-    }
-}
-
-/// The first line, with the newline that ends it if there is one.
-fn first_line(text: &[u8]) -> &[u8]
-    ensures line { result.now ≡ first_line text.now }
-    ensures within { length result.now ≤ length text.now }
-    ensures some { 0 < length text.now → 0 < length result.now }
-{
-    match memchr(b'\n', text) {
-        Some(at) => &text[..at + 1],
-        None => text,
     }
 }
 

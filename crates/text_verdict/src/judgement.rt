@@ -141,7 +141,7 @@ fn sentence_reason(cause: &Cause) -> Reason
             arity: *arity,
         },
         Cause::ArityOver255 => Reason::ArityOver255,
-        Cause::Range(_) => Reason::NotARange,
+        Cause::NotARange => Reason::NotARange,
         Cause::Check(fault) => range_reason(fault),
     }
 }

@@ -12,9 +12,6 @@ use Rattle.fd_language.specs.PlacedTerm.{PlacedTerm}
 use Rattle.fd_model.specs.Queries.{is_shown}
 use Rattle.term_pool.specs.declared.AtomId.{AtomId}
 use Rattle.term_pool.specs.Contents.{Contents, atom_name}
-use Rattle.term_reader.specs.declared.reader.Sentence.{Sentence}
-use Rattle.term_reader.specs.declared.reader.Sentences.{Sentences}
-use Rattle.term_reader.specs.Sentences.{sentence_of}
 use Rattle.text_warnings.specs.Warnings as model
 use Rattle.text_warnings.specs.Warnings.{places_of, single_at, singles_from}
 use Rattle.text_warnings.specs.OccurrenceCounts.{met_at, single_met, AreMetIn}
@@ -82,13 +79,6 @@ singles_next c names met n a d m old mid new o t h long is at all before e own p
         ∙ singles_push 0 (map (atom_name c) (take n names)) (atom_name c a) t
         ∙ ap (λ k. singles_from 0 (map (atom_name c) (take n names)) t ++ single_at (atom_name c a) (places_of k t))
         (let e : 0 + length (map (atom_name c) (take n names)) ≡ n = omega (arith, count) in e)
-
--- The sentences, with one more.
-pub sentences_more : (s : Sentences) (i : ℕ) (d : Sentence) → i < length s.list.items → d ≡ get_or s.list.items i d
-    → map (sentence_of s.pool) (take (i + 1) s.list.items) ≡ map (sentence_of s.pool) (take i s.list.items) ++ sentence_of s.pool d ∷ []
-sentences_more s i d h e =
-    ap (map (sentence_of s.pool)) (take_more s.list.items i d h) ∙ map-append (sentence_of s.pool) (take i s.list.items) (get_or s.list.items i d ∷ [])
-    ∙ ap (λ (x : Sentence). map (sentence_of s.pool) (take i s.list.items) ++ sentence_of s.pool x ∷ []) (sym e)
 
 pub flat_map_push : {X A : Type 0} (f : X → List A) (xs : List X) (x : X) → flat_map f (xs ++ x ∷ []) ≡ flat_map f xs ++ f x
 flat_map_push f xs x = flat_map-append f xs (x ∷ []) ∙ ap (λ l. flat_map f xs ++ l) (append-nil (f x))

@@ -1,36 +1,24 @@
 -- Functors by the numbers of their names, and their places in a list.
-use Rattle.std.proofs.Common.{◌≡◌, ◌≢◌, ℕ, suc, ◌+◌, ◌<◌, ◌⊎◌, inl, inr, Bool, true, false, cond, List, [], ◌∷◌, ◌++◌, Some, None, length, refl, sym, ap, ap₂}
+use Rattle.std.proofs.Common.{◌≡◌, ◌≢◌, ℕ, suc, ◌+◌, ◌<◌, ◌⊎◌, Bool, true, false, cond, List, [], ◌∷◌, ◌++◌, Some, None, length, refl, sym, ap, ap₂}
 use Rattle.std.proofs.Common.{◌∙◌, arith, true≢false}
 use Rattle.std.specs.Prelude.{◌==◌, ◌&&◌, ◌||◌, not, nat_lt, position}
 use Rattle.std.specs.List.{list_any, position_or_len, AllByRecursion}
 use Rattle.std.specs.Str.{bytes_eq}
 use Rattle.std.proofs.lemmas.Bool.{and_parts, eqb-true, eq-eqb, lt-ltb}
-use Rattle.std.proofs.lemmas.Bool.Decides.{eqb_tells}
 use Rattle.std.proofs.lemmas.Slice.Eq.{bytes_eq-Decides}
 use Rattle.std.proofs.lemmas.List.Folds.{list_any-append}
 use Rattle.std.proofs.Math.Bool.{or-false}
 use Rattle.fd_model.specs.Refusals as refusals
 use Rattle.fd_model.specs.Refusals.{same_functor}
 use Rattle.term_pool.specs.declared.AtomId.{AtomId}
-use Rattle.term_pool.specs.Contents.{Contents, atom_name}
+use Rattle.term_pool.specs.Contents.{Contents}
 use Rattle.term_pool.specs.PoolInvariant.{IsPool}
 use Rattle.term_pool.proofs.Lemmas.{same_text}
-use Rattle.term_reader.proofs.Lemmas.{same_id}
 use Rattle.indexmap.specs.IndexSet.{insert_key}
 use Rattle.text_warnings.specs.declared.terms.Functor.{Functor}
 use Rattle.text_warnings.specs.Terms.{functor_in, same_numbers}
 use Rattle.text_warnings.specs.Graphs.{number_in}
-
-same_names : (c : Contents) → IsPool c → (a b : AtomId) → a.number < length c.names → b.number < length c.names → (a.number == b.number) ≡ bytes_eq (atom_name c a) (atom_name c b)
-same_names c v a b h k = pick (eqb_tells a.number b.number)
-  where
-    differ : (t : Bool) → bytes_eq (atom_name c a) (atom_name c b) ≡ t → a.number ≢ b.number → false ≡ bytes_eq (atom_name c a) (atom_name c b)
-    differ true e n = absurd (n (ap (λ (x : AtomId). x.number) (v.distinct a b h k (same_text (atom_name c a) (atom_name c b) e))))
-    differ false e n = sym e
-
-    pick : ((a.number == b.number) ≡ true × (a.number ≡ b.number)) ⊎ ((a.number == b.number) ≡ false × (a.number ≢ b.number)) → (a.number == b.number) ≡ bytes_eq (atom_name c a) (atom_name c b)
-    pick (inl w) = w.0 ∙ sym ((bytes_eq-Decides (atom_name c a) (atom_name c b)).1 (ap (atom_name c) (same_id a b w.1)))
-    pick (inr w) = w.0 ∙ differ (bytes_eq (atom_name c a) (atom_name c b)) refl w.1
+use Rattle.term_pool.proofs.Lemmas.{same_id, same_names}
 
 -- Two functors of a pool are the same where their names have one number.
 pub same_in : (c : Contents) → IsPool c → (f g : Functor) → f.name.number < length c.names → g.name.number < length c.names → same_numbers f g ≡ same_functor (functor_in c f) (functor_in c g)

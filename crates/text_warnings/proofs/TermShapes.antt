@@ -1,5 +1,5 @@
 -- What a term is, by how many parts it has.
-use Rattle.std.proofs.Common.{◌≡◌, ℕ, suc, ◌<◌, ◌≤◌, Bool, true, false, List, [], ◌∷◌, refl, sym, ap, subst, arith, length}
+use Rattle.std.proofs.Common.{◌≡◌, ℕ, suc, ◌<◌, ◌≤◌, false, List, [], ◌∷◌, refl, sym, ap, subst, arith, length}
 use Rattle.std.specs.Prelude.{codes}
 use Rattle.std.specs.Str.{bytes_eq}
 use Rattle.fd_language.specs.Term.{Name}
@@ -7,19 +7,12 @@ use Rattle.fd_language.specs.PlacedTerm.{PlacedTerm, comp}
 use Rattle.fd_model.specs.Refusals.{fact, form_of, part_count}
 use Rattle.term_pool.specs.declared.TermId.{TermId}
 use Rattle.term_pool.specs.PlacedTerms.{parts_by}
-use Rattle.term_pool.proofs.Lemmas.{same_text}
 use Rattle.text_warnings.specs.Clauses.{goals_in}
+use Rattle.term_pool.proofs.Lemmas.{other_name}
 
 pub count_parts : (by : TermId → PlacedTerm) (ts : List TermId) → part_count (parts_by by ts) ≡ length ts
 count_parts by [] = refl
 count_parts by (t ∷ ts) = ap suc (count_parts by ts)
-
-other_name : (f g : Name) → (f ≡ g → ⊥) → bytes_eq f g ≡ false
-other_name f g h = go (bytes_eq f g) refl
-  where
-    go : (b : Bool) → bytes_eq f g ≡ b → b ≡ false
-    go true e = absurd (h (same_text f g e))
-    go false e = refl
 
 -- those of three parts and more are facts
 fact_of_three : (f : Name) (p : ℕ) (by : TermId → PlacedTerm) (ts : List TermId) → 3 ≤ length ts → form_of (comp f p (parts_by by ts)) ≡ fact (comp f p (parts_by by ts))

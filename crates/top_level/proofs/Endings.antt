@@ -1,6 +1,6 @@
 -- How a run ends, from what its last call says.
 use Rattle.std.proofs.Common.{◌≡◌, ℕ, ◌+◌, ◌<◌, ◌≤◌, ◌⊎◌, inl, inr, List, [], ◌++◌, length, Option, Some, None, IsSome, refl, ap, sym, subst, ◌∙◌, arith, codes}
-use Rattle.std.proofs.Common.{Bool, true, false, true≢false, length-append, append-nil}
+use Rattle.std.proofs.Common.{Bool, true, false, true≢false}
 use Rattle.std.specs.Prelude.{Result, Ok, Err, IfOk, is_none}
 use Rattle.fd_language.specs.declared.NoMemory.{NoMemory as OutOfMemory}
 use Rattle.fd_language.specs.declared.TheConstants.{INFINITY}
@@ -21,13 +21,15 @@ use Rattle.text_verdict.specs.declared.judgement.Verdict.TheVariants as verdict
 use Rattle.top_level.specs.Headline.{Headline, IsDecided, IsText, reads_source}
 use Rattle.top_level.specs.OutputPieces.{OutputPieces, TextPieces}
 use Rattle.text_output.specs.Endings.{Ending}
-use Rattle.text_output.specs.Pieces.{HandedEnding, VerdictPieces, lines_of}
+use Rattle.byte_ports.specs.Lines.{lines_of}
+use Rattle.text_output.specs.Pieces.{HandedEnding, VerdictPieces}
 use Rattle.text_output.proofs.Lemmas.{no_memory, no_pieces}
 use Rattle.text_verdict.specs.Verdicts.{verdict_of, IsVerdictOn}
 use Rattle.text_verdict.proofs.Lemmas.{large_verdict}
 use Rattle.top_level.proofs.OneOutput.{one_output, verdict_output, large_output}
 use Rattle.top_level.proofs.OutputPieces.{of_output, verdict_pieces}
 use Rattle.std.specs.List.{concat}
+use Rattle.byte_ports.proofs.Lemmas.{whole_text, front_text, just_front, within_front, none_took}
 
 -- ---- verdicts
 
@@ -49,28 +51,6 @@ pub large_verdicts : (N : ℕ) (text : List ℕ) (v : Result Verdict OutOfMemory
     → IfOk v (λ v. (pool : Contents) × (v ≡ verdict.Refused max_text TooLarge pool)) → IfOk v (IsVerdictOn N text)
 large_verdicts N text (Ok v) l h = subst (IsVerdictOn N text) (sym h.1) (record { names = tt; verdict = large_verdict INFINITY N text l })
 large_verdicts N text (Err e) l h = tt
-
--- ---- texts
-
--- a text that was read to the end
-pub whole_text : (a b : Option (List ℕ)) (text : List ℕ) → Took a b text → IsAtEnd b → IsSome b → a ≡ Some text
-whole_text a None text t e s = absurd (cc (s))
-whole_text a (Some rest) text t e s = t ∙ ap (λ (r : List ℕ). Some (text ++ r)) e ∙ ap Some (append-nil text)
-
--- a text of which n bytes were read
-pub front_text : (a b : Option (List ℕ)) (n : ℕ) → ReadJust a b n → (text : List ℕ) × (IsSome b → a ≡ Some text) × (n ≤ length text)
-front_text a None n h = (h.0, (λ s. absurd (cc (s))), (let l = h.1 in omega (arith, l)))
-front_text a (Some rest) n h = (h.0 ++ rest, (λ s. h.2), (let l = h.1 in let k = length-append h.0 rest in omega (arith, l, k)))
-
-pub just_front : (a b : Option (List ℕ)) (n : ℕ) → ReadJust a b n → (front : List ℕ) × Took a b front
-just_front a b n h = (h.0, h.2)
-
-pub within_front : (a b : Option (List ℕ)) (n : ℕ) → ReadWithin a b n → (front : List ℕ) × Took a b front
-within_front a b n h = (h.0, h.2)
-
-none_took : (a : Option (List ℕ)) → (front : List ℕ) × Took a a front
-none_took None = ([], tt)
-none_took (Some x) = ([], refl)
 
 -- ---- the headline
 

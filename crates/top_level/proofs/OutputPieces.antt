@@ -5,8 +5,10 @@ use Rattle.fd_model.specs.declared.Status.{Status}
 use Rattle.fd_model.specs.Output.{Options, Output, TextOutput, VerdictOutput, refusal, usage}
 use Rattle.fd_model.specs.Verdict.{Verdict, accepted, refused, IsVerdict}
 use Rattle.text_verdict.proofs.Lemmas.{one_verdict}
-use Rattle.text_output.specs.Pieces.{VerdictPieces, lines_of}
-use Rattle.text_output.proofs.Lemmas.{joined_lines, query_pieces}
+use Rattle.byte_ports.specs.Lines.{lines_of}
+use Rattle.text_output.specs.Pieces.{VerdictPieces}
+use Rattle.byte_ports.proofs.Lemmas.{joined_lines}
+use Rattle.text_output.proofs.Lemmas.{query_pieces}
 use Rattle.top_level.specs.OutputPieces.{OutputPieces, TextPieces}
 
 -- ---- each output has its pieces

@@ -3,7 +3,8 @@ use Rattle.std.specs.Prelude.{◌≡◌, ℕ, List, Option, Some, None}
 use Rattle.fd_model.specs.declared.Status.{Status}
 use Rattle.fd_model.specs.Output.{Options, IsSummary, usage}
 use Rattle.fd_model.specs.Verdict.{Verdict, IsVerdict}
-use Rattle.text_output.specs.Pieces.{VerdictPieces, lines_of}
+use Rattle.byte_ports.specs.Lines.{lines_of}
+use Rattle.text_output.specs.Pieces.{VerdictPieces}
 
 abbrev pub TextPieces : ℕ → Options → Option ℕ → List ℕ → List (List ℕ) → Type 0
 TextPieces M o None text pieces = (v : Verdict) × IsVerdict M o.infinity text v × VerdictPieces M o.infinity v o.steps o.answers pieces

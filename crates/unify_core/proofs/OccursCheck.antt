@@ -24,10 +24,7 @@ use Rattle.unify_core.specs.Touches.{IsSymbolic}
 use Rattle.unify_core.specs.OccursCheck.{compounds, OccursAmong, LeavesAhead, IsOther, IsAbsentAmong}
 use Rattle.unify_core.specs.Outcome.{TellsOccurs, IsInfinite}
 use Rattle.unify_core.proofs.PairReduction.{IsCompound, compound_term_is}
-
-or_assoc : (a b c : Bool) → ((a || b) || c) ≡ (a || (b || c))
-or_assoc true b c = refl
-or_assoc false b c = refl
+use Rattle.std.proofs.Math.Bool.{or_assoc}
 
 occurs_any-append : (v : ℕ) (by : Cell → Term) (cs ds : List Cell) → occurs_any v (terms_by by (cs ++ ds)) ≡ (occurs_any v (terms_by by cs) || occurs_any v (terms_by by ds))
 occurs_any-append v by [] ds = refl

@@ -1,8 +1,7 @@
 -- What one pair comes to, by what its cells are at their roots.
-use Rattle.std.proofs.Common.{◌≡◌, ℕ, ℤ, ◌<◌, Bool, true, false, not, ◌==◌, refl, ap, sym, ◌∙◌, subst, arith, inl, inr, List, [], ◌∷◌, ◌++◌, length, eqb-true}
-use Rattle.std.proofs.Common.{eq-eqb, Bor}
+use Rattle.std.proofs.Common.{◌≡◌, ℕ, ℤ, ◌<◌, Bool, true, false, ◌==◌, refl, ap, sym, ◌∙◌, subst, arith, inl, inr, List, [], ◌∷◌, ◌++◌, length}
+use Rattle.std.proofs.Common.{Bor}
 use Rattle.std.specs.Prelude.{Result, Ok, Err}
-use Rattle.std.proofs.lemmas.Bool.{false≢true, not-false}
 use Rattle.term_pool.specs.declared.AtomId.{AtomId}
 use Rattle.fd_language.specs.Term.{Term, Var, Int, Atom, Comp, Substitution, apply, apply_all}
 use Rattle.heap_cells.specs.declared.Cell.{Cell}
@@ -174,9 +173,3 @@ module _ (h : Cells) (valid : IsHeap h) (ps : List Pair) (p : Pair) (left right 
     λ e. n (let q : name f ≡ name g = cc in o f g q) (same_count u (term_of name h) (term_of name h) cs ds
         (let q : apply_all u (terms_by (term_of name h) cs) ≡ apply_all u (terms_by (term_of name h) ds) = cc in q)),
   ))
-
-pub atom_same : (f g : AtomId) (b : Bool) → b ≡ not (f.number == g.number) → b ≡ false → f ≡ g
-atom_same f g b e n = let q : f.number ≡ g.number = eqb-true f.number g.number (not-false (f.number == g.number) (sym e ∙ n)) in ap (λ k. let a : AtomId = record { number = k } in a) q
-
-pub atom_other : (f g : AtomId) (b : Bool) → b ≡ not (f.number == g.number) → b ≡ true → f ≡ g → ⊥
-atom_other f g b e t q = let s : (f.number == g.number) ≡ true = eq-eqb f.number g.number (ap (λ (a : AtomId). a.number) q) in false≢true (sym (ap not s) ∙ sym e ∙ t)

@@ -97,13 +97,13 @@ impl CodeArea {
         &self.parts.ranges[r]
     }
 
-    /// The instruction at a place of the code, as it is kept: tables and ranges by their numbers.
-    #[inline]
-    pub fn code_at(&self, at: usize) -> Code
+    /// The instruction at a place of the code, as it is kept and where it lies: tables and ranges by their numbers.
+    #[inline(always)]
+    pub fn code_at(&self, at: usize) -> &Code
         requires { at < length self.now.code }
-        ensures holds { Holds self.now at result }
-        ensures there { IsThere self.now result }
+        ensures holds { Holds self.now at result.now }
+        ensures there { IsThere self.now result.now }
     {
-        self.parts.code[at]
+        &self.parts.code[at]
     }
 }

@@ -1,7 +1,7 @@
 use Rattle.std.proofs.Common.{rules, ◌≡◌, ◌+◌, ℕ, List, take, drop, length, subst}
 use Rattle.std.specs.Prelude.{MatchResult}
 use Rattle.answer_check.specs.Inputs.{JudgesInput, JudgesText, Lists, Stops}
-use Rattle.answer_check.specs.Lines.{lines_of}
+use Rattle.byte_ports.specs.Lines.{lines_of}
 use Rattle.answer_check.specs.Parts.{query_line}
 use Rattle.answer_check.specs.InputSplit.{IsSplitAt}
 use Rattle.answer_check.proofs.WholeInputs.{parts_judged, reads_so}

@@ -1,4 +1,4 @@
-use Rattle.answer_check.specs.Lines.{lines_of}
+use Rattle.byte_ports.specs.Lines.{lines_of}
 use Rattle.std.proofs.Common.{rules, ◌≡◌, drop, sym, subst, Err}
 use Rattle.std.specs.Prelude.{Result, MatchResult}
 use Rattle.answer_check.specs.declared.listed_answers.Listed.{Listed}

@@ -6,7 +6,8 @@ use Rattle.unify_core.specs.declared.Pair.{Pair}
 use Rattle.unify_core.specs.Outcome.{IsDone}
 use Rattle.unify_core.proofs.PairReduction.{done_same, done_parts, IsCompound}
 use Rattle.unify_core.proofs.PairSteps.{if_true, if_false, same_through, infinite_hopeless, symbolic_hopeless, open_done, linked_done, compound_else}
-use Rattle.unify_core.proofs.PairSteps.{constant_else, compounds_differ, atom_same, atom_other}
+use Rattle.unify_core.proofs.PairSteps.{constant_else, compounds_differ}
+use Rattle.term_pool.proofs.Lemmas.{atom_same, atom_other}
 use Rattle.unify_core.proofs.step.Goals as goal
 use Rattle.unify_core.proofs.step.Goals.{then-ne-via-then-ne, then-ne-via-else-ne+then-some-others}
 

@@ -5,9 +5,10 @@ use Rattle.term_pool.specs.Contents.{atom_name}
 use Rattle.answer_check.specs.declared.listed_answers.Answers.{Answers}
 use Rattle.answer_check.specs.declared.outcome.Stop.{Stop}
 use Rattle.answer_check.specs.declared.outcome.Stop.TheVariants as stop
-use Rattle.answer_check.specs.Lines.{first_line, lines_of}
+use Rattle.byte_ports.specs.Lines.{first_line, lines_of}
 use Rattle.answer_check.specs.Rows.{answer_in, IsRead, FindsRows, StopsRows}
-use Rattle.answer_check.proofs.Lines.{behind_line, rest_longer, slice_end, some_line}
+use Rattle.byte_ports.proofs.Lemmas.{some_line}
+use Rattle.answer_check.proofs.Lines.{behind_line, rest_longer, slice_end}
 use Rattle.answer_check.proofs.RowReading.{answer_count, ends_early, row_more, ends_well, no_memory_rows, no_row, row_read, stands_behind}
 use Rattle.answer_check.proofs.WholeQueries.{as_many, names_shown}
 use Rattle.answer_check.proofs.answers.read_answers.Goals as goal
@@ -16,7 +17,7 @@ pub returns-then-behind-input : goal.returns-then-behind-input
 returns-then-behind-input c = λ f i.
     let input = c.args.input.now in
     let at = c.loop-at.at in
-    let line : c.first_line-line.result.now ≡ first_line (drop at input) = c.first_line-line.ensures ∙ ap first_line (slice_end input at) in
+    let line : c.first_line-line.result.now ≡ first_line (drop at input) = c.first_line-line.ensures.line ∙ ap first_line (slice_end input at) in
     stands_behind f.query _ c.args.from input at c.loop-at.values.items c.loop-at.count (names_shown f c.args.query.now i) (c.loop-at.invariant.read f i)
     c.loop-at-test.true c.first_line-line.result.now line
     (sym c.is_last_line.ensures ∙ c.if-is_last_line.true) c.if-behind-input.true c.bad_answer.result c.bad_answer.ensures
@@ -26,7 +27,7 @@ returns-then-is_last_line c = λ f i.
     let many : vec_len c.args.query.now.names ≡ length c.args.query.now.names.items = search rules in
     let input = c.args.input.now in
     let at = c.loop-at.at in
-    let line : c.first_line-line.result.now ≡ first_line (drop at input) = c.first_line-line.ensures ∙ ap first_line (slice_end input at) in
+    let line : c.first_line-line.result.now ≡ first_line (drop at input) = c.first_line-line.ensures.line ∙ ap first_line (slice_end input at) in
     ends_well f.query _ c.args.from input at c.loop-at.values.items c.loop-at.count (names_shown f c.args.query.now i) (c.loop-at.invariant.read f i)
     c.loop-at-test.true c.first_line-line.result.now line
     (sym c.is_last_line.ensures ∙ c.if-is_last_line.true) c.if-behind-input.false c.len-variables.result (c.len-variables.ensures ∙ many ∙ sym i.variables)
@@ -47,7 +48,7 @@ returns-then-not-branch c = λ f i.
     let at = c.loop-at.at in
     let pool = c.args.query.now.pool in
     let row = c.first_line-line.result.now in
-    let line : row ≡ first_line (drop at input) = c.first_line-line.ensures ∙ ap first_line (slice_end input at) in
+    let line : row ≡ first_line (drop at input) = c.first_line-line.ensures.line ∙ ap first_line (slice_end input at) in
     let read : answer_in (map (atom_name pool) c.deref.result.now) row ≡ None
     = subst (IsRead (answer_in (map (atom_name pool) c.deref.result.now) row) c.loop-at.values.items c.read_answer.new.values.items) c.if-not-branch.true c.in_ok-read_answer.ensures in
     no_row f.query _ c.args.from input at c.loop-at.values.items c.loop-at.count (names_shown f c.args.query.now i) (c.loop-at.invariant.read f i) c.loop-at-test.true row line
@@ -61,7 +62,7 @@ loop-at-preserved c =
     let pool = c.args.query.now.pool in
     let names = c.args.query.now.names.items in
     let row = c.first_line-line.result.now in
-    let line : row ≡ first_line (drop at input) = c.first_line-line.ensures ∙ ap first_line (slice_end input at) in
+    let line : row ≡ first_line (drop at input) = c.first_line-line.ensures.line ∙ ap first_line (slice_end input at) in
     let read = subst (IsRead (answer_in (map (atom_name pool) c.deref.result.now) row) c.loop-at.values.items c.read_answer.new.values.items) c.if-not-branch.false c.in_ok-read_answer.ensures in
     let found = ap (λ ns. answer_in (map (atom_name pool) ns) row) (sym c.deref.ensures.value) ∙ read.1 in
     let some = some_line (drop at input) (rest_longer input at c.loop-at-test.true) in

@@ -1,6 +1,6 @@
 use Rattle.std.proofs.Common.{◌∙◌, ap, pos, ◌-ℤ◌, SFits, to_z-of_z, rules}
 use mir.Syntax.{w128}
-use Rattle.answer_check.proofs.Operators.{up_is, above_zero}
+use Rattle.fd_language.proofs.Lemmas.{up_is, above_zero}
 use Rattle.answer_check.proofs.operand_stack.divide_up.Goals as goal
 
 pub returns-then-b-ne0 : goal.returns-then-b-ne0

@@ -9,7 +9,8 @@ use Rattle.term_pool.proofs.Lemmas.{rest_is_smaller, parts_are_smaller}
 use Rattle.term_pool.specs.PlacedTerms.{placed_of}
 use Rattle.term_reader.proofs.Lemmas.{place_placed}
 use Rattle.answer_check.specs.Queries.{lesser}
-use Rattle.answer_check.proofs.HiddenPlaces.{lower, least_ahead, least_step, least_skip, least_own, hidden_here, shown_here, flat_here}
+use Rattle.answer_check.proofs.HiddenPlaces.{least_ahead, least_step, least_skip, least_own, hidden_here, shown_here, flat_here}
+use Rattle.fd_language.proofs.Lemmas.{lower}
 use Rattle.answer_check.proofs.query.hidden_place.Goals as goal
 
 pub loop-next-smaller-then-is_hidden : goal.loop-next-smaller-then-is_hidden

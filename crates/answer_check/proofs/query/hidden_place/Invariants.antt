@@ -5,7 +5,8 @@ use Rattle.term_pool.specs.Contents.{atom_name}
 use Rattle.term_pool.specs.Terms.{total_size}
 use Rattle.term_pool.specs.PlacedTerms.{placed_of}
 use Rattle.answer_check.specs.FlatForm.{hidden_places}
-use Rattle.answer_check.proofs.HiddenPlaces.{lower, least_ahead}
+use Rattle.answer_check.proofs.HiddenPlaces.{least_ahead}
+use Rattle.fd_language.proofs.Lemmas.{lower}
 use Rattle.answer_check.proofs.query.hidden_place.Given as goal
 
 abbrev pub invariant-loop-next : goal.invariant-loop-next

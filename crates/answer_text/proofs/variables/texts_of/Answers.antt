@@ -5,7 +5,8 @@ use Rattle.fd_language.specs.Variables.{variables_of, distinct}
 use Rattle.term_pool.specs.Terms.{term_of}
 use Rattle.answer_text.specs.Pieces.{inserted}
 use Rattle.answer_text.specs.Variables.{open_by, set_by, AreTexts, GiveTexts}
-use Rattle.answer_text.proofs.VariableNumbers.{inserted_distinct, has_distinct, numbers_of}
+use Rattle.answer_text.proofs.VariableNumbers.{inserted_distinct, numbers_of}
+use Rattle.fd_language.proofs.Lemmas.{has_distinct}
 use Rattle.answer_text.proofs.Texts.{texts_found}
 use Rattle.answer_text.proofs.variables.texts_of.Goals as goal
 

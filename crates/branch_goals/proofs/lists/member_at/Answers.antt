@@ -1,4 +1,4 @@
-use Rattle.std.proofs.Common.{◌≡◌, ◌∙◌, ap, sym, subst, Some, None, pos, rules, w64, of_z, to_z}
+use Rattle.std.proofs.Common.{◌≡◌, ◌∙◌, ap, sym, subst, Ok, Some, None, pos, rules, w64, of_z, to_z}
 use Rattle.std.proofs.lemmas.Int.{to_z-of_z}
 use borrow.Author.Rules.{sfits_of}
 use Rattle.range_code.specs.Frames.{family_of}
@@ -22,7 +22,7 @@ returns-in-Some g c = λ name.
     let s = c.in-Constrained.ensures.seen in
     let is : only (family_of (g.V.View.sets c.args.view.now) c.in-Constrained.k) ≡ Some c.in-Some.value = ap only (sym c.domain.ensures) ∙ sym c.only_value.ensures ∙ c.in-Some.is in
     let fits : to_z w64 (of_z w64 c.from.result) ≡ pos c.in-Some.value = search rules in
-    subst (λ z. IsMemberOf name c.args.heap.now.now (g.V.View.sets c.args.view.now) c.args.at (Some (Fixed z))) (sym fits)
+    subst (λ z. IsMemberOf name c.args.heap.now.now (g.V.View.sets c.args.view.now) c.args.at (Ok (Fixed z))) (sym fits)
     (member_fixed name c.args.heap.now.now c.deref.ensures.valid (g.V.View.sets c.args.view.now) c.args.at c.in-Constrained.field-0 c.in-Constrained.k c.in-Some.value s.1 s.2 is)
 
 pub returns-in-None : goal.returns-in-None
@@ -34,7 +34,7 @@ returns-in-None g c = λ name.
 
 pub returns-in-Int : goal.returns-in-Int
 returns-in-Int g c = λ name.
-    subst (λ z. IsMemberOf name c.args.heap.now.now (g.V.View.sets c.args.view.now) c.args.at (Some (Fixed z)))
+    subst (λ z. IsMemberOf name c.args.heap.now.now (g.V.View.sets c.args.view.now) c.args.at (Ok (Fixed z)))
     (sym (to_z-of_z w64 c.in-Int.z (sfits_of (rw c.in-Int.is at c.deref.type_inv).1.1.1.1.0.1)))
     (member_int name c.args.heap.now.now c.deref.ensures.valid (g.V.View.sets c.args.view.now) c.args.at c.in-Int.z c.in-Int.ensures.seen)
 

@@ -1,6 +1,6 @@
 use Rattle.std.proofs.Common.{sym}
 use Rattle.branch_state.specs.Codes.{bound_range}
-use Rattle.branch_state.proofs.Spelling.{spelled_there}
+use Rattle.bound_search.proofs.Lemmas.{spelled_there}
 use Rattle.branch_state.proofs.codes.bound_code.Goals as goal
 
 pub unwrap-range-requires : goal.unwrap-range-requires

@@ -1,9 +1,11 @@
-use Rattle.std.proofs.Common.{not, ap, sym, ◌∙◌, arith}
-use Rattle.builtin_calls.proofs.Evaluations.{no_opposite, too_many}
+use Rattle.std.proofs.Common.{refl, inl}
+use Rattle.std.proofs.lemmas.Result.{err_from_is_err_and}
 use Rattle.builtin_calls.proofs.evaluation.enter_opposite.Goals as goal
 
-pub returns-then-not-is_minus : goal.returns-then-not-is_minus
-returns-then-not-is_minus c = λ h G. no_opposite c.args.name.now c.args.args.now c.in-len1.len_at_least c.in-len1.len_below (ap not (sym c.is_minus.ensures ∙ c.if-not-is_minus.true))
+pub returns-in_err-only : goal.returns-in_err-only
+returns-in_err-only c =
+    let p = err_from_is_err_and c.from_residual.result c.from_residual.ensures.1 in
+    rw (p.1, p.2, c.in_err-only.ensures.0) (λ h G. c.in_err-only.ensures.1)
 
-pub returns-in_default-2 : goal.returns-in_default-2
-returns-in_default-2 c = λ h G. too_many c.args.name.now c.args.args.now (omega (arith, c.in_default.len_at_least, c.requires))
+pub returns : goal.returns
+returns c = λ h G. inl (c.in_ok-only.only, c.in_ok-only.ensures.0, c.in_ok-only.ensures.1, c.in_ok-push.ensures, refl)

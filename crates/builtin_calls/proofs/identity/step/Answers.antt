@@ -2,7 +2,8 @@ use Rattle.std.proofs.Common.{subst, [], ◌∷◌, ◌++◌, Option, append-nil
 use Rattle.std.specs.Prelude.{reverse, option_to_list}
 use Rattle.domain_ranges.specs.Views.{family_of}
 use Rattle.builtin_calls.specs.Identity.{paired, IsSettled}
-use Rattle.builtin_calls.proofs.TermPairs.{atom_same, atom_other, parts_settled, parts_apart, flat_alike, held_parts}
+use Rattle.builtin_calls.proofs.TermPairs.{parts_settled, parts_apart, flat_alike, held_parts}
+use Rattle.term_pool.proofs.Lemmas.{atom_same, atom_other}
 use Rattle.builtin_calls.specs.declared.identity.Pair.{Pair}
 use Rattle.builtin_calls.proofs.identity.step.Goals as goal
 use Rattle.builtin_calls.proofs.identity.step.Goals.{then-ne-via-then-ne, then-ne-via-else-ne+then-some-others}

@@ -9,7 +9,8 @@ use Rattle.term_pool.proofs.Lemmas.{rest_is_smaller, parts_are_smaller}
 use Rattle.term_pool.specs.PlacedTerms.{placed_of}
 use Rattle.term_reader.proofs.Lemmas.{place_placed}
 use Rattle.clause_check.specs.Terms.{lesser}
-use Rattle.clause_check.proofs.WidePlaces.{lower, least_ahead, own_place, own_then, own_else, least_step, least_skip, flat}
+use Rattle.clause_check.proofs.WidePlaces.{least_ahead, own_place, own_then, own_else, least_step, least_skip, flat}
+use Rattle.fd_language.proofs.Lemmas.{lower}
 use Rattle.clause_check.proofs.arities.wide_place.Goals as goal
 use Rattle.clause_check.proofs.arities.wide_place.Goals.{then-parts-gt-MOST_ARGUMENTS, else-parts-gt-MOST_ARGUMENTS}
 

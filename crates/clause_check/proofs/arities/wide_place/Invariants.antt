@@ -4,7 +4,8 @@ use Rattle.fd_language.specs.Spelling.{least_place}
 use Rattle.fd_model.specs.Refusals.{wide_places}
 use Rattle.term_pool.specs.Terms.{total_size}
 use Rattle.term_pool.specs.PlacedTerms.{placed_of}
-use Rattle.clause_check.proofs.WidePlaces.{lower, least_ahead}
+use Rattle.clause_check.proofs.WidePlaces.{least_ahead}
+use Rattle.fd_language.proofs.Lemmas.{lower}
 use Rattle.clause_check.proofs.arities.wide_place.Given as goal
 
 abbrev pub invariant-loop-next : goal.invariant-loop-next

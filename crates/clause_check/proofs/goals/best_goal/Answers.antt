@@ -1,4 +1,3 @@
-use Rattle.std.proofs.Common.{◌≡◌, Some, sym, ◌∙◌}
 use Rattle.term_pool.specs.PlacedTerms.{placed_of}
 use Rattle.clause_check.proofs.KeptGoals.{ordered, keeps_best}
 use Rattle.clause_check.proofs.goals.best_goal.Goals as goal

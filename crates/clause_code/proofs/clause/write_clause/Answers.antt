@@ -93,13 +93,13 @@ returns-in_ok-execute-in-Some c =
     let n = each_need (clause_in p (clause_at p c.args.c)).body in
     let head = c.write_head.new.code.items in
     let goals = c.write_goals.new.code.items in
-    clause_executes p c.args.predicates.now c.args.homes.now n c.args.c c.requires.homes (known_of p c.known.ensures c.args.c c.requires.clause) c.args.start
+    clause_executes p c.args.predicates.now c.args.homes.now n c.args.c c.requires.homes (known_of p c.known.ensures c.args.c c.requires.clause)
     c.args.code.now.items c.write_head.new.code.items c.write_goals.new.code.items c.execute.new.code.items
     c.body-body.result.from c.body-body.result.to c.in-Some.t c.write_goals.new.made.items c.known.ensures c.in-Some.ensures.some w.within c.in-Some.ensures.call o.1
     (subst AreMade (sym g.made) h.made) (ap length g.made ∙ h.long) (ap (goals_in p) c.body-body.ensures.body)
     (head_begun p c.args.homes.now c.args.c n c.args.slots c.args.levels c.requires.slots c.requires.levels c.pool-pool.result.now c.head.result
     c.pool-pool.ensures c.head.ensures.head c.args.code.now.items head h.code)
-    (subst (λ (l : Levels). Appends head goals (λ js. IsGoalsCode (base_in p c.args.predicates.now) c.args.homes.now true l (c.args.start + length head) js
+    (subst (λ (l : Levels). Appends head goals (λ js. IsGoalsCode (base_in p c.args.predicates.now) c.args.homes.now true l (length head) js
     (goals_in p (record { from = c.body-body.result.from; to = c.body-body.result.to - 1 })))) c.requires.levels g.code)
     (subst (λ (q : Contents). Executes q c.args.predicates.now c.args.homes.now c.write_goals.new.made.items c.in-Some.t c.write_goals.new.code.items
     c.execute.new.code.items) c.pool-pool.ensures c.in_ok-execute-in-Some.ensures)
@@ -112,11 +112,11 @@ returns-in_ok-push-in-None-2 c =
     let goals = c.write_goals-in-None.new.code.items in
     let n = each_need (clause_in p (clause_at p c.args.c)).body in
     let head = c.write_head.new.code.items in
-    clause_proceeds p c.args.predicates.now c.args.homes.now n c.args.c c.requires.homes (known_of p c.known.ensures c.args.c c.requires.clause) c.args.start
+    clause_proceeds p c.args.predicates.now c.args.homes.now n c.args.c c.requires.homes (known_of p c.known.ensures c.args.c c.requires.clause)
     c.args.code.now.items c.write_head.new.code.items goals c.push-in-None.new.self.items
     c.body-body.result.from c.body-body.result.to (ap (goals_in p) c.body-body.ensures.body)
     (head_begun p c.args.homes.now c.args.c n c.args.slots c.args.levels c.requires.slots c.requires.levels c.pool-pool.result.now c.head.result
     c.pool-pool.ensures c.head.ensures.head c.args.code.now.items head h.code)
-    (subst (λ (l : Levels). Appends head goals (λ js. IsGoalsCode (base_in p c.args.predicates.now) c.args.homes.now true l (c.args.start + length head) js
+    (subst (λ (l : Levels). Appends head goals (λ js. IsGoalsCode (base_in p c.args.predicates.now) c.args.homes.now true l (length head) js
     (goals_in p c.body-body.result))) c.requires.levels g.code)
     (c.in_ok-push-in-None-2.ensures.items ∙ ap (λ l. l ++ (Proceed ∷ [])) c.in_ok-push-in-None.ensures.items ∙ append_assoc goals (Deallocate ∷ []) (Proceed ∷ []))

@@ -96,5 +96,5 @@ returns c =
     let written =
     subst (λ (t : TermId). IsShort p.pool ps homes free t c.args.goal old new) c.head-head.ensures.head
     (subst (λ (d : Contents). IsShort d ps homes free c.head-head.result c.args.goal old new) c.pool-pool.ensures c.in_ok-write_short.ensures) in
-    short_written p c.known.ensures ps homes c.args.c c.requires.clause long k free (short_housed homes k free ts us all above) few all.waits c.args.start old
+    short_written p c.known.ensures ps homes c.args.c c.requires.clause long k free (short_housed homes k free ts us all above) few all.waits old
     new c.args.goal c.requires.body fewer all.lands written

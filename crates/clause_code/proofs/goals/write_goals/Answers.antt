@@ -14,8 +14,8 @@ loop-next-init c =
     let b = base_in p c.args.predicates.now in
     let first : Level = record { before = c.args.code.now.items; part = c.args.part; levels = c.args.levels } in
     record {
-      stands = subst (λ (ss : List Side). Stands p b c.args.homes.now c.args.start first ss c.args.code.now.items c.args.part c.args.levels) (sym c.new-sides.ensures.items)
-          (stands_first p c.known.ensures b c.args.homes.now c.args.start c.args.code.now.items c.args.part c.args.levels c.requires.free c.requires.within
+      stands = subst (λ (ss : List Side). Stands p b c.args.homes.now first ss c.args.code.now.items c.args.part c.args.levels) (sym c.new-sides.ensures.items)
+          (stands_first p c.known.ensures b c.args.homes.now c.args.code.now.items c.args.part c.args.levels c.requires.free c.requires.within
           c.requires.below c.requires.codable c.requires.fits);
       same = refl;
       all = c.requires.made;
@@ -29,7 +29,7 @@ write_goal-requires-clause-writable c =
     let b = base_in p c.args.predicates.now in
     let first : Level = record { before = c.args.code.now.items; part = c.args.part; levels = c.args.levels } in
     subst (IsWritable p (length c.args.homes.now)) (sym c.goal-goal.ensures.goal)
-    (stands_writable p c.known.ensures b c.args.homes.now c.args.start first c.loop-next.sides.items c.loop-next.code.items c.loop-next.next.part
+    (stands_writable p c.known.ensures b c.args.homes.now first c.loop-next.sides.items c.loop-next.code.items c.loop-next.next.part
     c.loop-next.next.levels c.loop-next.invariant.stands c.if-next.true).0
 
 pub write_goal-requires-clause-called : goal.write_goal-requires-clause-called
@@ -51,7 +51,7 @@ loop-next-preserved-then-next c =
     let at : c.len-at.result ≡ length c.loop-next.code.items = search rules in
     record {
       stands =
-          entered p c.known.ensures c.args.predicates.now c.args.homes.now c.requires.homes c.args.start c.loop-next.made.items k.all k.long first
+          entered p c.known.ensures c.args.predicates.now c.args.homes.now c.requires.homes c.loop-next.made.items k.all k.long first
           c.loop-next.sides.items c.enter.new.sides.items c.loop-next.code.items c.write_goal.new.code.items c.loop-next.next.part rest
           c.in_ok-next.next.part c.loop-next.next.levels c.in_ok-next.next.levels c.goal-goal.result k.stands
           c.if-next.true (sym c.goal-goal.ensures.goal) refl refl w.code
@@ -78,8 +78,8 @@ leave-requires c =
     let b = base_in p c.args.predicates.now in
     let first : Level = record { before = c.args.code.now.items; part = c.args.part; levels = c.args.levels } in
     let k = c.loop-next.invariant in
-    place_there p c.known.ensures b c.args.homes.now c.args.start first c.pop.new.self.items c.loop-next.code.items c.loop-next.next.part c.loop-next.next.levels c.in-Some.side
-    (subst (λ (ss : List Side). Stands p b c.args.homes.now c.args.start first ss c.loop-next.code.items c.loop-next.next.part c.loop-next.next.levels) c.in-Some.ensures.items k.stands)
+    place_there p c.known.ensures b c.args.homes.now first c.pop.new.self.items c.loop-next.code.items c.loop-next.next.part c.loop-next.next.levels c.in-Some.side
+    (subst (λ (ss : List Side). Stands p b c.args.homes.now first ss c.loop-next.code.items c.loop-next.next.part c.loop-next.next.levels) c.in-Some.ensures.items k.stands)
 
 pub loop-next-preserved : goal.loop-next-preserved
 loop-next-preserved c =
@@ -90,10 +90,10 @@ loop-next-preserved c =
     let l = c.if-next.false in
     record {
       stands =
-          left_behind p c.known.ensures b c.args.homes.now c.args.start c.requires.homes first c.pop.new.self.items c.leave.new.sides.items
+          left_behind p c.known.ensures b c.args.homes.now c.requires.homes first c.pop.new.self.items c.leave.new.sides.items
           c.loop-next.code.items c.leave.new.code.items c.loop-next.next.part c.in_ok-next-2.next.part c.loop-next.next.levels c.in_ok-next-2.next.levels
           c.in-Some.side
-          (subst (λ (ss : List Side). Stands p b c.args.homes.now c.args.start first ss c.loop-next.code.items c.loop-next.next.part c.loop-next.next.levels)
+          (subst (λ (ss : List Side). Stands p b c.args.homes.now first ss c.loop-next.code.items c.loop-next.next.part c.loop-next.next.levels)
           c.in-Some.ensures.items k.stands) (omega arith) c.in_ok-next-2.ensures;
       same = k.same;
       all = k.all;
@@ -104,7 +104,7 @@ loop-next-preserved c =
 pub loop-next-smaller : goal.loop-next-smaller
 loop-next-smaller c =
     let p = c.args.program.now in
-    let less = left_less p c.args.start c.pop.new.self.items c.leave.new.sides.items c.loop-next.code.items c.leave.new.code.items c.loop-next.next.part
+    let less = left_less p c.pop.new.self.items c.leave.new.sides.items c.loop-next.code.items c.leave.new.code.items c.loop-next.next.part
     c.in_ok-next-2.next.part c.loop-next.next.levels c.in_ok-next-2.next.levels c.in-Some.side c.in_ok-next-2.ensures in
     let all = ap (sides_turns p) c.in-Some.ensures.items in
     omega (arith, less, all)
@@ -115,6 +115,6 @@ returns-in_default-clause-code c =
     let b = base_in p c.args.predicates.now in
     let first : Level = record { before = c.args.code.now.items; part = c.args.part; levels = c.args.levels } in
     let none : c.loop-next.sides.items ≡ [] = search rules in
-    stands_last p c.known.ensures b c.args.homes.now c.args.start first c.loop-next.code.items c.loop-next.next.part c.loop-next.next.levels
-    (subst (λ (ss : List Side). Stands p b c.args.homes.now c.args.start first ss c.loop-next.code.items c.loop-next.next.part c.loop-next.next.levels) none
+    stands_last p c.known.ensures b c.args.homes.now first c.loop-next.code.items c.loop-next.next.part c.loop-next.next.levels
+    (subst (λ (ss : List Side). Stands p b c.args.homes.now first ss c.loop-next.code.items c.loop-next.next.part c.loop-next.next.levels) none
     c.loop-next.invariant.stands) c.if-next.false

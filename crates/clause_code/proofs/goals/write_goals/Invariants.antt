@@ -6,7 +6,7 @@ use Rattle.clause_code.proofs.goals.write_goals.Given as goal
 
 abbrev pub invariant-loop-next : goal.invariant-loop-next
 invariant-loop-next l = record {
-  stands : Stands l.program (base_in l.program l.predicates) l.homes l.start (record { before = l.fn.code.items; part = l.fn.part; levels = l.fn.levels })
+  stands : Stands l.program (base_in l.program l.predicates) l.homes (record { before = l.fn.code.items; part = l.fn.part; levels = l.fn.levels })
       l.sides.items l.code.items l.next.part l.next.levels;
   same : l.made.items ≡ l.fn.made.items;
   all : AreMade l.made.items;

@@ -58,13 +58,13 @@ returns c =
     let goals = c.write_goals.new.code.items in
     let h = c.in_ok-read_arguments.ensures in
     let g = c.in_ok-write_goals.ensures in
-    query_written p ps homes slots n c.args.q c.args.start c.args.code.now.items one head goals c.push-2.new.self.items c.requires.frame
+    query_written p ps homes slots n c.args.q c.args.code.now.items one head goals c.push-2.new.self.items c.requires.frame
     (query_known p c.known.ensures c.args.q c.requires.query)
     (c.in_ok-push.ensures.items ∙ ap (λ k. c.args.code.now.items ++ (Allocate k ∷ [])) (c.in_ok-slots.ensures ∙ ap (λ k. slots + k) c.requires.levels))
     (c.in_ok-write_levels.ensures
     ∙ ap (λ is. is ++ levels_code levels) (h.code ∙ ap (λ (q : Contents). one ++ head_code q homes 1 no_terms) c.pool-pool.ensures)
     ∙ append_assoc one (head_code p.pool homes 1 no_terms) (levels_code levels)
     ∙ ap (λ (l : Levels). one ++ (head_code p.pool homes 1 no_terms ++ levels_code l)) behind)
-    (subst (λ (l : Levels). Appends head goals (λ js. IsGoalsCode (base_in p ps) homes true l (c.args.start + length head) js (query_in p (query_at p c.args.q)).goals)) behind
-    (subst (λ (gs : Part). Appends head goals (λ js. IsGoalsCode (base_in p ps) homes true levels (c.args.start + length head) js (goals_in p gs))) c.goals_of-goals.ensures.goals g.code))
+    (subst (λ (l : Levels). Appends head goals (λ js. IsGoalsCode (base_in p ps) homes true l (length head) js (query_in p (query_at p c.args.q)).goals)) behind
+    (subst (λ (gs : Part). Appends head goals (λ js. IsGoalsCode (base_in p ps) homes true levels (length head) js (goals_in p gs))) c.goals_of-goals.ensures.goals g.code))
     c.in_ok-push-2.ensures.items

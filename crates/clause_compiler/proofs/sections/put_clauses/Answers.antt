@@ -1,13 +1,7 @@
-use Rattle.std.proofs.Common.{◌≡◌, ◌+◌, subst, length, arith, ℕ}
-use Rattle.clause_check.specs.Programs.{clause_at, clause_in}
-use Rattle.clause_code.specs.Predicates.{base_in}
-use Rattle.clause_code.specs.SafeCode.{IsClauseCode}
+use Rattle.std.proofs.Common.{◌≡◌, ◌+◌, arith}
 use Rattle.clause_compiler.specs.Sections.{IsClausePiece, its_place}
 use Rattle.clause_compiler.proofs.PieceOffsets.{put_one}
 use Rattle.clause_compiler.proofs.sections.put_clauses.Goals as goal
-
-from_none : (n : ℕ) → 0 + n ≡ n
-from_none n = omega arith
 
 pub loop-clause-preserved : goal.loop-clause-preserved
 loop-clause-preserved c =
@@ -17,7 +11,7 @@ loop-clause-preserved c =
     put_one its_place (IsClausePiece p ps) c.loop-clause.clause c.args.code.now.items c.loop-clause.code.items c.compile_clause.new.code.items
     c.loop-clause.places.items c.push.new.self.items c.loop-clause.invariant
     w.0 c.len-at.result
-    (subst (λ at. IsClauseCode (base_in p ps) at w.0 (clause_in p (clause_at p c.loop-clause.clause))) (from_none (length c.loop-clause.code.items)) w.2)
+    w.2
     (omega arith)
     w.1
     c.in_ok-push.ensures.items

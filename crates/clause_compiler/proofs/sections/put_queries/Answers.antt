@@ -1,16 +1,11 @@
-use Rattle.std.proofs.Common.{◌≡◌, ◌+◌, ◌∙◌, ap, subst, length, arith, ℕ, List, map}
+use Rattle.std.proofs.Common.{◌≡◌, ◌+◌, ◌∙◌, ap, length, arith, ℕ, List, map}
 use Rattle.std.proofs.lemmas.List.{map_push, length-append}
-use Rattle.clause_check.specs.Programs.{query_at, query_in}
+use Rattle.clause_check.specs.Programs.{query_at}
 use Rattle.term_pool.specs.declared.AtomId.{AtomId}
 use Rattle.wam_code.specs.Area.{Span, span_of}
-use Rattle.clause_code.specs.Predicates.{base_in}
-use Rattle.clause_code.specs.SafeCode.{IsQueryPiece}
 use Rattle.clause_compiler.specs.Sections.{IsQueryOf, its_span}
 use Rattle.clause_compiler.proofs.PieceOffsets.{put_one}
 use Rattle.clause_compiler.proofs.sections.put_queries.Goals as goal
-
-from_none : (n : ℕ) → 0 + n ≡ n
-from_none n = omega arith
 
 abbrev span_by : ℕ → ℕ → List AtomId → Span
 span_by at end names = record { at = at; end = end; names = names }
@@ -26,7 +21,7 @@ loop-query-preserved c =
     put_one (its_span p) (IsQueryOf p ps) c.loop-query.query c.args.code.now.items c.loop-query.code.items c.compile_query.new.code.items
     (map span_of c.loop-query.queries.items) (map span_of c.push.new.self.items) c.loop-query.invariant
     w.0 (record { at = c.len-at.result; end = c.len.result; names = c.in_ok-names_of.field-0.items })
-    (subst (λ at. IsQueryPiece (base_in p ps) at w.0 (query_in p (query_at p c.loop-query.query))) (from_none (length c.loop-query.code.items)) w.2)
+    w.2
     (same_span c.len-at.result (length c.loop-query.code.items) c.len.result (length c.loop-query.code.items + length w.0) c.in_ok-names_of.field-0.items (query_at p c.loop-query.query).names
     (omega arith)
     (let more = ap length w.1 in let l = length-append c.loop-query.code.items w.0 in omega (arith, more, l))

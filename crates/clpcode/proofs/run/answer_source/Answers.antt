@@ -6,7 +6,8 @@ use Rattle.fd_model.specs.declared.Status.TheVariants.{Refused}
 use Rattle.byte_ports.specs.Ports.{Took}
 use Rattle.byte_ports.specs.Ends.{Ends, ends}
 use Rattle.byte_ports.proofs.Lemmas.{stays}
-use Rattle.clpcode.proofs.Texts.{text_read, text_large, just_front, within_front}
+use Rattle.clpcode.proofs.Texts.{text_read, text_large}
+use Rattle.byte_ports.proofs.Lemmas.{just_front, within_front}
 use Rattle.clpcode.proofs.Endings.{with_read, with_answer, with_short, with_fault}
 use Rattle.clpcode.proofs.Listings.{large, large_output}
 use Rattle.clpcode.proofs.run.answer_source.Goals as goal

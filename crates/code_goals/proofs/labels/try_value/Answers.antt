@@ -4,7 +4,7 @@ use Rattle.fd_language.proofs.Lemmas.{has_high}
 use Rattle.heap_cells.specs.declared.Cell.TheVariants as cell
 use Rattle.code_safety.specs.CellEquations.{Equates}
 use Rattle.code_goals.proofs.Labelling.{later, tried_none, value_tried, open_kept}
-use Rattle.code_goals.proofs.Numbers.{values_step}
+use Rattle.domain_ranges.proofs.Lemmas.{values_step}
 use Rattle.code_goals.proofs.labels.try_value.Goals as goal
 
 pub overflow_add-others : goal.overflow_add-others

@@ -12,7 +12,7 @@ use Rattle.code_listing.proofs.write.put_places.Goals as goal
 pub loop-index-preserved : goal.loop-index-preserved
 loop-index-preserved c =
     let s = c.index-states-index.result in
-    let i = c.code_at.result in
+    let i = c.code_at.result.now in
     let ts = c.args.area.now.tables in
     let t0 = c.loop-index.text.items in
     let t1 = c.put_place.new.text.items in

@@ -2,8 +2,9 @@ use Rattle.std.proofs.Common.{rules, sym, ◌∙◌, subst, ℤ, FitsSigned}
 use Rattle.std.specs.Prelude.{MatchResult}
 use Rattle.std.specs.Int.{w64}
 use Rattle.std.proofs.lemmas.Int.{to_z-of_z}
+use Rattle.fd_model.specs.Linear.{product_of}
 use Rattle.linear_forms.specs.Shares.{OverflowsBy}
-use Rattle.linear_forms.specs.Sums.{Multiplies, ExceedsTimes}
+use Rattle.linear_forms.specs.Sums.{Gives, Multiplies, ExceedsTimes}
 use Rattle.linear_forms.proofs.SumArithmetic.{product_left, product_right, product_none}
 use Rattle.linear_forms.proofs.sums.multiply.Goals as goal
 
@@ -22,5 +23,6 @@ returns-then-is_constant-2 c = λ s t lo m hi p q.
     (to_z-of_z w64 c.args.right.constant f) c.times-then-is_constant-2.ensures)
 
 pub returns : goal.returns
-returns c = λ s t lo m hi p q. product_none c.args.left c.args.right s t lo m hi p q (sym c.is_constant.ensures ∙ c.if-is_constant.false)
-    (sym c.is_constant-else-is_constant.ensures ∙ c.if-is_constant-2.false)
+returns c = λ s t lo m hi p q. subst (Gives (product_of s t) lo hi) (sym c.nonlinear.ensures)
+    (product_none c.args.left c.args.right s t lo m hi p q (sym c.is_constant.ensures ∙ c.if-is_constant.false)
+    (sym c.is_constant-else-is_constant.ensures ∙ c.if-is_constant-2.false))

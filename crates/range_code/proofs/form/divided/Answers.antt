@@ -1,7 +1,7 @@
 use Rattle.std.proofs.Common.{rules, ◌∙◌, ap, sym, subst, pos, ◌-ℤ◌, SFits, to_z-of_z}
 use mir.Syntax.{w64}
 use Rattle.range_code.specs.Forms.{divided, IsPositive}
-use Rattle.range_code.proofs.Operators.{up_is}
+use Rattle.fd_language.proofs.Lemmas.{up_is}
 use Rattle.range_code.proofs.form.divided.Goals as goal
 
 pub returns-in-Up : goal.returns-in-Up

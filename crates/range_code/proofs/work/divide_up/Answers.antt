@@ -1,6 +1,6 @@
 use Rattle.std.proofs.Common.{◌∙◌, ap, pos, ◌-ℤ◌, SFits, to_z-of_z, rules}
 use mir.Syntax.{w128}
-use Rattle.range_code.proofs.Operators.{up_is, above_zero}
+use Rattle.fd_language.proofs.Lemmas.{up_is, above_zero}
 use Rattle.range_code.proofs.work.divide_up.Goals as goal
 
 pub returns-then-b-ne0 : goal.returns-then-b-ne0

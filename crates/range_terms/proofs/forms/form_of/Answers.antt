@@ -12,7 +12,7 @@ use Rattle.term_pool.specs.Contents as pool
 use Rattle.term_pool.specs.Contents.{Contents, atom_name}
 use Rattle.term_pool.specs.PlacedTerms.{placed_of, parts_by}
 use Rattle.range_terms.specs.TermNodes.{Wanted, wanted}
-use Rattle.range_terms.specs.Forms.{IsForm, IsNumber}
+use Rattle.range_terms.specs.Forms.{IsRangeForm, IsNumber}
 use Rattle.range_terms.specs.declared.forms.RangeForm.TheVariants as form
 use Rattle.range_terms.proofs.Steps.{at_shape}
 use Rattle.range_terms.proofs.Positions.{a_parameter, an_integer, the_infinity, no_atom}
@@ -29,8 +29,8 @@ returns-in-Int c = λ s p shape place.
     let l = c.args.operand.position in
     let fits : FitsSigned w64 c.in-Int.integer = subst IsStorable c.in-Int.ensures.term (term_is_storable c.args.pool.now c.in-Int.ensures.valid c.args.operand.term c.requires) in
     at_shape c.args.infinity c.args.pool.now c.in-Int.ensures.valid c.args.operand s (pool.int c.in-Int.integer) p c.number_form-in-Int.result c.in-Int.ensures.shape shape place
-    (subst (λ (z : ℤ). ((k : ℕ) (x : Contents) (w : Wanted) (q : ℕ) → IsNumber l (node.Int z) q w → IsForm k x w q [] c.number_form-in-Int.result)
-    → IsForm c.args.infinity c.args.pool.now (wanted c.args.infinity l (int c.in-Int.integer p)) p [] c.number_form-in-Int.result)
+    (subst (λ (z : ℤ). ((k : ℕ) (x : Contents) (w : Wanted) (q : ℕ) → IsNumber l (node.Int z) q w → IsRangeForm k x w q [] c.number_form-in-Int.result)
+    → IsRangeForm c.args.infinity c.args.pool.now (wanted c.args.infinity l (int c.in-Int.integer p)) p [] c.number_form-in-Int.result)
     (sym (to_z-of_z w64 c.in-Int.integer fits))
     (λ f. f c.args.infinity c.args.pool.now (wanted c.args.infinity l (int c.in-Int.integer p)) p (an_integer c.args.infinity l c.in-Int.integer p)) c.number_form-in-Int.ensures)
 
@@ -57,5 +57,5 @@ returns-in-Comp c = λ s p shape place.
     let l = c.args.operand.position in
     let now = c.args.pool.now in
     at_shape c.args.infinity now c.in-Comp.ensures.valid c.args.operand s (pool.comp c.in-Comp.atom c.in-Comp.parts.now) p c.compound_form.result c.in-Comp.ensures.shape shape place
-    (subst (λ (n : Name). IsForm c.args.infinity now (wanted c.args.infinity l (comp n p (parts_by (placed_of now) c.in-Comp.parts.now))) p c.in-Comp.parts.now
+    (subst (λ (n : Name). IsRangeForm c.args.infinity now (wanted c.args.infinity l (comp n p (parts_by (placed_of now) c.in-Comp.parts.now))) p c.in-Comp.parts.now
     c.compound_form.result) c.name_of-in-Comp.ensures.name (c.compound_form.ensures c.args.infinity p))

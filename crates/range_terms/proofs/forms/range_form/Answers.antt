@@ -3,7 +3,7 @@ use Rattle.fd_language.specs.PlacedTerm.{comp}
 use Rattle.term_pool.specs.declared.TermId.{TermId}
 use Rattle.term_pool.specs.PlacedTerms.{placed_of, parts_by}
 use Rattle.range_terms.specs.TermNodes.{wanted}
-use Rattle.range_terms.specs.Forms.{IsForm}
+use Rattle.range_terms.specs.Forms.{IsRangeForm}
 use Rattle.range_terms.specs.declared.forms.Position.TheVariants as place_in
 use Rattle.range_terms.proofs.Positions.{empty_nowhere, several_nowhere}
 use Rattle.term_pool.proofs.Lemmas.{one_part, two_parts}
@@ -11,12 +11,12 @@ use Rattle.range_terms.proofs.forms.range_form.Goals as goal
 
 pub returns-in-len1 : goal.returns-in-len1
 returns-in-len1 c = λ N p.
-    subst (λ (ts : List TermId). IsForm N c.args.pool.now (wanted N place_in.Range (comp c.args.name.now p (parts_by (placed_of c.args.pool.now) ts))) p ts c.single_range_form.result)
+    subst (λ (ts : List TermId). IsRangeForm N c.args.pool.now (wanted N place_in.Range (comp c.args.name.now p (parts_by (placed_of c.args.pool.now) ts))) p ts c.single_range_form.result)
     (sym (one_part c.args.parts.now (record { number = 0 }) c.in-len1.len_at_least c.in-len1.len_below)) (c.single_range_form.ensures N p)
 
 pub returns-in-len2 : goal.returns-in-len2
 returns-in-len2 c = λ N p.
-    subst (λ (ts : List TermId). IsForm N c.args.pool.now (wanted N place_in.Range (comp c.args.name.now p (parts_by (placed_of c.args.pool.now) ts))) p ts c.double_range_form.result)
+    subst (λ (ts : List TermId). IsRangeForm N c.args.pool.now (wanted N place_in.Range (comp c.args.name.now p (parts_by (placed_of c.args.pool.now) ts))) p ts c.double_range_form.result)
     (sym (two_parts c.args.parts.now (record { number = 0 }) (record { number = 0 }) c.in-len2.len_at_least c.in-len2.len_below)) (c.double_range_form.ensures N p)
 
 pub returns-in-empty : goal.returns-in-empty

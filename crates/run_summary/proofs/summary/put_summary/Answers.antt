@@ -2,7 +2,8 @@ use Rattle.std.proofs.Common.{ℕ, List, ◌∙◌, subst}
 use Rattle.fd_model.specs.declared.Status.{Status}
 use Rattle.byte_ports.specs.Ends.{sink_at}
 use Rattle.text_output.specs.Endings.{Ending}
-use Rattle.text_output.specs.Pieces.{HandedEnding, lines_of}
+use Rattle.byte_ports.specs.Lines.{lines_of}
+use Rattle.text_output.specs.Pieces.{HandedEnding}
 use Rattle.text_output.proofs.Lemmas.{no_pieces, without_memory}
 use Rattle.run_summary.proofs.summary.put_summary.Goals as goal
 

@@ -1,7 +1,7 @@
 use Rattle.std.proofs.Common.{List, sym, subst}
 use Rattle.std.proofs.Common.{◌∙◌}
 use Rattle.term_pool.specs.declared.TermId.{TermId}
-use Rattle.term_writer.specs.Pieces.{IsForm}
+use Rattle.term_writer.specs.Pieces.{IsCompoundForm}
 use Rattle.term_pool.proofs.Lemmas.{two_parts}
 use Rattle.term_writer.proofs.Forms.{call_none, call_one, call_more}
 use Rattle.term_writer.proofs.pieces.form_of.Goals as goal
@@ -11,7 +11,7 @@ returns-else-eq c = call_one c.args.name.now c.args.parts.now (sym c.eq.ensures 
 
 pub returns-in-len2 : goal.returns-in-len2
 returns-in-len2 c =
-    subst (λ (ts : List TermId). IsForm c.args.name.now ts c.pair_form.result)
+    subst (λ (ts : List TermId). IsCompoundForm c.args.name.now ts c.pair_form.result)
     (sym (two_parts c.args.parts.now (record { number = 0 }) (record { number = 0 }) c.in-len2.len_at_least c.in-len2.len_below)) c.pair_form.ensures
 
 pub returns-in-empty : goal.returns-in-empty

@@ -4,7 +4,7 @@ use Rattle.std.specs.Str.{bytes_eq}
 use Rattle.std.proofs.lemmas.List.Elements.{All-weaker}
 use Rattle.fd_language.specs.Term.{Name}
 use Rattle.term_writer.specs.declared.pieces.CompoundForm.TheVariants as form
-use Rattle.term_writer.specs.Pieces.{IsForm}
+use Rattle.term_writer.specs.Pieces.{IsCompoundForm}
 use Rattle.term_pool.specs.Contents.{atom_name}
 use Rattle.term_writer.proofs.Rests.{rest_var, rest_int, rest_nil, rest_atom, rest_curly, rest_operation, rest_call, rest_list}
 use Rattle.term_writer.proofs.terms.rest_of.Goals as goal
@@ -28,18 +28,18 @@ returns-in-Cell c =
     let n = length c.args.pool.now.entries in
     let all = All-weaker (λ t. t.number < c.args.t.number) (λ t. t.number < n) (λ t h. omega arith) c.in-Comp.parts.now c.in-Comp.ensures.within.1 in
     rest_list c.args.pool.now c.args.t (atom_name c.args.pool.now c.in-Comp.atom) c.in-Comp.parts.now c.in-Comp.ensures.term c.in-Cell.first c.in-Cell.rest all
-    (subst (λ (n : Name). IsForm n c.in-Comp.parts.now (form.Cell c.in-Cell.first c.in-Cell.rest)) c.name_of-in-Comp.ensures.name c.in-Cell.ensures)
+    (subst (λ (n : Name). IsCompoundForm n c.in-Comp.parts.now (form.Cell c.in-Cell.first c.in-Cell.rest)) c.name_of-in-Comp.ensures.name c.in-Cell.ensures)
 
 pub returns-in-Curly : goal.returns-in-Curly
 returns-in-Curly c = rest_curly c.args.pool.now c.args.t (atom_name c.args.pool.now c.in-Comp.atom) c.in-Comp.parts.now c.in-Comp.ensures.term
-    c.in-Curly.field-0 (subst (λ (n : Name). IsForm n c.in-Comp.parts.now (form.Curly c.in-Curly.field-0)) c.name_of-in-Comp.ensures.name c.in-Curly.ensures)
+    c.in-Curly.field-0 (subst (λ (n : Name). IsCompoundForm n c.in-Comp.parts.now (form.Curly c.in-Curly.field-0)) c.name_of-in-Comp.ensures.name c.in-Curly.ensures)
 
 pub returns-in-Infix : goal.returns-in-Infix
 returns-in-Infix c = rest_operation c.args.pool.now c.args.t (atom_name c.args.pool.now c.in-Comp.atom) c.in-Comp.parts.now c.in-Comp.ensures.term
     c.in-Infix.field-0 c.in-Infix.field-1 c.in-Infix.field-2
-    (subst (λ (n : Name). IsForm n c.in-Comp.parts.now (form.Infix c.in-Infix.field-0 c.in-Infix.field-1 c.in-Infix.field-2)) c.name_of-in-Comp.ensures.name
+    (subst (λ (n : Name). IsCompoundForm n c.in-Comp.parts.now (form.Infix c.in-Infix.field-0 c.in-Infix.field-1 c.in-Infix.field-2)) c.name_of-in-Comp.ensures.name
     c.in-Infix.ensures)
 
 pub returns-in-Call : goal.returns-in-Call
 returns-in-Call c = rest_call c.args.pool.now c.args.t (atom_name c.args.pool.now c.in-Comp.atom) c.in-Comp.parts.now c.in-Comp.ensures.term
-    (subst (λ (n : Name). IsForm n c.in-Comp.parts.now (form.Call)) c.name_of-in-Comp.ensures.name c.in-Call.ensures)
+    (subst (λ (n : Name). IsCompoundForm n c.in-Comp.parts.now (form.Call)) c.name_of-in-Comp.ensures.name c.in-Call.ensures)

@@ -3,9 +3,10 @@ use Rattle.fd_model.specs.declared.Status.{Status}
 use Rattle.byte_ports.specs.Ends.{SinkState, sink_at, WroteAll}
 use Rattle.text_output.specs.declared.fault.Fault.{Fault}
 use Rattle.text_output.specs.Endings.{CutBy, fault_status}
-use Rattle.text_output.specs.Pieces.{HandedEnding, lines_of}
+use Rattle.byte_ports.specs.Lines.{lines_of}
+use Rattle.text_output.specs.Pieces.{HandedEnding}
 use Rattle.text_output.proofs.Endings.{all_ending, front_ending}
-use Rattle.text_output.proofs.Lines.{joined_lines}
+use Rattle.byte_ports.proofs.Lemmas.{joined_lines}
 use Rattle.text_output.proofs.output_lines.put_last.Goals as goal
 
 pub returns-in-Ok-clause-ending : goal.returns-in-Ok-clause-ending

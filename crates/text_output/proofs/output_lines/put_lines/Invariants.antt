@@ -1,5 +1,6 @@
 use Rattle.std.proofs.Common.{◌≡◌, ◌++◌, ℕ, List, length}
-use Rattle.text_output.specs.Pieces.{GaveAll, lines_of, sink_seen}
+use Rattle.byte_ports.specs.Lines.{lines_of}
+use Rattle.text_output.specs.Pieces.{GaveAll, sink_seen}
 use Rattle.text_output.proofs.output_lines.put_lines.Given as goal
 
 abbrev pub invariant-lines : goal.invariant-lines

@@ -7,7 +7,8 @@ use Rattle.text_verdict.specs.declared.judgement.Verdict.{Verdict}
 use Rattle.text_verdict.specs.Verdicts.{verdict_of}
 use Rattle.byte_ports.specs.Ends.{SinkState, sink_at}
 use Rattle.text_output.specs.Endings.{Ending, WroteOutput}
-use Rattle.text_output.specs.Pieces.{HandedEnding, VerdictPieces, lines_of}
+use Rattle.byte_ports.specs.Lines.{lines_of}
+use Rattle.text_output.specs.Pieces.{HandedEnding, VerdictPieces}
 use Rattle.text_output.proofs.Endings.{without_memory}
 use Rattle.text_output.proofs.output_lines.put_output.Goals as goal
 

@@ -4,7 +4,8 @@ use Rattle.term_reader.specs.Sentences.{sentence_of}
 use Rattle.text_warnings.specs.Warnings as model
 use Rattle.text_warnings.specs.Warnings.{singles, singles_in}
 use Rattle.text_warnings.specs.WarningViews.{Adds}
-use Rattle.text_warnings.proofs.AddedWarnings.{adds_then, sentences_more, flat_map_push}
+use Rattle.text_warnings.proofs.AddedWarnings.{adds_then, flat_map_push}
+use Rattle.term_reader.proofs.Lemmas.{sentences_more}
 use Rattle.text_warnings.proofs.singleton_variables.put_singles.Goals as goal
 
 pub loop-sentence-preserved : goal.loop-sentence-preserved

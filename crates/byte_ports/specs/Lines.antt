@@ -1,4 +1,4 @@
--- The lines of an input.
+-- The lines of a text of bytes.
 use Rattle.std.specs.Prelude.{ℕ, ◌==◌, Bool, List, [], ◌∷◌, if◌then◌else◌}
 use Rattle.std.specs.List.{onto_first}
 
