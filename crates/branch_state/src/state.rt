@@ -159,7 +159,7 @@ impl<A: Agenda + Drop> BranchState<A> {
     }
 
     /// A new variable of the heap, which is open. After an error the branch isn't used any more.
-    #[inline]
+    #[inline(always)]
     pub fn new_var(&mut self) -> Result<Cell, NoMemory>
         requires sound { IsSound self.old }
         ensures id { IfOk result (λ c. c ≡ cell.Ref (length self.old.heaps.now.slots)) }

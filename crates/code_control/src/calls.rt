@@ -21,7 +21,7 @@ use wam_code::CodeArea;
 /// Calls the predicate with the number `e`: the place behind becomes the newest continuation, with the slots of the frame, the number of
 /// choice points is noted, and the registers of the arguments are kept alone. The result is where the predicate begins; the error is
 /// want of memory.
-#[inline]
+#[inline(always)]
 pub fn call<A: Agenda + Drop>(
     code: &CodeArea,
     at: usize,
@@ -49,7 +49,7 @@ pub fn call<A: Agenda + Drop>(
 
 /// Calls the predicate with the number `e` as the clause's last goal: the number of choice points is noted, and the registers of the
 /// arguments are kept alone. The result is where it begins. No memory.
-#[inline]
+#[inline(always)]
 pub fn execute<A: Agenda + Drop>(
     code: &CodeArea,
     at: usize,
@@ -74,7 +74,7 @@ pub fn execute<A: Agenda + Drop>(
 }
 
 /// Ends a clause. The result is the place of the newest continuation, whose slots are the current ones then; the error is want of memory.
-#[inline]
+#[inline(always)]
 pub fn proceed<A: Agenda + Drop>(
     code: &CodeArea,
     at: usize,

@@ -142,7 +142,7 @@ pub(crate) fn next_choice<A: Agenda + Drop>(
 
 /// The choice to begin with: at a new one the first that `next_choice` finds, and else the one at the place, since the choice point that
 /// led there was left for a clause that may match. No memory.
-#[inline]
+#[inline(always)]
 fn first_choice<A: Agenda + Drop>(
     code: &CodeArea,
     at: usize,
@@ -164,7 +164,7 @@ fn first_choice<A: Agenda + Drop>(
 
 /// Takes a choice: a clause is tried, at a new choice the first that may match, and later, from a new choice point, those behind it, if
 /// any of them may. The machine goes back where none may. The error is want of memory.
-#[inline]
+#[inline(always)]
 pub fn choose<A: Agenda + Drop>(
     code: &CodeArea,
     at: usize,

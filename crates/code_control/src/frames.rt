@@ -17,7 +17,7 @@ use propagate_queue::Agenda;
 use wam_code::CodeArea;
 
 /// Begins a frame of `n` slots, of which none is set. The result is the next place; the error is want of memory.
-#[inline]
+#[inline(always)]
 pub fn allocate<A: Agenda + Drop>(
     code: &CodeArea,
     at: usize,
@@ -40,7 +40,7 @@ pub fn allocate<A: Agenda + Drop>(
 }
 
 /// Gives the current frame up. The result is the next place. No memory.
-#[inline]
+#[inline(always)]
 pub fn deallocate<A: Agenda + Drop>(
     code: &CodeArea,
     at: usize,

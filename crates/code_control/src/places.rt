@@ -6,7 +6,7 @@ ghost use Rattle.wam_code.specs.Area.{HasEntry};
 use wam_code::{CodeArea, Entry};
 
 /// The predicate with this number.
-#[inline]
+#[inline(always)]
 pub(crate) fn entry_of(code: &CodeArea, e: usize) -> Entry
     requires { e < length code.now.entries }
     ensures { HasEntry code.now e result }

@@ -39,7 +39,7 @@ fn first_seen<'a, A: Agenda + Drop>(
 }
 
 /// The place of the four that is for what is seen of the first argument. No memory.
-#[inline]
+#[inline(always)]
 fn arm_for<A: Agenda + Drop>(
     code: &CodeArea,
     at: usize,
@@ -64,7 +64,7 @@ fn arm_for<A: Agenda + Drop>(
 }
 
 /// Where the jump at a place leads, or the place where none stands there. No memory.
-#[inline]
+#[inline(always)]
 fn past_jump<A: Agenda + Drop>(
     code: &CodeArea,
     at: usize,
@@ -86,7 +86,7 @@ fn past_jump<A: Agenda + Drop>(
 
 /// Goes on at `v` where the first argument is a variable, at `c` where it is an atom, at `i` where it is an integer, and at `s` where it is
 /// a structure; where a jump stands there, where that leads. The result is that place, and what is seen of the first argument. No memory.
-#[inline]
+#[inline(always)]
 pub fn switch_on_term<'a, A: Agenda + Drop>(
     code: &CodeArea,
     at: usize,
@@ -113,7 +113,7 @@ pub fn switch_on_term<'a, A: Agenda + Drop>(
 }
 
 /// The place for a variable, an atom, an integer or a structure.
-#[inline]
+#[inline(always)]
 fn place_for(seen: Seen<'_>, v: usize, c: usize, i: usize, s: usize) -> usize
     ensures { result ≡ place_for seen.entry v c i s }
 {
@@ -126,7 +126,7 @@ fn place_for(seen: Seen<'_>, v: usize, c: usize, i: usize, s: usize) -> usize
 }
 
 /// Goes on where the row leads, of the table with this number, whose key is the first argument, or back where there is none. No memory.
-#[inline]
+#[inline(always)]
 pub fn switch_on_constant<A: Agenda + Drop>(
     code: &CodeArea,
     at: usize,
@@ -147,7 +147,7 @@ pub fn switch_on_constant<A: Agenda + Drop>(
 }
 
 /// The same for an integer.
-#[inline]
+#[inline(always)]
 pub fn switch_on_integer<A: Agenda + Drop>(
     code: &CodeArea,
     at: usize,
@@ -168,7 +168,7 @@ pub fn switch_on_integer<A: Agenda + Drop>(
 }
 
 /// The same for a structure, by its name and the number of its arguments.
-#[inline]
+#[inline(always)]
 pub fn switch_on_structure<A: Agenda + Drop>(
     code: &CodeArea,
     at: usize,

@@ -406,7 +406,7 @@ impl Heap {
     }
 
     /// A new variable, which is open. The error is want of memory, and the heap is then as before.
-    #[inline]
+    #[inline(always)]
     pub fn new_var(&mut self) -> Result<Cell, NoMemory>
         ensures id { IfOk result (λ c. c ≡ cell.Ref (length self.old.now.slots)) }
         ensures added { OnOk result (self.new ≡ with_now self.old (with_new_slot self.old.now)) }

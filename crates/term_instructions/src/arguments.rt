@@ -18,7 +18,7 @@ pub(crate) enum Argument {
 }
 
 /// What the instruction at a place gives.
-#[inline]
+#[inline(always)]
 pub(crate) fn argument_at(code: &CodeArea, at: usize) -> Argument
     requires there { at < length code.now.code }
     requires unify { IsUnifyAt code.now at }

@@ -22,7 +22,7 @@ use wam_code::{CodeArea, Register};
 
 /// A head's argument that is a variable met first: the register takes the argument's cell. The
 /// result is the next place; the error is want of memory.
-#[inline]
+#[inline(always)]
 pub fn get_variable<A: Agenda + Drop>(
     code: &CodeArea,
     at: usize,
@@ -47,6 +47,7 @@ pub fn get_variable<A: Agenda + Drop>(
 /// Makes an argument equal to what the register holds, and tells the store; `touches` is lent for
 /// that. The result is the next place, or back where they can't be equal; the error is want of
 /// memory.
+#[inline(always)]
 pub fn get_value<A: Agenda + Drop>(
     code: &CodeArea,
     at: usize,
@@ -71,6 +72,7 @@ pub fn get_value<A: Agenda + Drop>(
 }
 
 /// Makes an argument equal to an atom, as `get_value` does.
+#[inline(always)]
 pub fn get_constant<A: Agenda + Drop>(
     code: &CodeArea,
     at: usize,
@@ -94,6 +96,7 @@ pub fn get_constant<A: Agenda + Drop>(
 }
 
 /// Makes an argument equal to an integer, as `get_value` does.
+#[inline(always)]
 pub fn get_integer<A: Agenda + Drop>(
     code: &CodeArea,
     at: usize,

@@ -21,6 +21,7 @@ use wam_code::{CodeArea, Register};
 
 /// A goal's argument that is a new variable, which both registers take. The result is the next
 /// place; the error is want of memory.
+#[inline(always)]
 pub fn put_variable<A: Agenda + Drop>(
     code: &CodeArea,
     at: usize,
@@ -46,7 +47,7 @@ pub fn put_variable<A: Agenda + Drop>(
 
 /// A goal's argument is what a register holds. The result is the next place; the error is want of
 /// memory.
-#[inline]
+#[inline(always)]
 pub fn put_value<A: Agenda + Drop>(
     code: &CodeArea,
     at: usize,
@@ -69,7 +70,7 @@ pub fn put_value<A: Agenda + Drop>(
 }
 
 /// A goal's argument is an atom, as in `put_value`.
-#[inline]
+#[inline(always)]
 pub fn put_constant<A: Agenda + Drop>(
     code: &CodeArea,
     at: usize,
@@ -91,7 +92,7 @@ pub fn put_constant<A: Agenda + Drop>(
 }
 
 /// A goal's argument is an integer, as in `put_value`.
-#[inline]
+#[inline(always)]
 pub fn put_integer<A: Agenda + Drop>(
     code: &CodeArea,
     at: usize,

@@ -195,7 +195,7 @@ pub(crate) fn look_at_arguments<A: Agenda + Drop>(
 }
 
 /// Where reading goes on, if two cells were equal.
-#[inline]
+#[inline(always)]
 fn reading_if(equal: bool, to: ReadPosition) -> Option<ReadPosition>
     ensures { result ≡ (if equal then Some to else None) }
 {
@@ -204,7 +204,7 @@ fn reading_if(equal: bool, to: ReadPosition) -> Option<ReadPosition>
 
 /// Reads the next argument, or those that one instruction leaves out. `None` comes where it can't
 /// be what the code gives. The error is want of memory.
-#[inline]
+#[inline(always)]
 fn read_argument<A: Agenda + Drop>(
     code: &CodeArea,
     from: ReadPosition,
@@ -254,6 +254,7 @@ fn read_argument<A: Agenda + Drop>(
 
 /// Reads all arguments, and gives the place behind their instructions. `None` comes where they
 /// can't be what the code gives. The error is want of memory.
+#[inline(always)]
 pub(crate) fn read_arguments<A: Agenda + Drop>(
     code: &CodeArea,
     from: ReadPosition,

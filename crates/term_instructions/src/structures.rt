@@ -223,6 +223,7 @@ fn build_argument<A: Agenda + Drop>(
 /// Matches a head's argument with a structure, whose arguments come with the unify group behind: a
 /// structure that is there is read, and for a variable one is built. `scratch` is lent. The result
 /// is the place behind all, or back where they can't be equal; the error is want of memory.
+#[inline(always)]
 pub fn get_structure<A: Agenda + Drop>(
     code: &CodeArea,
     at: usize,
@@ -380,6 +381,7 @@ fn put_arguments<A: Agenda + Drop>(
 /// A goal's argument is a structure, which the register takes; its arguments come with the unify
 /// group behind. `cells` is lent to gather them. The result is the place behind all; the error is
 /// want of memory.
+#[inline(always)]
 pub fn put_structure<A: Agenda + Drop>(
     code: &CodeArea,
     at: usize,
