@@ -1,10 +1,11 @@
 -- The generator's texts are programs with one query.
-use Rattle.std.proofs.Common.{◌≡◌, ◌≤◌, ℕ, zero, suc, ◌+◌, Bool, List, true, false, [], ◌∷◌, length, take, drop, map, refl, sym, ap, subst, Option, Some, None}
+use Rattle.std.proofs.Common.{◌≡◌, ◌≤◌, ℕ, zero, suc, ◌+◌, Bool, List, true, false, [], ◌∷◌, length, take, drop, map, refl, sym, ap, ◌∙◌, subst, Option, Some, None}
 use Rattle.std.proofs.Common.{arith, inr}
-use Rattle.std.specs.Prelude.{reverse, nat_lt, ◌&&◌}
+use Rattle.std.specs.Prelude.{reverse, nat_lt, nat_le, nat_eq, is_none, ◌&&◌}
 use Rattle.std.specs.Fmt.{digits}
 use Rattle.std.specs.Str.{chars, IsAscii}
-use Rattle.std.proofs.lemmas.Bool.{ltb-true, and_parts}
+use Rattle.std.proofs.lemmas.Bool.{ltb-true, leb-true, eqb-true, and_parts}
+use Rattle.std.proofs.lemmas.List.{reverse-reverse}
 use Rattle.std.proofs.lemmas.Str.{IsUtf8-from_ascii}
 use Rattle.fd_language.specs.Characters.{is_symbol, is_punct, begins_variable}
 use Rattle.fd_language.specs.Operators.{is_operator, infix_of, prefix_of}
@@ -15,11 +16,11 @@ use Rattle.fd_language.specs.Tokens.{Lexeme, Front, Ends, Gap, Token, Offends, f
 use Rattle.fd_language.specs.GrammarFaults.{deepest, brackets, open_behind, IsShallow, IsRead}
 use Rattle.fd_language.specs.PlacedTerm.{PlacedTerm}
 use Rattle.fd_language.specs.Reading.{terminals, Sentence, sentences, sentence_names, IsSentences}
-use Rattle.fd_language.specs.ReadingSteps.{State, want, top, run}
+use Rattle.fd_language.specs.ReadingSteps.{State, want, at_list, at_curly_bracket, at_operator, after, top, paren, args, items, tail, curly, before, between, run}
 use Rattle.fd_model.specs.Generator.{queens_text}
 use Rattle.fd_model.specs.Goal.{Program, Query}
 use Rattle.fd_model.specs.Queries.{program_of}
-use Rattle.fd_model.specs.Refusals.{first_refusal}
+use Rattle.fd_model.specs.Refusals.{Refusal, first_refusal}
 use Rattle.fd_model.specs.Verdict.{IsVerdict, accepted, max_text, sentences_verdict}
 use Rattle.term_reader.proofs.Lemmas.{sound}
 use Rattle.ucd_derived.proofs.Computing.{ucd_derived}
@@ -92,24 +93,10 @@ shallow ts few j le = let a = brackets_few 0 (take j ts) in let b = length_take 
 
 -- ---- the sentences
 
-abbrev read_terms : Option State → List PlacedTerm
-read_terms None = []
-read_terms (Some (want (top ts))) = ts
-read_terms (Some s) = []
-
 abbrev paired : List PlacedTerm → List (List Name) → List Sentence
 paired [] ns = []
 paired (t ∷ ts) [] = []
 paired (t ∷ ts) (n ∷ ns) = record { term = t; names = n } ∷ paired ts ns
-
-abbrev lexemes_of : List ℕ → List Lexeme
-lexemes_of text = (lex 300 0 true text).tokens
-
-abbrev terms_in : List ℕ → List PlacedTerm
-terms_in text = read_terms (run (terminals [] (lexemes_of text)) (want (top [])))
-
-abbrev sentences_in : List ℕ → List Sentence
-sentences_in text = paired (reverse (terms_in text)) (sentence_names [] (lexemes_of text))
 
 abbrev one_query : List Query → Bool
 one_query (q ∷ []) = true
@@ -119,73 +106,85 @@ abbrev all_ascii : List ℕ → Bool
 all_ascii [] = true
 all_ascii (c ∷ cs) = nat_lt c 128 && all_ascii cs
 
--- all that a text has to pass, computed
-pub record Passes (text : List ℕ) : Type 0 where
-  pub size : length text ≤ max_text
-  pub ascii : all_ascii text ≡ true
-  pub ends : front_of (lex 300 0 true text).rest ≡ Ends
-  pub reads : run (terminals [] (lexemes_of text)) (want (top [])) ≡ Some (want (top (terms_in text)))
-  pub few : length (terminals [] (lexemes_of text)) ≤ deepest
-  pub terms : reverse (map (λ s. s.term) (sentences_in text)) ≡ terms_in text
-  pub names : map (λ s. s.names) (sentences_in text) ≡ sentence_names [] (lexemes_of text)
-  pub refusal : (M N : ℕ) → first_refusal M N (map (λ s. s.term) (sentences_in text)) (map (λ s. s.term) (sentences_in text)) ≡ None
-  pub query : (N : ℕ) → one_query (program_of N (sentences_in text)).queries ≡ true
+abbrev is_end : Front → Bool
+is_end Ends = true
+is_end (Gap k) = false
+is_end (Token kind k) = false
+is_end (Offends cause k) = false
 
-four : Passes (queens_text 4)
-unfolding front_of chars is_symbol is_punct begins_variable ucd_derived digits is_operator infix_of prefix_of
-four = record { size = omega arith; ascii = refl; ends = refl; reads = refl; few = omega arith; terms = refl; names = refl; refusal = λ M N. refl; query = λ N. refl }
+abbrev sentences_pass : ℕ → ℕ → List Sentence → Bool
+sentences_pass M N ss = is_none (first_refusal M N (map (λ s. s.term) ss) (map (λ s. s.term) ss)) && one_query (program_of N ss).queries
 
-five : Passes (queens_text 5)
-unfolding front_of chars is_symbol is_punct begins_variable ucd_derived digits is_operator infix_of prefix_of
-five = record { size = omega arith; ascii = refl; ends = refl; reads = refl; few = omega arith; terms = refl; names = refl; refusal = λ M N. refl; query = λ N. refl }
+-- the terms read in all of a text, with the names of its sentences
+abbrev terms_pass : ℕ → ℕ → List (List Name) → Option State → Bool
+terms_pass M N ns (Some (want (top ts))) = nat_eq (length (reverse ts)) (length ns) && sentences_pass M N (paired (reverse ts) ns)
+terms_pass M N ns s = false
 
-six : Passes (queens_text 6)
-unfolding front_of chars is_symbol is_punct begins_variable ucd_derived digits is_operator infix_of prefix_of
-six = record { size = omega arith; ascii = refl; ends = refl; reads = refl; few = omega arith; terms = refl; names = refl; refusal = λ M N. refl; query = λ N. refl }
+abbrev terminals_pass : ℕ → ℕ → List (List Name) → List Terminal → Bool
+terminals_pass M N ns ts = nat_le (length ts) deepest && terms_pass M N ns (run ts (want (top [])))
 
-seven : Passes (queens_text 7)
-unfolding front_of chars is_symbol is_punct begins_variable ucd_derived digits is_operator infix_of prefix_of
-seven = record { size = omega arith; ascii = refl; ends = refl; reads = refl; few = omega arith; terms = refl; names = refl; refusal = λ M N. refl; query = λ N. refl }
+abbrev tokens_pass : ℕ → ℕ → Lexed → Bool
+tokens_pass M N l = is_end (front_of l.rest) && terminals_pass M N (sentence_names [] l.tokens) (terminals [] l.tokens)
 
-eight : Passes (queens_text 8)
-unfolding front_of chars is_symbol is_punct begins_variable ucd_derived digits is_operator infix_of prefix_of
-eight = record { size = omega arith; ascii = refl; ends = refl; reads = refl; few = omega arith; terms = refl; names = refl; refusal = λ M N. refl; query = λ N. refl }
+-- all that a text has to pass, computed at once: what stands in an argument is computed once
+abbrev passes : ℕ → ℕ → List ℕ → Bool
+passes M N text = nat_le (length text) max_text && (all_ascii text && tokens_pass M N (lex 300 0 true text))
 
-nine : Passes (queens_text 9)
+four : (M N : ℕ) → passes M N (queens_text 4) ≡ true
 unfolding front_of chars is_symbol is_punct begins_variable ucd_derived digits is_operator infix_of prefix_of
-nine = record { size = omega arith; ascii = refl; ends = refl; reads = refl; few = omega arith; terms = refl; names = refl; refusal = λ M N. refl; query = λ N. refl }
+four M N = refl
 
-ten : Passes (queens_text 10)
+five : (M N : ℕ) → passes M N (queens_text 5) ≡ true
 unfolding front_of chars is_symbol is_punct begins_variable ucd_derived digits is_operator infix_of prefix_of
-ten = record { size = omega arith; ascii = refl; ends = refl; reads = refl; few = omega arith; terms = refl; names = refl; refusal = λ M N. refl; query = λ N. refl }
+five M N = refl
 
-eleven : Passes (queens_text 11)
+six : (M N : ℕ) → passes M N (queens_text 6) ≡ true
 unfolding front_of chars is_symbol is_punct begins_variable ucd_derived digits is_operator infix_of prefix_of
-eleven = record { size = omega arith; ascii = refl; ends = refl; reads = refl; few = omega arith; terms = refl; names = refl; refusal = λ M N. refl; query = λ N. refl }
+six M N = refl
 
-twelve : Passes (queens_text 12)
+seven : (M N : ℕ) → passes M N (queens_text 7) ≡ true
 unfolding front_of chars is_symbol is_punct begins_variable ucd_derived digits is_operator infix_of prefix_of
-twelve = record { size = omega arith; ascii = refl; ends = refl; reads = refl; few = omega arith; terms = refl; names = refl; refusal = λ M N. refl; query = λ N. refl }
+seven M N = refl
+
+eight : (M N : ℕ) → passes M N (queens_text 8) ≡ true
+unfolding front_of chars is_symbol is_punct begins_variable ucd_derived digits is_operator infix_of prefix_of
+eight M N = refl
+
+nine : (M N : ℕ) → passes M N (queens_text 9) ≡ true
+unfolding front_of chars is_symbol is_punct begins_variable ucd_derived digits is_operator infix_of prefix_of
+nine M N = refl
+
+ten : (M N : ℕ) → passes M N (queens_text 10) ≡ true
+unfolding front_of chars is_symbol is_punct begins_variable ucd_derived digits is_operator infix_of prefix_of
+ten M N = refl
+
+eleven : (M N : ℕ) → passes M N (queens_text 11) ≡ true
+unfolding front_of chars is_symbol is_punct begins_variable ucd_derived digits is_operator infix_of prefix_of
+eleven M N = refl
+
+twelve : (M N : ℕ) → passes M N (queens_text 12) ≡ true
+unfolding front_of chars is_symbol is_punct begins_variable ucd_derived digits is_operator infix_of prefix_of
+twelve M N = refl
 
 -- each of the generator's texts passes
-pub each_passes : (n : ℕ) → 4 ≤ n → n ≤ 12 → Passes (queens_text n)
-each_passes zero least most = absurd (omega (arith, least))
-each_passes (suc zero) least most = absurd (omega (arith, least))
-each_passes (suc (suc zero)) least most = absurd (omega (arith, least))
-each_passes (suc (suc (suc zero))) least most = absurd (omega (arith, least))
-each_passes (suc (suc (suc (suc zero)))) least most = four
-each_passes (suc (suc (suc (suc (suc zero))))) least most = five
-each_passes (suc (suc (suc (suc (suc (suc zero)))))) least most = six
-each_passes (suc (suc (suc (suc (suc (suc (suc zero))))))) least most = seven
-each_passes (suc (suc (suc (suc (suc (suc (suc (suc zero)))))))) least most = eight
-each_passes (suc (suc (suc (suc (suc (suc (suc (suc (suc zero))))))))) least most = nine
-each_passes (suc (suc (suc (suc (suc (suc (suc (suc (suc (suc zero)))))))))) least most = ten
-each_passes (suc (suc (suc (suc (suc (suc (suc (suc (suc (suc (suc zero))))))))))) least most = eleven
-each_passes (suc (suc (suc (suc (suc (suc (suc (suc (suc (suc (suc (suc zero)))))))))))) least most = twelve
-each_passes (suc (suc (suc (suc (suc (suc (suc (suc (suc (suc (suc (suc (suc n))))))))))))) least most = absurd (omega (arith, most))
+each_passes : (M N n : ℕ) → 4 ≤ n → n ≤ 12 → passes M N (queens_text n) ≡ true
+each_passes M N zero least most = absurd (omega (arith, least))
+each_passes M N (suc zero) least most = absurd (omega (arith, least))
+each_passes M N (suc (suc zero)) least most = absurd (omega (arith, least))
+each_passes M N (suc (suc (suc zero))) least most = absurd (omega (arith, least))
+each_passes M N (suc (suc (suc (suc zero)))) least most = four M N
+each_passes M N (suc (suc (suc (suc (suc zero))))) least most = five M N
+each_passes M N (suc (suc (suc (suc (suc (suc zero)))))) least most = six M N
+each_passes M N (suc (suc (suc (suc (suc (suc (suc zero))))))) least most = seven M N
+each_passes M N (suc (suc (suc (suc (suc (suc (suc (suc zero)))))))) least most = eight M N
+each_passes M N (suc (suc (suc (suc (suc (suc (suc (suc (suc zero))))))))) least most = nine M N
+each_passes M N (suc (suc (suc (suc (suc (suc (suc (suc (suc (suc zero)))))))))) least most = ten M N
+each_passes M N (suc (suc (suc (suc (suc (suc (suc (suc (suc (suc (suc zero))))))))))) least most = eleven M N
+each_passes M N (suc (suc (suc (suc (suc (suc (suc (suc (suc (suc (suc (suc zero)))))))))))) least most = twelve M N
+each_passes M N (suc (suc (suc (suc (suc (suc (suc (suc (suc (suc (suc (suc (suc n))))))))))))) least most = absurd (omega (arith, most))
 
 pub queens_short : (n : ℕ) → 4 ≤ n → n ≤ 12 → length (queens_text n) ≤ max_text
-queens_short n least most = (each_passes n least most).size
+queens_short n least most = leb-true (length (queens_text n)) max_text (and_parts (nat_le (length (queens_text n)) max_text) _ (each_passes 0 0 n least most)).0
 
 ascii_at : (bs : List ℕ) → all_ascii bs ≡ true → IsAscii bs
 ascii_at [] h i = omega arith
@@ -204,22 +203,84 @@ only_query [] h = absurd (cc)
 only_query (q ∷ []) h = (q, refl)
 only_query (q ∷ p ∷ qs) h = absurd (cc)
 
+none_left : (o : Option Refusal) → is_none o ≡ true → o ≡ None
+none_left None h = refl
+none_left (Some r) h = absurd (cc)
+
+at_end : (f : Front) → is_end f ≡ true → f ≡ Ends
+at_end Ends h = refl
+at_end (Gap k) h = absurd (cc)
+at_end (Token kind k) h = absurd (cc)
+at_end (Offends cause k) h = absurd (cc)
+
+-- terms and names, one of each for a sentence
+paired_terms : (ts : List PlacedTerm) (ns : List (List Name)) → length ts ≡ length ns → map (λ s. s.term) (paired ts ns) ≡ ts
+paired_terms [] ns e = refl
+paired_terms (t ∷ ts) [] e = absurd (omega (arith, e))
+paired_terms (t ∷ ts) (n ∷ ns) e = ap (λ l. t ∷ l) (paired_terms ts ns (omega (arith, e)))
+
+paired_names : (ts : List PlacedTerm) (ns : List (List Name)) → length ts ≡ length ns → map (λ s. s.names) (paired ts ns) ≡ ns
+paired_names [] [] e = refl
+paired_names [] (n ∷ ns) e = absurd (omega (arith, e))
+paired_names (t ∷ ts) [] e = absurd (omega (arith, e))
+paired_names (t ∷ ts) (n ∷ ns) e = ap (λ l. n ∷ l) (paired_names ts ns (omega (arith, e)))
+
+-- what is read where the terms pass
+record AllRead (M N : ℕ) (ns : List (List Name)) (s : Option State) : Type 0 where
+  pub terms : List PlacedTerm
+  pub read : s ≡ Some (want (top terms))
+  pub even : length (reverse terms) ≡ length ns
+  pub pass : sentences_pass M N (paired (reverse terms) ns) ≡ true
+
+all_read : (M N : ℕ) (ns : List (List Name)) (s : Option State) → terms_pass M N ns s ≡ true → AllRead M N ns s
+all_read M N ns None h = absurd (cc)
+all_read M N ns (Some (want (top ts))) h =
+    let both = and_parts (nat_eq (length (reverse ts)) (length ns)) (sentences_pass M N (paired (reverse ts) ns)) h in
+    record { terms = ts; read = refl; even = eqb-true (length (reverse ts)) (length ns) both.0; pass = both.1 }
+all_read M N ns (Some (want (paren s))) h = absurd (cc)
+all_read M N ns (Some (want (args p o l s))) h = absurd (cc)
+all_read M N ns (Some (want (items p l s))) h = absurd (cc)
+all_read M N ns (Some (want (tail p l s))) h = absurd (cc)
+all_read M N ns (Some (want (curly p s))) h = absurd (cc)
+all_read M N ns (Some (want (before p o q s))) h = absurd (cc)
+all_read M N ns (Some (want (between p o t s))) h = absurd (cc)
+all_read M N ns (Some (at_list p s)) h = absurd (cc)
+all_read M N ns (Some (at_curly_bracket p s)) h = absurd (cc)
+all_read M N ns (Some (at_operator p o s)) h = absurd (cc)
+all_read M N ns (Some (after c s t)) h = absurd (cc)
+
 -- a text that passes is a program with one query
-pub passed : (M N : ℕ) (text : List ℕ) → Passes text → OneQuery M N text
+passed : (M N : ℕ) (text : List ℕ) → passes M N text ≡ true → OneQuery M N text
 passed M N text p =
-    let ss = sentences_in text in
-    let ls = lexemes_of text in
-    let ts = terminals [] ls in
-    let read : IsRead ts (terms_in text) = record { text = sound ts (terms_in text) p.reads; shallow = shallow ts p.few } in
-    let reading : IsSentences text ss = record { lexemes = ls; tokens = lexed 300 0 true text p.ends; terms = subst (IsRead ts) (sym p.terms) read; names = p.names } in
-    let only = only_query (program_of N ss).queries (p.query N) in
+    let l = lex 300 0 true text in
+    let ts = terminals [] l.tokens in
+    let ns = sentence_names [] l.tokens in
+    let sized = and_parts (nat_le (length text) max_text) (all_ascii text && tokens_pass M N l) p in
+    let plain = and_parts (all_ascii text) (tokens_pass M N l) sized.1 in
+    let ends = and_parts (is_end (front_of l.rest)) (terminals_pass M N ns ts) plain.1 in
+    let few = and_parts (nat_le (length ts) deepest) (terms_pass M N ns (run ts (want (top [])))) ends.1 in
+    let r = all_read M N ns (run ts (want (top []))) few.1 in
+    let ss = paired (reverse r.terms) ns in
+    let same_terms : map (λ s. s.term) ss ≡ reverse r.terms = paired_terms (reverse r.terms) ns r.even in
+    let turned : reverse (map (λ s. s.term) ss) ≡ r.terms = ap reverse same_terms ∙ reverse-reverse r.terms in
+    let read : IsRead ts r.terms = record { text = sound ts r.terms r.read; shallow = shallow ts (leb-true (length ts) deepest few.0) } in
+    let reading : IsSentences text ss =
+    record {
+      lexemes = l.tokens;
+      tokens = lexed 300 0 true text (at_end (front_of l.rest) ends.0);
+      terms = subst (IsRead ts) (sym turned) read;
+      names = paired_names (reverse r.terms) ns r.even;
+    } in
+    let kept = and_parts (is_none (first_refusal M N (map (λ s. s.term) ss) (map (λ s. s.term) ss))) (one_query (program_of N ss).queries) r.pass in
+    let only = only_query (program_of N ss).queries kept.1 in
+    let refusal : first_refusal M N (map (λ s. s.term) ss) (map (λ s. s.term) ss) ≡ None = none_left _ kept.0 in
     record {
       program = program_of N ss;
       query = only.0;
-      verdict = inr (inr (p.size, IsUtf8-from_ascii text (ascii_at text p.ascii), (sentences ss, reading, sym (ap (sentences_verdict N ss) (p.refusal M N)))));
+      verdict = inr (inr (leb-true (length text) max_text sized.0, IsUtf8-from_ascii text (ascii_at text plain.0), (sentences ss, reading, sym (ap (sentences_verdict N ss) refusal))));
       one = only.1;
     }
 
 -- the generator's texts are programs with one query
 pub queens_program : (M N n : ℕ) → 4 ≤ n → n ≤ 12 → OneQuery M N (queens_text n)
-queens_program M N n least most = passed M N (queens_text n) (each_passes n least most)
+queens_program M N n least most = passed M N (queens_text n) (each_passes M N n least most)
