@@ -49,6 +49,10 @@ atoms 0; ranges 0; entries 0; queries 0; code 0 | 0
 atoms 00; ranges 0; entries 0; queries 0; code 0 | refused at line 2: bad line; 3
 atoms 1; 'p'; ranges 0; entries 0; queries 0; code 0 | refused at line 3: bad line; 3
 atoms 0; ranges 0; entries 0; queries 0; code 0; x | refused at line 7: bad line; 3
+atoms 0; ranges 0; entries 0; queries 0; code 1; - - 0 Level x1 | refused at line 7: bad line; 3
+atoms 0; ranges 1; min  0; entries 0; queries 0; code 0 | refused at line 4: bad line; 3
+atoms 18446744073709551615 | refused at line 3: bad line; 3
+atoms 18446744073709551616 | refused at line 2: bad line; 3
 atoms 2; p; p; ranges 0; entries 0; queries 0; code 0 | refused at line 4: bad number; 3
 atoms 1; '..'; ranges 0; entries 0; queries 0; code 0 | refused at line 3: bad number; 3
 atoms 0; ranges 1; min 1 one; entries 0; queries 0; code 0 | refused at line 4: bad number; 3

@@ -15,8 +15,6 @@ mod read_words;
 mod sections;
 mod sheet;
 mod split;
-#[cfg(test)]
-mod tests;
 
 pub use crate::fault::SheetFault;
 pub use crate::read::{one_sheet, read_sheet};
