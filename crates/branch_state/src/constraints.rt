@@ -71,6 +71,25 @@ fn arguments(pool: &Pool, t: TermId) -> &[TermId]
     }
 }
 
+/// What a constraint becomes whose goal is this term. Fresh variables are those from `fresh` on.
+fn expand_read(
+    alloc: Global,
+    terms: &Pool,
+    kind: ConstraintKind,
+    goal: TermId,
+    fresh: usize,
+) -> Result<Expansion, ExpandFault>
+    requires own { goal.number < length terms.now.entries }
+    ensures row { Expands (expanded INFINITY kind (arguments_of (pool_term terms.now goal)) fresh)
+        result }
+    ensures words { IfOk result (λ x. AreWords x.equated) }
+{
+    if fresh >= LIMIT || goal.number >= LIMIT {
+        return Err(ExpandFault::NoMemory);
+    }
+    expand(alloc, terms, kind, arguments(terms, goal), fresh as u64)
+}
+
 /// What a constraint becomes whose goal is the term of a cell, as the heap and the store show it. Fresh variables are the next of the
 /// heap. `kept` is the pool of an earlier goal, which is used again.
 pub(crate) fn expand_goal<A: Agenda + Drop>(
@@ -96,11 +115,7 @@ pub(crate) fn expand_goal<A: Agenda + Drop>(
         None => Pool::new(alloc)?,
     };
     let goal = read_back(heap, alloc, from, goal, store, &mut terms)?;
-    let fresh = heap.variable_count();
-    if fresh >= LIMIT || goal.number >= LIMIT {
-        return Err(ExpandFault::NoMemory);
-    }
-    let expanded = expand(alloc, &terms, kind, arguments(&terms, goal), fresh as u64);
+    let expanded = expand_read(alloc, &terms, kind, goal, heap.variable_count());
     *kept = (goal.number < MANY).then_some(terms);
     expanded
 }
@@ -146,6 +161,53 @@ fn bind_all(heap: &mut Heap, from: usize, equated: &[(u64, i64)]) -> Result<(), 
     Ok(())
 }
 
+/// Binds the equated variables of a constraint, and gives what the store is told of them. The error is want of memory; the heap is then to
+/// be given up.
+fn equate(
+    alloc: Global,
+    heap: &mut Heap,
+    from: usize,
+    equated: &[(u64, i64)],
+) -> Result<Vec<Touch>, NoMemory>
+    requires valid { IsHeap heap.old.now }
+    requires linked { AreLinked heap.old.now (firsts equated.now) }
+    requires words { AreWords equated.now }
+    requires numbers { AreFrom from equated.now }
+    requires unbound { AreOpen from equated.now heap.old.now }
+    ensures fixed { IfOk result (λ ts. ts.items
+        ≡ row_touches (store_variable heap.old.now) equated.now) }
+    ensures bound { OnOk result (heap.new
+        ≡ with_now heap.old (with_integers equated.now heap.old.now)) }
+    ensures below { heap.new.below ≡ heap.old.below }
+{
+    let fixed = touches(alloc, heap, equated)?;
+    bind_all(heap, from, equated)?;
+    Ok(fixed)
+}
+
+/// Links what a constraint becomes, and binds the equated variables. The error is want of memory; heap and store are then to be given up.
+fn link_row<A: Agenda + Drop>(
+    alloc: Global,
+    heap: &mut Heap,
+    store: &mut Store<A>,
+    recent: &mut Recent,
+    expansion: &mut Expansion,
+) -> Result<Listed, NoMemory>
+    requires links { OwnLinks (length store.old.current.sets) heap.old.now }
+    requires words { AreWords expansion.old.equated }
+    requires row { IsRowOf heap.old.now expansion.old }
+    ensures store { OnOk result (store.new ≡ with_level_sets store.old store.new.current.sets) }
+    ensures below { heap.new.below ≡ heap.old.below }
+    ensures ready { IfOk result (λ listed. IsRowReady heap.old.now store.old.current.sets
+        expansion.old heap.new.now store.new.current.sets listed.list.items listed.fixed.items) }
+{
+    let fresh = heap.variable_count();
+    add_variables(heap, fresh as u64, expansion.added())?;
+    let list = list_ranges(alloc, heap, store, recent, expansion)?;
+    let fixed = equate(alloc, heap, fresh, expansion.equated())?;
+    Ok(Listed { list, fixed })
+}
+
 /// Links what a constraint becomes, and binds the equated variables. The error is want of memory; heap and store are then to be given up.
 pub(crate) fn prepare_row<A: Agenda + Drop>(
     alloc: Global,
@@ -163,10 +225,5 @@ pub(crate) fn prepare_row<A: Agenda + Drop>(
         expansion heap.new.now store.new.current.sets listed.list.items listed.fixed.items) }
 {
     let mut expansion = expansion;
-    let fresh = heap.variable_count();
-    add_variables(heap, fresh as u64, expansion.added())?;
-    let list = list_ranges(alloc, heap, store, recent, &mut expansion)?;
-    let fixed = touches(alloc, heap, expansion.equated())?;
-    bind_all(heap, fresh, expansion.equated())?;
-    Ok(Listed { list, fixed })
+    link_row(alloc, heap, store, recent, &mut expansion)
 }

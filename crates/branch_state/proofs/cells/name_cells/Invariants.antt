@@ -6,7 +6,7 @@ use Rattle.indexmap.specs.IndexMap.{get}
 use Rattle.range_code.specs.Slots.{slots_of, slot_needs}
 use Rattle.branch_state.specs.CellVariables.{shown_slots, AreCellsReady}
 use Rattle.branch_state.specs.StoreVariables.{LooksAs, with_level_sets}
-use Rattle.branch_state.proofs.cells.prepare_cells.Given as goal
+use Rattle.branch_state.proofs.cells.name_cells.Given as goal
 
 abbrev pub invariant-loop-index : goal.invariant-loop-index
 invariant-loop-index g l = record {
