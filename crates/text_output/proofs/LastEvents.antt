@@ -4,14 +4,17 @@ use Rattle.std.proofs.Common.{length-append}
 use Rattle.std.specs.Prelude.{◌||◌, Result, Ok, Err, IfOk}
 use Rattle.std.specs.List.{list_any}
 use Rattle.std.proofs.lemmas.List.Folds.{list_any-append}
+use Rattle.fd_language.specs.declared.TheConstants.{INFINITY}
+use Rattle.fd_model.specs.Goal.{Event, Program, Query, start_of}
 use Rattle.fd_model.specs.Output.{or_stop}
+use Rattle.fd_model.specs.Run.{Run}
 use Rattle.term_pool.proofs.Lemmas.{pushed_at}
 use Rattle.machine_events.specs.declared.Limits.{Limits}
 use Rattle.machine_events.specs.declared.MachineEvent.{MachineEvent}
 use Rattle.machine_events.specs.Events.{event_of}
 use Rattle.branch_meaning.specs.NextEvent.{is_final}
 use Rattle.wam_code.specs.Area.{Area}
-use Rattle.code_machine.specs.States.{State}
+use Rattle.code_machine.specs.States.{State, MayRun, StandsFor}
 use Rattle.text_output.specs.declared.fault.Fault.{Fault}
 use Rattle.text_output.specs.Endings.{AreLast, EndsBy, GivesEvent, HasLast, IsNew, LastBy, LastFrom, Reaches, stops}
 
@@ -69,3 +72,16 @@ reach_more a b c (x ∷ es) e h g more = (h.0, h.1, h.2, reach_more h.0 b c es e
 pub last_of : (r : Result Bool Fault) (area : Area) (number : ℕ) (limits : Limits) (m : State) → IsNew area number limits m → IfOk r (LastFrom m) → IfOk r (LastBy area number limits)
 last_of (Ok stopped) area number limits m made h = (h.0, (m, made, h.1), h.2)
 last_of (Err f) area number limits m made h = tt
+
+-- what `Machine::new` gives, where its code has the area
+pub is_new : {E : Type 0} (r : Result State E) (shared area : Area) → shared ≡ area → (number : ℕ) (limits : Limits)
+    → IfOk r (λ m. (m.area ≡ shared) × (m.query ≡ number)) → IfOk r (λ m. (m.limits ≡ limits) × (m.answers ≡ 0)) → IfOk r (λ m. m.spent ≡ 0) → IfOk r (λ m. m.lost ≡ false)
+    → IfOk r (λ m. (prog : Program) (q : Query) → MayRun m.area number prog q → (es : List Event) (total : ℕ)
+    → Run INFINITY limits.infinity prog q limits.steps limits.answers (start_of q ∷ []) es total → StandsFor m es total)
+    → IfOk r (IsNew area number limits)
+is_new (Ok m) shared area same number limits code limit spent whole stands = record {
+  own = (code.0 ∙ same, code.1, limit.0);
+  unspent = (spent, limit.1, whole);
+  stands = λ es total h. stands h.0 h.1 (subst (λ (a : Area). MayRun a number h.0 h.1) (sym (code.0 ∙ same)) h.2) es total h.3;
+}
+is_new (Err e) shared area same number limits code limit spent whole stands = tt

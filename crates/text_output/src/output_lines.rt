@@ -12,7 +12,7 @@ ghost use Rattle.clause_check.specs.Programs.{program_in};
 ghost use Rattle.code_machine.specs.States.{StandsFor, names_of};
 ghost use Rattle.byte_ports.specs.Ends.{sink_at};
 ghost use Rattle.byte_ports.specs.Lines.{lines_of};
-ghost use Rattle.text_output.specs.Endings.{limits_of, Ending, HasLast, IsEnding, IsRunBy, LastBy, LastFrom, RunsProgram, WroteOutput};
+ghost use Rattle.text_output.specs.Endings.{limits_of, Ending, HasLast, IsEnding, IsNew, IsRunBy, LastBy, LastFrom, RunsProgram, WroteOutput};
 ghost use Rattle.text_output.specs.Pieces.{sink_seen, Gave, HandedEnding, QueryPieces, VerdictPieces};
 ghost use Rattle.text_verdict.specs.Verdicts.{verdict_of, HasNames};
 
@@ -87,6 +87,38 @@ pub fn ending(event: &MachineEvent) -> Option<bool>
     }
 }
 
+/// Writes the text of an event, and says how the event ends a run, if it does.
+fn put_text<K: Sink>(text: &[u8], event: &MachineEvent, sink: &mut K) -> Result<Option<bool>, Fault>
+    ensures gave { Gave
+        (sink_seen (K.written sink.old) (K.faults sink.old) (K.handed sink.old))
+        (sink_seen (K.written sink.new) (K.faults sink.new) (K.handed sink.new))
+        result (text.now ∷ []) }
+    ensures ending { IfOk result (IsEnding event.now) }
+{
+    put_line(sink, text)?;
+    Ok(ending(event))
+}
+
+/// Writes the line or the text of an event, and says how it ends a run, if it does.
+fn put_borrowed<K: Sink>(
+    alloc: Global,
+    pool: &Pool,
+    names: &[AtomId],
+    event: &MachineEvent,
+    sink: &mut K,
+) -> Result<Option<bool>, Fault>
+    requires names { All (λ a. a.number < length pool.now.names) names.now }
+    requires terms { HasTerms (length names.now) event.now }
+    ensures gave { Gave
+        (sink_seen (K.written sink.old) (K.faults sink.old) (K.handed sink.old))
+        (sink_seen (K.written sink.new) (K.faults sink.new) (K.handed sink.new))
+        result (event_bytes (event_of (map (atom_name pool.now) names.now) event.now) ∷ []) }
+    ensures ending { IfOk result (IsEnding event.now) }
+{
+    let text = event_text(alloc, pool, names, event)?;
+    put_text(&text, event, sink)
+}
+
 /// Writes the line or the text of an event, and says how it ends a run, if it does.
 fn put_event<K: Sink>(
     alloc: Global,
@@ -103,9 +135,7 @@ fn put_event<K: Sink>(
         result (event_bytes (event_of (map (atom_name pool.now) names.now) event) ∷ []) }
     ensures ending { IfOk result (IsEnding event) }
 {
-    let text = event_text(alloc, pool, names, &event)?;
-    put_line(sink, &text)?;
-    Ok(ending(&event))
+    put_borrowed(alloc, pool, names, &event, sink)
 }
 
 /// Writes the lines of the events of a machine, and tells whether its query was stopped. The names are those of the query's shown
@@ -139,6 +169,28 @@ fn put_events<A: Agenda + Drop, K: Sink>(
     }
 }
 
+/// The machine of a query, with this agenda.
+fn machine_for<A: Agenda + Drop>(
+    alloc: Global,
+    code: &Rc<CodeArea>,
+    query: usize,
+    options: Options,
+    agenda: A,
+) -> Result<Machine<A>, NoMemory>
+    requires query { query < length code.now.value.queries }
+    requires limit { IsLimit options.answers }
+    requires infinity { (1 ≤ options.infinity) × (options.infinity ≤ TOP) }
+    ensures { IfOk result (IsNew code.now.value query (limits_of options)) }
+{
+    let limits = Limits {
+        steps: options.steps,
+        answers: options.answers,
+        infinity: options.infinity,
+    };
+    let shared = Rc::clone(code)?;
+    Machine::new(alloc, shared, query, limits, agenda)
+}
+
 /// Writes the lines of the events of a query whose machine has this agenda, and tells whether the query was stopped.
 fn put_run<A: Agenda + Drop, K: Sink>(
     alloc: Global,
@@ -166,12 +218,7 @@ fn put_run<A: Agenda + Drop, K: Sink>(
         result pieces }
     ensures last { IfOk result (LastBy code.now.value query (limits_of options)) }
 {
-    let limits = Limits {
-        steps: options.steps,
-        answers: options.answers,
-        infinity: options.infinity,
-    };
-    let mut machine = Machine::new(alloc, Rc::clone(code)?, query, limits, agenda)?;
+    let mut machine = machine_for(alloc, code, query, options, agenda)?;
     let parts = code.parts();
     put_events(
         alloc,
