@@ -65,13 +65,38 @@ impl<A: Agenda + Drop> Events for Machine<A> {
     }
 }
 
-/// Puts the next event behind the others, and says whether it was the end.
-fn put_event<E: Events>(alloc: Global, events: &mut E, lines: &mut String) -> Result<bool, Fail> {
-    let event = events.next_event()?;
-    let text = event_text(alloc, &event)?;
-    lines.push_str(text.as_str())?;
+/// Puts the event behind the others, and says whether it is the end.
+fn put_event(alloc: Global, event: &MachineEvent, lines: &mut String) -> Result<bool, Fail> {
+    lines.push_str(event_text(alloc, event)?.as_str())?;
     lines.push_str("; ")?;
     Ok(matches!(event, MachineEvent::End))
+}
+
+/// Puts the next event behind the others, and says whether it was the end.
+fn put_next<E: Events>(alloc: Global, events: &mut E, lines: &mut String) -> Result<bool, Fail> {
+    let event = events.next_event()?;
+    put_event(alloc, &event, lines)
+}
+
+/// Puts the next events up to the end, then `again` more, and the reductions behind them.
+fn put_events<E: Events>(
+    alloc: Global,
+    events: &mut E,
+    count: usize,
+    again: usize,
+    lines: &mut String,
+) -> Result<(), Fail> {
+    for _ in 0..count {
+        if put_next(alloc, events, lines)? {
+            break;
+        }
+    }
+    for _ in 0..again {
+        let _ = put_next(alloc, events, lines)?;
+    }
+    let spent = events.reductions();
+    lines.push_str(format!(in alloc; "{spent}")?.as_str())?;
+    Ok(())
 }
 
 /// The next events up to the end, then `again` more, and the reductions behind them.
@@ -82,16 +107,7 @@ fn events_of<E: Events>(
     again: usize,
 ) -> Result<String, Fail> {
     let mut lines = String::new(alloc);
-    for _ in 0..count {
-        if put_event(alloc, events, &mut lines)? {
-            break;
-        }
-    }
-    for _ in 0..again {
-        let _ = put_event(alloc, events, &mut lines)?;
-    }
-    let spent = events.reductions();
-    lines.push_str(format!(in alloc; "{spent}")?.as_str())?;
+    put_events(alloc, events, count, again, &mut lines)?;
     Ok(lines)
 }
 

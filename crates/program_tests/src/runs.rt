@@ -8,37 +8,73 @@ use std::process::Abort;
 use std::test::Fail;
 use top_level::run;
 
-/// The status of a run without words over memory, and the bytes that it wrote.
-fn written(
+/// Bytes that a sink has room for.
+const ROOM: usize = 1_000_000;
+
+/// Runs a text with these words over memory, where the writes with these numbers fail. Compares how it ends and what it writes.
+fn check_run(
+    rt: &impl Abort,
     alloc: Global,
+    words: &[String],
     text: &[u8],
     failing_writes: Vec<u64>,
-) -> Result<(Status, Vec<u8>), Fail> {
+    want: (Status, &[u8]),
+    at: &str,
+) -> Result<(), Fail> {
+    let mut sink = MemorySink::new(alloc, ROOM, failing_writes)?;
     let mut source = MemorySource::new(text.to_vec(alloc)?, Vec::new(alloc));
-    let mut sink = MemorySink::new(alloc, 1_000_000, failing_writes)?;
-    let status = run(alloc, &[], &mut source, &mut sink);
-    Ok((status, sink.bytes().to_vec(alloc)?))
+    let status = run(alloc, words, &mut source, &mut sink);
+    same(rt, (status, sink.bytes()), want, at);
+    Ok(())
 }
 
-/// The status of a run over ends that never fail, and the bytes that it wrote.
-fn answers(alloc: Global, text: &[u8]) -> Result<(Status, Vec<u8>), Fail> {
-    written(alloc, text, Vec::new(alloc))
+/// Runs a text without words over ends that never fail.
+fn check_text(
+    rt: &impl Abort,
+    alloc: Global,
+    text: &[u8],
+    want: (Status, &[u8]),
+    at: &str,
+) -> Result<(), Fail> {
+    check_run(rt, alloc, &[], text, Vec::new(alloc), want, at)
 }
 
-fn give(
+/// Runs a text with the words of a line over ends that never fail.
+fn check_line(
+    rt: &impl Abort,
+    alloc: Global,
+    line: &str,
+    text: &str,
+    want: (Status, &[u8]),
+    at: &str,
+) -> Result<(), Fail> {
+    let words = words_of(alloc, line)?;
+    check_run(
+        rt,
+        alloc,
+        &words,
+        text.as_bytes(),
+        Vec::new(alloc),
+        want,
+        at,
+    )
+}
+
+/// Runs texts without words, each of which ends with this status.
+fn check_texts(
     rt: &impl Abort,
     alloc: Global,
     texts: &[(&str, &str)],
     status: Status,
 ) -> Result<(), Fail> {
     for (text, output) in texts {
-        let (ended, bytes) = answers(alloc, text.as_bytes())?;
-        same(
+        check_text(
             rt,
-            (ended, bytes.as_slice()),
+            alloc,
+            text.as_bytes(),
             (status, output.as_bytes()),
             text,
-        );
+        )?;
     }
     Ok(())
 }
@@ -66,7 +102,7 @@ const LAYOUTS: [(&str, &str); 5] = [
 
 #[test]
 fn layouts(rt: HostRuntime) -> Result<(), Fail> {
-    give(&rt, rt.alloc(), &LAYOUTS, Status::Done)
+    check_texts(&rt, rt.alloc(), &LAYOUTS, Status::Done)
 }
 
 /// Queries of ranges, each with the lines of its output, where `; ` ends a line that isn't the last.
@@ -738,10 +774,8 @@ whether they are equal | ?- X in 0..2, Y in 1..2, B #<=> X #= Y, fd_labeling([B,
 whether they differ | ?- X in 0..1, Y in 0..1, B #<=> X #\\= Y, fd_labelingff([X,Y,B]). | query 1; X = 0, Y = 0, B = 0; X = 0, Y = 1, B = 1; X = 1, Y = 0, B = 1; X = 1, Y = 1, B = 0; end
 one of two comparisons | ?- X in 0..4, A #<=> X #< 2, B #<=> X #> 3, fd_or(A, B, 1), fd_labeling([X,A,B]). | query 1; X = 0, A = 1, B = 0; X = 1, A = 1, B = 0; X = 4, A = 0, B = 1; end";
 
-/// Runs a text with the words of a line. The status is that of a stop where some line tells a fault or a spent budget.
-fn check(rt: &impl Abort, alloc: Global, words: &str, text: &str, lines: &str) -> Result<(), Fail> {
-    let (ended, bytes) = asked(alloc, words, text)?;
-    let mut output = String::new(alloc);
+/// Puts the lines, which `; ` parts, behind the output. The status is that of a stop where some line tells a fault or a spent budget.
+fn add_lines(lines: &str, output: &mut String) -> Result<Status, Fail> {
     let mut status = Status::Done;
     for line in lines.split("; ") {
         output.push_str(line)?;
@@ -750,13 +784,14 @@ fn check(rt: &impl Abort, alloc: Global, words: &str, text: &str, lines: &str) -
             status = Status::Stopped;
         }
     }
-    same(
-        rt,
-        (ended, bytes.as_slice()),
-        (status, output.as_bytes()),
-        text,
-    );
-    Ok(())
+    Ok(status)
+}
+
+/// Runs a text with the words of a line, which writes these lines.
+fn check(rt: &impl Abort, alloc: Global, words: &str, text: &str, lines: &str) -> Result<(), Fail> {
+    let mut output = String::new(alloc);
+    let status = add_lines(lines, &mut output)?;
+    check_line(rt, alloc, words, text, (status, output.as_bytes()), text)
 }
 
 /// Checks each row of a table with each of some words.
@@ -897,7 +932,7 @@ const REFUSALS: [(&str, &str); 61] = [
 
 #[test]
 fn refusals_at_their_places(rt: HostRuntime) -> Result<(), Fail> {
-    give(&rt, rt.alloc(), &REFUSALS, Status::Refused)
+    check_texts(&rt, rt.alloc(), &REFUSALS, Status::Refused)
 }
 
 #[test]
@@ -909,35 +944,41 @@ fn bytes_that_are_no_text(rt: HostRuntime) -> Result<(), Fail> {
             "refused at 18: not UTF-8\n",
         ),
     ] {
-        let (ended, bytes) = answers(rt.alloc(), text)?;
         let want = (Status::Refused, output.as_bytes());
-        same(&rt, (ended, bytes.as_slice()), want, output);
+        check_text(&rt, rt.alloc(), text, want, output)?;
     }
     Ok(())
 }
 
-/// So many pieces, one after another, between two others.
-fn repeated(
-    alloc: Global,
-    front: &str,
-    piece: &str,
-    count: usize,
-    back: &str,
-) -> Result<String, Fail> {
-    let mut text = String::from_str(alloc, front)?;
+/// Puts so many pieces behind the text, one after another.
+fn push_pieces(text: &mut String, piece: &str, count: usize) -> Result<(), Fail> {
     for _ in 0..count {
         text.push_str(piece)?;
     }
+    Ok(())
+}
+
+/// Puts so many pieces, one after another, between two others, behind the text.
+fn push_repeated(text: &mut String, parts: [&str; 3], count: usize) -> Result<(), Fail> {
+    let [front, piece, back] = parts;
+    text.push_str(front)?;
+    push_pieces(text, piece, count)?;
     text.push_str(back)?;
+    Ok(())
+}
+
+/// So many pieces, one after another, between two others.
+fn repeated(alloc: Global, parts: [&str; 3], count: usize) -> Result<String, Fail> {
+    let mut text = String::new(alloc);
+    push_repeated(&mut text, parts, count)?;
     Ok(text)
 }
 
 /// A text and then another so many times behind it, twice, and a last text.
 fn nested(alloc: Global, parts: [&str; 5], count: usize) -> Result<String, Fail> {
     let [front, left, middle, right, back] = parts;
-    let mut text = repeated(alloc, front, left, count, middle)?;
-    let rest = repeated(alloc, "", right, count, back)?;
-    text.push_str(&rest)?;
+    let mut text = repeated(alloc, [front, left, middle], count)?;
+    push_repeated(&mut text, ["", right, back], count)?;
     Ok(text)
 }
 
@@ -1011,14 +1052,30 @@ const DEEP_TEXTS: [(usize, [&str; 5], [&str; 5], Status); 10] = [
     ),
 ];
 
+/// Runs a nested text whose output is nested likewise.
+fn check_nested(
+    rt: &impl Abort,
+    alloc: Global,
+    count: usize,
+    parts: [&str; 5],
+    lines: [&str; 5],
+    status: Status,
+) -> Result<(), Fail> {
+    let text = nested(alloc, parts, count)?;
+    let output = nested(alloc, lines, count)?;
+    check_text(
+        rt,
+        alloc,
+        text.as_bytes(),
+        (status, output.as_bytes()),
+        parts[0],
+    )
+}
+
 #[test]
 fn deep_and_long_texts(rt: HostRuntime) -> Result<(), Fail> {
     for (count, parts, lines, status) in DEEP_TEXTS {
-        let text = nested(rt.alloc(), parts, count)?;
-        let output = nested(rt.alloc(), lines, count)?;
-        let (ended, bytes) = answers(rt.alloc(), text.as_bytes())?;
-        let want = (count, status, output.as_bytes());
-        same(&rt, (count, ended, bytes.as_slice()), want, parts[0]);
+        check_nested(&rt, rt.alloc(), count, parts, lines, status)?;
     }
     Ok(())
 }
@@ -1044,18 +1101,21 @@ fn front_output(alloc: Global, length: usize) -> Result<String, Fail> {
     Ok(output)
 }
 
+/// Runs the first bytes of the text.
+fn check_front(rt: &impl Abort, alloc: Global, front: &[u8]) -> Result<(), Fail> {
+    let output = front_output(alloc, front.len())?;
+    let status = if output.is_empty() {
+        Status::Done
+    } else {
+        Status::Refused
+    };
+    check_text(rt, alloc, front, (status, output.as_bytes()), "a front")
+}
+
 #[test]
 fn each_front_of_a_text(rt: HostRuntime) -> Result<(), Fail> {
     for length in 0..SEND_MORE.len() {
-        let (ended, bytes) = answers(rt.alloc(), &SEND_MORE.as_bytes()[..length])?;
-        let output = front_output(rt.alloc(), length)?;
-        let status = if output.is_empty() {
-            Status::Done
-        } else {
-            Status::Refused
-        };
-        let want = (length, status, output.as_bytes());
-        same(&rt, (length, ended, bytes.as_slice()), want, "a front");
+        check_front(&rt, rt.alloc(), &SEND_MORE.as_bytes()[..length])?;
     }
     Ok(())
 }
@@ -1065,19 +1125,44 @@ const CHOICE: &[u8] = b"p(X) :- X in 1..2. p(X) :- X in 8..9. ?- X in 0..8, p(X)
 
 const CHOICE_OUTPUT: &[u8] = b"query 1\nX = _1(1..2)\nX = 8\nend\n";
 
+/// Runs the text where this read fails.
+fn check_failing_read(rt: &impl Abort, alloc: Global, failing: u64) -> Result<(), Fail> {
+    let mut sink = MemorySink::new(alloc, ROOM, Vec::new(alloc))?;
+    let mut source = SmallSource::new(CHOICE.to_vec(alloc)?, vec![in alloc; failing]?);
+    let ended = run(alloc, &[], &mut source, &mut sink);
+    let want = (failing, Status::ReadFault, 0);
+    same(rt, (failing, ended, sink.bytes().len()), want, "a read");
+    Ok(())
+}
+
 /// A call for each byte, and one for the end.
 #[test]
 fn each_read_fails_in_turn(rt: HostRuntime) -> Result<(), Fail> {
     for failing in 1..=58 {
-        let mut source = SmallSource::new(
-            CHOICE.to_vec(rt.alloc())?,
-            vec![in rt.alloc(); failing]?,
-        );
-        let mut sink = MemorySink::new(rt.alloc(), 1000, Vec::new(rt.alloc()))?;
-        let ended = run(rt.alloc(), &[], &mut source, &mut sink);
-        let want = (failing, Status::ReadFault, 0);
-        same(&rt, (failing, ended, sink.bytes().len()), want, "a read");
+        check_failing_read(&rt, rt.alloc(), failing)?;
     }
+    Ok(())
+}
+
+/// Runs the text where this write fails, behind so many others.
+fn check_failing_write(
+    rt: &impl Abort,
+    alloc: Global,
+    failing: u64,
+    before: u64,
+) -> Result<(), Fail> {
+    let mut source = MemorySource::new(CHOICE.to_vec(alloc)?, Vec::new(alloc));
+    let mut sink = SmallSink::new(alloc, 31, vec![in alloc; failing]?)?;
+    let ended = run(alloc, &[], &mut source, &mut sink);
+    let written = sink.bytes().len() as u64;
+    let is_front = CHOICE_OUTPUT.starts_with(sink.bytes());
+    let status = if failing < 32 {
+        Status::WriteFault
+    } else {
+        Status::Done
+    };
+    let want = (before, status, true);
+    same(rt, (written, ended, is_front), want, "a write");
     Ok(())
 }
 
@@ -1085,20 +1170,21 @@ fn each_read_fails_in_turn(rt: HostRuntime) -> Result<(), Fail> {
 #[test]
 fn each_write_fails_in_turn(rt: HostRuntime) -> Result<(), Fail> {
     for failing in 1..=32 {
-        let mut source = MemorySource::new(CHOICE.to_vec(rt.alloc())?, Vec::new(rt.alloc()));
-        let mut sink = SmallSink::new(rt.alloc(), 31, vec![in rt.alloc(); failing]?)?;
-        let ended = run(rt.alloc(), &[], &mut source, &mut sink);
-        let written = sink.bytes().len() as u64;
-        let is_front = CHOICE_OUTPUT.starts_with(sink.bytes());
-        let status = if failing < 32 {
-            Status::WriteFault
-        } else {
-            Status::Done
-        };
-        let want = (failing - 1, status, true);
-        same(&rt, (written, ended, is_front), want, "a write");
+        check_failing_write(&rt, rt.alloc(), failing, failing - 1)?;
     }
     Ok(())
+}
+
+/// Runs a text in which a piece is repeated, so many times, in front of its last piece.
+fn check_repeated(
+    rt: &impl Abort,
+    alloc: Global,
+    parts: [&str; 3],
+    count: usize,
+    want: (Status, &[u8]),
+) -> Result<(), Fail> {
+    let text = repeated(alloc, parts, count)?;
+    check_text(rt, alloc, text.as_bytes(), want, parts[0])
 }
 
 #[test]
@@ -1109,10 +1195,8 @@ fn texts_of_the_greatest_size_and_above(rt: HostRuntime) -> Result<(), Fail> {
         (16_777_217, refusal, Status::Refused),
         (20_000_000, refusal, Status::Refused),
     ] {
-        let text = repeated(rt.alloc(), "", " ", size, "")?;
-        let (ended, bytes) = answers(rt.alloc(), text.as_bytes())?;
-        let want = (size, status, output.as_bytes());
-        same(&rt, (size, ended, bytes.as_slice()), want, "blanks");
+        let want = (status, output.as_bytes());
+        check_repeated(&rt, rt.alloc(), ["", " ", ""], size, want)?;
     }
     Ok(())
 }
@@ -1123,10 +1207,9 @@ fn a_query_of_a_million_goals_and_one(rt: HostRuntime) -> Result<(), Fail> {
         ("?- X in 0..9", "query 1\nbudget\n", Status::Stopped),
         ("?- X in 5..9", "query 1\nend\n", Status::Done),
     ] {
-        let text = repeated(rt.alloc(), front, ",X in 0..1", 1_000_000, ".")?;
-        let (ended, bytes) = answers(rt.alloc(), text.as_bytes())?;
         let want = (status, output.as_bytes());
-        same(&rt, (ended, bytes.as_slice()), want, front);
+        let parts = [front, ",X in 0..1", "."];
+        check_repeated(&rt, rt.alloc(), parts, 1_000_000, want)?;
     }
     Ok(())
 }
@@ -1134,29 +1217,31 @@ fn a_query_of_a_million_goals_and_one(rt: HostRuntime) -> Result<(), Fail> {
 #[test]
 fn a_failed_third_write(rt: HostRuntime) -> Result<(), Fail> {
     let failing = [3].to_vec(rt.alloc())?;
-    let text = b"p(X) :- X in 1..2. p(X) :- X in 8..9. ?- X in 0..8, p(X).".as_slice();
-    let (ended, bytes) = written(rt.alloc(), text, failing)?;
     let want = (Status::WriteFault, b"query 1\nX = _1(1..2)\n".as_slice());
-    same(&rt, (ended, bytes.as_slice()), want, "the third write");
+    check_run(
+        &rt,
+        rt.alloc(),
+        &[],
+        CHOICE,
+        failing,
+        want,
+        "the third write",
+    )
+}
+
+/// Puts the words of a line behind others.
+fn add_words(alloc: Global, line: &str, words: &mut Vec<String>) -> Result<(), Fail> {
+    for word in line.split_whitespace() {
+        words.push(String::from_str(alloc, word)?)?;
+    }
     Ok(())
 }
 
 /// The words of a line.
-fn words_of(alloc: Global, line: &str) -> Result<Vec<String>, Fail> {
+pub(crate) fn words_of(alloc: Global, line: &str) -> Result<Vec<String>, Fail> {
     let mut words = Vec::new(alloc);
-    for word in line.split_whitespace() {
-        words.push(String::from_str(alloc, word)?)?;
-    }
+    add_words(alloc, line, &mut words)?;
     Ok(words)
-}
-
-/// The status of a run with the words of a line over ends that never fail, and the bytes that it wrote.
-fn asked(alloc: Global, line: &str, text: &str) -> Result<(Status, Vec<u8>), Fail> {
-    let words = words_of(alloc, line)?;
-    let mut source = MemorySource::new(text.as_bytes().to_vec(alloc)?, Vec::new(alloc));
-    let mut sink = MemorySink::new(alloc, 1000, Vec::new(alloc))?;
-    let status = run(alloc, &words, &mut source, &mut sink);
-    Ok((status, sink.bytes().to_vec(alloc)?))
 }
 
 #[test]
@@ -1177,9 +1262,8 @@ fn words_that_are_refused(rt: HostRuntime) -> Result<(), Fail> {
         "--",
     ];
     for line in lines {
-        let (ended, bytes) = asked(rt.alloc(), line, "?- p.")?;
         let want = (Status::Usage, usage.as_bytes());
-        same(&rt, (ended, bytes.as_slice()), want, line);
+        check_line(&rt, rt.alloc(), line, "?- p.", want, line)?;
     }
     Ok(())
 }
@@ -1208,9 +1292,8 @@ fn words_that_are_accepted(rt: HostRuntime) -> Result<(), Fail> {
         ),
     ];
     for (line, text, output, status) in rows {
-        let (ended, bytes) = asked(rt.alloc(), line, text)?;
         let want = (status, output.as_bytes());
-        same(&rt, (ended, bytes.as_slice()), want, line);
+        check_line(&rt, rt.alloc(), line, text, want, line)?;
     }
     Ok(())
 }
@@ -1262,9 +1345,8 @@ const SUMMARIES: [(&str, &str, Status); 8] = [
 #[test]
 fn generated_texts_are_summed_up(rt: HostRuntime) -> Result<(), Fail> {
     for (line, output, status) in SUMMARIES {
-        let (ended, bytes) = asked(rt.alloc(), line, "?- p.")?;
         let want = (status, output.as_bytes());
-        same(&rt, (ended, bytes.as_slice()), want, line);
+        check_line(&rt, rt.alloc(), line, "?- p.", want, line)?;
     }
     Ok(())
 }
@@ -1272,8 +1354,8 @@ fn generated_texts_are_summed_up(rt: HostRuntime) -> Result<(), Fail> {
 #[test]
 fn a_summary_reads_nothing_and_is_written_by_lines(rt: HostRuntime) -> Result<(), Fail> {
     let words = words_of(rt.alloc(), "--gen 4")?;
+    let mut sink = MemorySink::new(rt.alloc(), ROOM, [3].to_vec(rt.alloc())?)?;
     let mut source = MemorySource::new(Vec::new(rt.alloc()), [1].to_vec(rt.alloc())?);
-    let mut sink = MemorySink::new(rt.alloc(), 1000, [3].to_vec(rt.alloc())?)?;
     let status = run(rt.alloc(), &words, &mut source, &mut sink);
     let want = (Status::WriteFault, b"gen 4\nanswers 2\n".as_slice());
     same(&rt, (status, sink.bytes()), want, "the third write");

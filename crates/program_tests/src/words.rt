@@ -1,5 +1,6 @@
 //! What words that are accepted ask for.
 
+use crate::runs::words_of;
 use command_words::{AgendaName, Options, WordsFault, read_words};
 use fd_language::INFINITY;
 use std::alloc::Global;
@@ -7,10 +8,7 @@ use std::test::Fail;
 
 /// What the words of a line ask for.
 fn read(alloc: Global, line: &str) -> Result<Result<Options, WordsFault>, Fail> {
-    let mut words = Vec::new(alloc);
-    for word in line.split_whitespace() {
-        words.push(String::from_str(alloc, word)?)?;
-    }
+    let words = words_of(alloc, line)?;
     Ok(read_words(alloc, &words))
 }
 

@@ -81,6 +81,24 @@ fn are_args(count: usize, needs: &[Option<Need>], args: &[Arg]) -> bool
     }
 }
 
+/// Evaluates the code over the variables' domains, and compares the set's intervals.
+fn set_is(
+    rt: &impl Abort,
+    alloc: Global,
+    code: &RangeCode,
+    args: &[Arg],
+    view: &Domains,
+    want: &[(u32, u32)],
+) -> Result<(), Fail> {
+    let fits = are_args(view.list.len(), code.needs(), args);
+    assert!(rt; fits);
+    let mut n = Activations::new();
+    let set = run_range(alloc, code, args, view, &mut n)?;
+    same(rt, set.spans(), want, "a set");
+    same(rt, n.count, 1, "activations");
+    Ok(())
+}
+
 /// Evaluates the range over the variables' domains, and compares the set's intervals.
 fn gives(
     rt: &impl Abort,
@@ -92,11 +110,31 @@ fn gives(
 ) -> Result<(), Fail> {
     let code = code_of(alloc, nodes)?;
     let view = domains_of(alloc, spans)?;
+    set_is(rt, alloc, &code, args, &view, want)
+}
+
+/// Narrows the target by the code over the variables' domains, with these stacks, and compares what is left.
+fn left_is(
+    rt: &impl Abort,
+    code: &RangeCode,
+    args: &[Arg],
+    view: &Domains,
+    target: &Domain,
+    stacks: &mut Stacks,
+    want: &[(u32, u32)],
+) -> Result<(), Fail> {
     let fits = are_args(view.list.len(), code.needs(), args);
     assert!(rt; fits);
+    let some = are_some(&view.list);
+    assert!(rt; some);
+    stacks.reserve(code)?;
     let mut n = Activations::new();
-    let set = run_range(alloc, &code, args, &view, &mut n)?;
-    same(rt, set.spans(), want, "a set");
+    let nothing: &[(u32, u32)] = &[];
+    match narrow(code, args, view, target, stacks, &mut n)? {
+        Narrowed::Same => same(rt, target.spans(), want, "the same"),
+        Narrowed::Empty => same(rt, nothing, want, "nothing"),
+        Narrowed::Changed(domain) => same(rt, domain.spans(), want, "what is left"),
+    }
     same(rt, n.count, 1, "activations");
     Ok(())
 }
@@ -113,21 +151,9 @@ fn leaves(
 ) -> Result<(), Fail> {
     let code = code_of(alloc, nodes)?;
     let view = domains_of(alloc, spans)?;
-    let fits = are_args(view.list.len(), code.needs(), args);
-    assert!(rt; fits);
-    let some = are_some(&view.list);
-    assert!(rt; some);
     let target = Domain::interval(alloc, target.0, target.1);
     let mut stacks = Stacks::new(alloc);
-    stacks.reserve(&code)?;
-    let mut n = Activations::new();
-    match narrow(&code, args, &view, &target, &mut stacks, &mut n)? {
-        Narrowed::Same => same(rt, target.spans(), want, "the same"),
-        Narrowed::Empty => same(rt, Domain::empty(alloc).spans(), want, "nothing"),
-        Narrowed::Changed(domain) => same(rt, domain.spans(), want, "what is left"),
-    }
-    same(rt, n.count, 1, "activations");
-    Ok(())
+    left_is(rt, &code, args, &view, &target, &mut stacks, want)
 }
 
 /// What `min(Y)+1..infinity` and `-{val(Y)}` leave of a domain.

@@ -1,7 +1,7 @@
 //! Searches for the least and the greatest cost.
 
 use crate::assertions::same;
-use crate::stores::{instance, post_one, shared_code};
+use crate::stores::post_range;
 use bound_search::{best, may_search};
 use fd_language::RangeNode;
 use fd_model::kinds::Order;
@@ -90,28 +90,29 @@ struct Search<'a> {
     at: &'a str,
 }
 
-/// Posts the rows on a store of three variables, and searches it. `None`: the posted ranges leave some variable no value.
+/// Posts the rows on a store of three variables.
+fn post_rows<A: Agenda + Drop>(
+    rt: &impl Abort,
+    alloc: Global,
+    store: &mut Store<A>,
+    search: &Search<'_>,
+    n: &mut Activations,
+) -> Result<(), Fail> {
+    for (target, nodes, args) in search.rows {
+        let posted = post_range(alloc, store, nodes, *target, args, n)?;
+        same(rt, posted, Posted::Kept, search.at);
+    }
+    Ok(())
+}
+
+/// Searches the store, which has three variables. `None`: the posted ranges leave some variable no value.
 fn finds<A: Agenda + Drop>(
     rt: &impl Abort,
     alloc: Global,
-    agenda: A,
+    store: &mut Store<A>,
     search: &Search<'_>,
+    n: &mut Activations,
 ) -> Result<(), Fail> {
-    let mut store = Store::new(alloc, agenda);
-    let mut n = Activations::new();
-    for _ in 0..3 {
-        let _ = store.new_var()?;
-    }
-    for (target, nodes, args) in search.rows {
-        let code = shared_code(alloc, nodes)?;
-        let range = instance(alloc, &code, *target, args)?;
-        same(
-            rt,
-            post_one(alloc, &mut store, range, &mut n)?,
-            Posted::Kept,
-            search.at,
-        );
-    }
     let list = [Member::Var(X), Member::Var(Y), Member::Var(C)];
     let vars = store.vars();
     if store.failed() || !may_search(&list, search.cost, vars) {
@@ -119,18 +120,33 @@ fn finds<A: Agenda + Drop>(
     }
     let found = best(
         alloc,
-        &mut store,
+        store,
         search.order,
         &list,
         search.cost,
         search.least,
-        &mut n,
+        n,
     )?;
     match &found {
         Some(values) => same(rt, Some(values.as_slice()), search.want, search.at),
         None => same(rt, None, search.want, search.at),
     }
     Ok(())
+}
+
+/// Posts the rows on the empty store, and searches it.
+fn check_search<A: Agenda + Drop>(
+    rt: &impl Abort,
+    alloc: Global,
+    store: &mut Store<A>,
+    search: &Search<'_>,
+) -> Result<(), Fail> {
+    let mut n = Activations::new();
+    for _ in 0..3 {
+        let _ = store.new_var()?;
+    }
+    post_rows(rt, alloc, store, search, &mut n)?;
+    finds(rt, alloc, store, search, &mut n)
 }
 
 /// `X + Y #>= 3, C #= 2*X + 3*Y`, both up to 3.
@@ -248,8 +264,13 @@ const SEARCHES: [Search<'static>; 7] = [
 fn searches(rt: HostRuntime) -> Result<(), Fail> {
     let alloc = rt.alloc();
     for search in &SEARCHES {
-        finds(&rt, alloc, Fifo::new(alloc), search)?;
-        finds(&rt, alloc, Cheapest::new(alloc), search)?;
+        check_search(&rt, alloc, &mut Store::new(alloc, Fifo::new(alloc)), search)?;
+        check_search(
+            &rt,
+            alloc,
+            &mut Store::new(alloc, Cheapest::new(alloc)),
+            search,
+        )?;
     }
     Ok(())
 }

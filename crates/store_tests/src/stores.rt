@@ -44,38 +44,22 @@ pub(crate) fn instance(
     target: usize,
     args: &[Arg],
 ) -> Result<Instance, Fail> {
-    Ok(Instance {
-        code: code.clone()?,
-        target,
-        args: args.to_vec(alloc)?,
-    })
+    let args = args.to_vec(alloc)?;
+    let code = code.clone()?;
+    Ok(Instance { code, target, args })
 }
 
-pub(crate) fn post_one<A: Agenda + Drop>(
-    alloc: Global,
+/// Posts the list, if each of it fits the store.
+pub(crate) fn post_list<A: Agenda + Drop>(
     store: &mut Store<A>,
-    first: Instance,
+    list: Vec<Instance>,
     n: &mut Activations,
 ) -> Result<Posted, Fail> {
     let vars = store.vars();
-    if !first.fits(vars) {
-        return Err(Fail::new("no instance of the store"));
-    }
-    Ok(store.post(vec![in alloc; first]?, n)?)
-}
-
-fn post_four<A: Agenda + Drop>(
-    alloc: Global,
-    store: &mut Store<A>,
-    pairs: [(Instance, Instance); 2],
-    n: &mut Activations,
-) -> Result<Posted, Fail> {
-    let vars = store.vars();
-    let [(first, second), (third, fourth)] = pairs;
-    if !first.fits(vars) || !second.fits(vars) || !third.fits(vars) || !fourth.fits(vars) {
+    if !list.iter().all(|posted| posted.fits(vars)) {
         return Err(Fail::new("no instances of the store"));
     }
-    Ok(store.post(vec![in alloc; first, second, third, fourth]?, n)?)
+    Ok(store.post(list, n)?)
 }
 
 /// The ends of the variable's domain.
@@ -87,73 +71,79 @@ fn ends<A: Agenda + Drop>(store: &Store<A>, k: usize) -> Option<(u32, u32)> {
     Some((domain.min()?, domain.max()?))
 }
 
-/// Posts a range without arguments.
-fn post_range<A: Agenda + Drop>(
+/// Posts a range.
+pub(crate) fn post_range<A: Agenda + Drop>(
     alloc: Global,
     store: &mut Store<A>,
     nodes: &[RangeNode],
     target: usize,
+    args: &[Arg],
     n: &mut Activations,
 ) -> Result<Posted, Fail> {
     let code = shared_code(alloc, nodes)?;
-    let range = instance(alloc, &code, target, &[])?;
-    post_one(alloc, store, range, n)
+    let range = instance(alloc, &code, target, args)?;
+    post_list(store, vec![in alloc; range]?, n)
 }
 
-/// A store with so many variables from 0 to 9.
-fn digits<A: Agenda + Drop>(alloc: Global, agenda: A, count: usize) -> Result<Store<A>, Fail> {
-    let mut store = Store::new(alloc, agenda);
-    let mut n = Activations::new();
-    for _ in 0..count {
-        let variable = store.new_var()?;
-        post_range(alloc, &mut store, &DIGITS, variable, &mut n)?;
-    }
-    Ok(store)
-}
-
-/// The ranges of `X #< Y`, by the codes of `0..max(Y)-1` and `min(X)+1..infinity`.
-fn less(
-    alloc: Global,
-    codes: (&Rc<RangeCode>, &Rc<RangeCode>),
-    x: usize,
-    y: usize,
-) -> Result<(Instance, Instance), Fail> {
-    let (below, above) = codes;
-    Ok((
-        instance(alloc, below, x, &[Arg::Var(y)])?,
-        instance(alloc, above, y, &[Arg::Var(x)])?,
-    ))
-}
-
-/// Posts that the first of each pair is less than the second.
-fn post_less<A: Agenda + Drop>(
+/// Gives the store so many variables from 0 to 9.
+fn add_digits<A: Agenda + Drop>(
     alloc: Global,
     store: &mut Store<A>,
-    pairs: [(usize, usize); 2],
+    count: usize,
     n: &mut Activations,
-) -> Result<Posted, Fail> {
-    let (below, above) = (shared_code(alloc, &BELOW)?, shared_code(alloc, &ABOVE)?);
-    let codes = (&below, &above);
-    let [(x, y), (z, w)] = pairs;
-    let pairs = [less(alloc, codes, x, y)?, less(alloc, codes, z, w)?];
-    post_four(alloc, store, pairs, n)
+) -> Result<(), Fail> {
+    for _ in 0..count {
+        let variable = store.new_var()?;
+        post_range(alloc, store, &DIGITS, variable, &[], n)?;
+    }
+    Ok(())
+}
+
+/// Puts the ranges of `X #< Y` for each pair behind the list, by the codes of `0..max(Y)-1` and `min(X)+1..infinity`.
+fn add_less(
+    alloc: Global,
+    below: &Rc<RangeCode>,
+    above: &Rc<RangeCode>,
+    pairs: &[(usize, usize)],
+    list: &mut Vec<Instance>,
+) -> Result<(), Fail> {
+    for (x, y) in pairs {
+        list.push(instance(alloc, below, *x, &[Arg::Var(*y)])?)?;
+        list.push(instance(alloc, above, *y, &[Arg::Var(*x)])?)?;
+    }
+    Ok(())
+}
+
+/// The ranges of `X #< Y` for each pair.
+fn less(alloc: Global, pairs: &[(usize, usize)]) -> Result<Vec<Instance>, Fail> {
+    let below = shared_code(alloc, &BELOW)?;
+    let above = shared_code(alloc, &ABOVE)?;
+    let mut list = Vec::new(alloc);
+    add_less(alloc, &below, &above, pairs, &mut list)?;
+    Ok(list)
+}
+
+/// Says what is wanted of the ends of the first three domains.
+fn ends_are<A: Agenda + Drop>(rt: &impl Abort, store: &Store<A>, want: [(u32, u32); 3], at: &str) {
+    let found = [ends(store, 0), ends(store, 1), ends(store, 2)];
+    same(rt, found, [Some(want[0]), Some(want[1]), Some(want[2])], at);
 }
 
 /// X is less than Y, and Y less than Z: four ranges whose variables lose two values each, so at most 4 + 8 activations. Then Y is 4.
-fn three_in_order<A: Agenda + Drop>(rt: &impl Abort, alloc: Global, agenda: A) -> Result<(), Fail> {
-    let mut store = digits(alloc, agenda, 3)?;
+fn three_in_order<A: Agenda + Drop>(
+    rt: &impl Abort,
+    alloc: Global,
+    store: &mut Store<A>,
+) -> Result<(), Fail> {
+    add_digits(alloc, store, 3, &mut Activations::new())?;
     let mut n = Activations::new();
-    let posted = post_less(alloc, &mut store, [(0, 1), (1, 2)], &mut n)?;
+    let posted = post_list(store, less(alloc, &[(0, 1), (1, 2)])?, &mut n)?;
     same(rt, posted, Posted::Kept, "X #< Y, Y #< Z");
-    let found = [ends(&store, 0), ends(&store, 1), ends(&store, 2)];
-    let want = [Some((0, 7)), Some((1, 8)), Some((2, 9))];
-    same(rt, found, want, "X #< Y, Y #< Z");
+    ends_are(rt, store, [(0, 7), (1, 8), (2, 9)], "X #< Y, Y #< Z");
     same(rt, n.count <= 12, true, "at most 12 activations");
-    let posted = post_range(alloc, &mut store, &FOUR, 1, &mut n)?;
+    let posted = post_range(alloc, store, &FOUR, 1, &[], &mut n)?;
     same(rt, posted, Posted::Kept, "Y = 4");
-    let found = [ends(&store, 0), ends(&store, 1), ends(&store, 2)];
-    let want = [Some((0, 3)), Some((4, 4)), Some((5, 9))];
-    same(rt, found, want, "Y = 4");
+    ends_are(rt, store, [(0, 3), (4, 4), (5, 9)], "Y = 4");
     Ok(())
 }
 
@@ -161,17 +151,17 @@ fn three_in_order<A: Agenda + Drop>(rt: &impl Abort, alloc: Global, agenda: A) -
 fn each_less_than_the_other<A: Agenda + Drop>(
     rt: &impl Abort,
     alloc: Global,
-    agenda: A,
+    store: &mut Store<A>,
 ) -> Result<(), Fail> {
-    let mut store = digits(alloc, agenda, 2)?;
+    let mut n = Activations::new();
+    add_digits(alloc, store, 2, &mut n)?;
     if store.failed() {
         return Err(Fail::new("failed"));
     }
     store.push_mark()?;
-    let mut n = Activations::new();
-    let posted = post_less(alloc, &mut store, [(0, 1), (1, 0)], &mut n)?;
+    let posted = post_list(store, less(alloc, &[(0, 1), (1, 0)])?, &mut n)?;
     same(rt, posted, Posted::Failed, "X #< Y, Y #< X");
-    let posted = post_range(alloc, &mut store, &DIGITS, 0, &mut n)?;
+    let posted = post_range(alloc, store, &DIGITS, 0, &[], &mut n)?;
     same(rt, posted, Posted::Failed, "behind a failure");
     Ok(())
 }
@@ -179,8 +169,8 @@ fn each_less_than_the_other<A: Agenda + Drop>(
 #[test]
 fn posts_with_both_agendas(rt: HostRuntime) -> Result<(), Fail> {
     let alloc = rt.alloc();
-    three_in_order(&rt, alloc, Fifo::new(alloc))?;
-    three_in_order(&rt, alloc, Cheapest::new(alloc))?;
-    each_less_than_the_other(&rt, alloc, Fifo::new(alloc))?;
-    each_less_than_the_other(&rt, alloc, Cheapest::new(alloc))
+    three_in_order(&rt, alloc, &mut Store::new(alloc, Fifo::new(alloc)))?;
+    three_in_order(&rt, alloc, &mut Store::new(alloc, Cheapest::new(alloc)))?;
+    each_less_than_the_other(&rt, alloc, &mut Store::new(alloc, Fifo::new(alloc)))?;
+    each_less_than_the_other(&rt, alloc, &mut Store::new(alloc, Cheapest::new(alloc)))
 }
