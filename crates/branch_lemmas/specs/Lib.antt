@@ -1,5 +1,4 @@
 pub mod Frames
-pub mod Environments
 pub mod FittingClauses
 pub mod AtomNames
 pub mod SeenHeap

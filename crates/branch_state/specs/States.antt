@@ -1,5 +1,5 @@
 -- A branch as callers see it: heaps of cells with levels of a store, in pairs.
-use Rattle.std.specs.Prelude.{◌≡◌, ℕ, ◌<◌, ◌≤◌, true, false, List, [], ◌∷◌, length, drop, Option, Some}
+use Rattle.std.specs.Prelude.{◌≡◌, ℕ, ◌<◌, ◌≤◌, true, false, List, [], ◌∷◌, length, drop, Some}
 use Rattle.fd_language.specs.declared.TheConstants.{INFINITY}
 use Rattle.fd_language.specs.Family.{Family, has, IsInside}
 use Rattle.fd_language.specs.Range.{Indexical}
@@ -12,7 +12,6 @@ use Rattle.heap_cells.specs.Cells.{Cells, no_cells, Heaps, with_mark, IsOf}
 use Rattle.heap_cells.specs.HeapInvariant.{IsHeap}
 use Rattle.range_code.specs.Frames.{family_of}
 use Rattle.branch_lemmas.specs.VariableBounds.{IsBounded}
-use Rattle.branch_lemmas.specs.Environments.{cell_at}
 use Rattle.branch_lemmas.specs.Frames.{link_in}
 
 -- how many atoms cells may name, the greatest number that a variable may have, the heaps, and the levels of the store
@@ -121,7 +120,3 @@ pub record IsSameBelow (old new : State) : Type 0 where
 -- the cell is of the branch's heap
 abbrev pub IsCell : State → Cell → Type 0
 IsCell s c = IsOf s.heaps.now c × IsAtomBelow s.atoms c
-
--- the cells of an environment are
-abbrev pub AreCells : State → List (Option Cell) → Type 0
-AreCells s env = (x : ℕ) (c : Cell) → cell_at env x ≡ Some c → IsCell s c

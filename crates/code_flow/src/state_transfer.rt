@@ -9,7 +9,7 @@ ghost use Rattle.code_flow.specs.StateTransfer.{needs, plain_needs, unify_needs,
 ghost use Rattle.code_flow.specs.Successors.{AreRegisters};
 ghost use Rattle.code_listing.specs.States.{slot_of, state_of};
 
-use code_listing::{PlaceState, Slot, builtin_arity, constraint_arity};
+use code_listing::{PlaceState, Slot};
 use fd_language::NoMemory;
 use indexmap::IndexSet;
 use std::alloc::Global;
@@ -185,8 +185,8 @@ impl Handed {
             Code::SwitchOnConstant(_) => self.has(1),
             Code::SwitchOnInteger(_) => self.has(1),
             Code::SwitchOnStructure(_) => self.has(1),
-            Code::Builtin(kind) => self.are_set(builtin_arity(kind)),
-            Code::Constrain(kind) => self.are_set(constraint_arity(kind)),
+            Code::Builtin(kind) => self.are_set(kind.arity()),
+            Code::Constrain(kind) => self.are_set(kind.arity()),
             Code::Label(_) => self.are_set(1),
             Code::Best(..) => self.are_set(2),
             Code::PostRange(_, n) => self.are_set(n),

@@ -21,20 +21,6 @@ use propagate_queue::Agenda;
 use term_pool::CONS;
 use wam_code::CodeArea;
 
-/// How many arguments a constraint has.
-fn arity(kind: ConstraintKind) -> usize
-    ensures { result ≡ constraint_arity kind }
-{
-    match kind {
-        ConstraintKind::AllDifferent => 1,
-        ConstraintKind::Compare(_) | ConstraintKind::Not | ConstraintKind::Reified => 2,
-        ConstraintKind::Element
-        | ConstraintKind::Atmost
-        | ConstraintKind::And
-        | ConstraintKind::Or => 3,
-    }
-}
-
 /// Puts the cells of the first `count` registers into `cells`, in place of what is there. The error is want of memory.
 pub(crate) fn gather(areas: &Areas, count: usize, cells: &mut Vec<Cell>) -> Result<(), NoMemory>
     requires { HasArguments count areas.now }
@@ -65,7 +51,7 @@ fn goal_of<A: Agenda + Drop>(
     ensures safe { OnOk result (IsSafe code.now branch.new at 0 areas.now) }
 {
     pool_of(code);
-    gather(areas, arity(kind), cells)?;
+    gather(areas, kind.arity(), cells)?;
     branch.compound(CONS, cells)
 }
 

@@ -12,6 +12,5 @@ mod words;
 mod write;
 
 pub use crate::listed_code::Listed;
-pub use crate::names::{builtin_arity, constraint_arity};
 pub use crate::states::{PlaceState, Slot};
 pub use crate::write::write_listing;

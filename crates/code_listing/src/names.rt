@@ -1,7 +1,6 @@
 //! The names of goals.
 
 ghost use Rattle.std.specs.Prelude.{◌≡◌, ◌++◌, OnOk};
-ghost use Rattle.fd_model.specs.Arities as arities;
 ghost use Rattle.code_listing.specs.Names as names;
 
 use crate::numbers::put_number;
@@ -40,22 +39,6 @@ fn constraint_name(kind: ConstraintKind) -> &'static str
     }
 }
 
-/// How many arguments a constraint has. No memory.
-pub fn constraint_arity(kind: ConstraintKind) -> usize
-    ensures { result ≡ arities.constraint_arity kind }
-{
-    match kind {
-        ConstraintKind::Compare(_) => 2,
-        ConstraintKind::AllDifferent => 1,
-        ConstraintKind::Element => 3,
-        ConstraintKind::Atmost => 3,
-        ConstraintKind::And => 3,
-        ConstraintKind::Or => 3,
-        ConstraintKind::Not => 2,
-        ConstraintKind::Reified => 2,
-    }
-}
-
 /// The name of a kind of built-in goal.
 fn builtin_name(kind: BuiltinKind) -> &'static str
     ensures { result.now ≡ names.builtin_name kind }
@@ -89,18 +72,6 @@ fn builtin_name(kind: BuiltinKind) -> &'static str
     }
 }
 
-/// How many arguments a built-in goal has. No memory.
-pub fn builtin_arity(kind: BuiltinKind) -> usize
-    ensures { result ≡ arities.builtin_arity kind }
-{
-    match kind {
-        BuiltinKind::True | BuiltinKind::Fail | BuiltinKind::False | BuiltinKind::Nl => 0,
-        BuiltinKind::Var | BuiltinKind::Nonvar | BuiltinKind::Integer | BuiltinKind::Atom => 1,
-        BuiltinKind::Atomic | BuiltinKind::Compound | BuiltinKind::Write => 1,
-        _ => 2,
-    }
-}
-
 /// Appends a name as an atom is written, and a number of arguments.
 fn put_functor(alloc: Global, text: &mut Vec<u8>, name: &str, arity: usize) -> Result<(), NoMemory>
     ensures { OnOk result (text.new.items
@@ -119,7 +90,7 @@ pub(crate) fn put_constraint(
 ) -> Result<(), NoMemory>
     ensures { OnOk result (text.new.items ≡ text.old.items ++ names.constraint_word kind) }
 {
-    put_functor(alloc, text, constraint_name(kind), constraint_arity(kind))
+    put_functor(alloc, text, constraint_name(kind), kind.arity())
 }
 
 /// Appends the word of a built-in goal.
@@ -130,7 +101,7 @@ pub(crate) fn put_builtin(
 ) -> Result<(), NoMemory>
     ensures { OnOk result (text.new.items ≡ text.old.items ++ names.builtin_word kind) }
 {
-    put_functor(alloc, text, builtin_name(kind), builtin_arity(kind))
+    put_functor(alloc, text, builtin_name(kind), kind.arity())
 }
 
 /// The word of an order.

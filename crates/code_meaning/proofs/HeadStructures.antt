@@ -19,7 +19,6 @@ use Rattle.heap_cells.specs.Terms.{Naming, terms_by, term_of}
 use Rattle.branch_meaning.specs.Heap.{after, Of, AllOf, StandsForEquations}
 use Rattle.branch_meaning.specs.EquivalentEquations.{SaysSame}
 use Rattle.branch_meaning.proofs.Lemmas.{same_model, after_are, after_is, agree, agree_all, agree_each, more_of, more_all, more_each, still_of}
-use Rattle.branch_lemmas.specs.Environments.{AllOwn}
 use Rattle.branch_lemmas.proofs.Lemmas.{kept_more, kept_barred}
 use Rattle.term_pool.specs.declared.AtomId.{AtomId}
 use Rattle.unify_core.specs.Touches.{IsLinked, IsSymbolic}
@@ -32,7 +31,7 @@ use Rattle.wam_code.specs.Places.{Places, put_at, write, learn, read, IsFresh}
 use Rattle.wam_code.specs.CodeMeaning.{UnifyRule, Owed, Return}
 use Rattle.code_meaning.specs.Registers.{Registers, Saved, IsShown, AllShown}
 use Rattle.code_meaning.specs.StateMeaning.{Made, IsOld, IsMade, Stands}
-use Rattle.code_meaning.specs.ReadMode.{AreCells, IsWider, local, IsPlain, ArePlain, Reads}
+use Rattle.code_meaning.specs.ReadMode.{AllOwn, AreCells, IsWider, local, IsPlain, ArePlain, Reads}
 use Rattle.wam_code.proofs.Lemmas.{put_here, put_else}
 use Rattle.code_meaning.proofs.RegisterTerms.{shown_moved, all_moved}
 use Rattle.code_meaning.proofs.BranchEquations.{moved_over, learnt_here, learnt_more}

@@ -9,7 +9,7 @@ use Rattle.fd_model.specs.ClosedFamilies.{constrained}
 use Rattle.fd_model.specs.Goal.{Goal, Branch}
 use Rattle.fd_model.specs.RunnablePrograms.{EachBelow, NumbersBelow}
 use Rattle.heap_cells.specs.declared.Cell.{Cell}
-use Rattle.heap_cells.specs.Cells.{Cells}
+use Rattle.heap_cells.specs.Cells.{Cells, IsOf}
 use Rattle.heap_cells.specs.Terms.{Naming}
 use Rattle.branch_meaning.specs.Heap.{Of, EquationsOf}
 use Rattle.branch_meaning.specs.EquivalentEquations.{SaysSame}
@@ -26,6 +26,11 @@ use Rattle.wam_code.specs.Places.{Places}
 use Rattle.wam_code.specs.CodeMeaning.{Owed, Means, Return, Continues}
 use Rattle.code_meaning.specs.Registers.{Registers, Saved, IsShown}
 use Rattle.code_meaning.specs.StateMeaning.{Made, IsOld, IsMade}
+
+-- each cell is of the heap
+abbrev pub AllOwn : Cells → List Cell → Type 0
+AllOwn h [] = Unit {0}
+AllOwn h (c ∷ cs) = IsOf h c × AllOwn h cs
 
 -- each cell stands for its term
 abbrev pub AreCells : Naming → Cells → Substitution → (ℕ → Type 0) → List Cell → Terms → Type 0

@@ -1,7 +1,6 @@
 //! The argument registers of places, found from the last place on: those that are still read.
 
 use crate::frames::put_behind;
-use code_listing::{builtin_arity, constraint_arity};
 use fd_language::NoMemory;
 use std::alloc::Global;
 use wam_code::{Code, CodeParts, Register};
@@ -37,8 +36,8 @@ fn first_read(parts: &CodeParts, code: Code) -> usize {
         Code::SwitchOnConstant(_) => 1,
         Code::SwitchOnInteger(_) => 1,
         Code::SwitchOnStructure(_) => 1,
-        Code::Builtin(kind) => builtin_arity(kind),
-        Code::Constrain(kind) => constraint_arity(kind),
+        Code::Builtin(kind) => kind.arity(),
+        Code::Constrain(kind) => kind.arity(),
         Code::Label(_) => 1,
         Code::Best(..) => 2,
         Code::PostRange(_, count) => count,

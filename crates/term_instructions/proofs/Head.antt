@@ -21,7 +21,6 @@ use Rattle.heap_cells.specs.Terms.{Naming, Same, term_of, terms_by, compound_ter
 use Rattle.heap_cells.proofs.Lemmas.{term-Int, term-Atom, term-Struct, unbound_term}
 use Rattle.branch_meaning.specs.Store.{posts}
 use Rattle.branch_lemmas.proofs.Lemmas.{model_wider}
-use Rattle.branch_lemmas.specs.Environments.{AllOwn}
 use Rattle.branch_lemmas.specs.Frames.{store_touches}
 use Rattle.unify_core.specs.declared.Touch.{Touch}
 use Rattle.unify_core.specs.Outcome.{IfTrue, IfFalse}
@@ -36,7 +35,7 @@ use Rattle.wam_code.specs.Effect.{with_owed}
 use Rattle.wam_code.specs.VerifiedCode.{IsAtom}
 use Rattle.code_areas.specs.Areas.{cell_at, IsSet, Contents}
 use Rattle.code_meaning.specs.WriteMode.{GetEnd, Builds}
-use Rattle.code_meaning.specs.ReadMode.{Reads}
+use Rattle.code_meaning.specs.ReadMode.{AllOwn, Reads}
 use Rattle.code_meaning.specs.StateMeaning.{Stands}
 use Rattle.code_meaning.specs.Steps.{GoesOnEqual}
 use Rattle.code_meaning.proofs.Lemmas.{start_get, end_get, IsNone, step_get_structure, read_end, stands_no_model}
