@@ -7,9 +7,9 @@ ghost use Rattle.fd_model.specs.Verdict.{accepted};
 ghost use Rattle.answer_text.specs.Reasons.{reason_text, IsReasonIn};
 ghost use Rattle.byte_ports.specs.Ends.{ends, sink_at};
 ghost use Rattle.clause_check.specs.Programs.{program_in};
-ghost use Rattle.text_output.specs.Endings.{Ending, RunsProgram};
+ghost use Rattle.text_output.specs.Endings.{Ending, RunsProgram, WroteOutput};
 ghost use Rattle.clpcode.specs.Headline.{Answers, Headline, IsListing, ListsVerdict, Lists, RefusesFault, Refuses, Runs};
-ghost use Rattle.clpcode.specs.Lines.{refusal_line as line_of};
+ghost use Rattle.clpcode.specs.Lines.{refusal_line as line_of, usage as usage_line};
 ghost use Rattle.clpcode.specs.Parts.{IsShort};
 ghost use Rattle.clpcode.specs.Words.{task_of as their_task};
 ghost use Rattle.code_listing.specs.Sheets.{Listed as AnyListed};
@@ -231,6 +231,9 @@ pub fn run_code<S: Source, K: Sink>(
         (ends (S.left source.new) (K.written sink.new) (S.faults source.new) (K.faults sink.new))
         result }
     ensures untouched { their_task (map string_bytes words.now) ≡ None → source.new ≡ source.old }
+    ensures usage { their_task (map string_bytes words.now) ≡ None
+        → WroteOutput (sink_at (K.written sink.old) (K.faults sink.old))
+        (sink_at (K.written sink.new) (K.faults sink.new)) result Status.Usage usage_line }
 {
     match task_of(words) {
         None => put_last(sink, USAGE, Status::Usage),

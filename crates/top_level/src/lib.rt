@@ -39,6 +39,7 @@ fn answer_source<S: Source, K: Sink>(
     match read_text(alloc, source) {
         Ok(text) => {
             let verdict = judge_text(alloc, &text, options.infinity);
+            drop(text);
             answer(alloc, verdict, options, sink)
         }
         Err(ReadTextFault::ReadFault) => Status::ReadFault,

@@ -8,3 +8,6 @@ returns-in-None-clause-headline g c = with_usage (map string_bytes c.args.words.
 
 pub returns-in-Some-clause-headline : goal.returns-in-Some-clause-headline
 returns-in-Some-clause-headline g c = c.answer_source.ensures (map string_bytes c.args.words.now) (sym c.in-Some.ensures)
+
+pub returns-in-None-clause-usage : goal.returns-in-None-clause-usage
+returns-in-None-clause-usage g c = λ asks. c.put_last.ensures.ending
