@@ -20,7 +20,7 @@ use Rattle.fd_language.proofs.Lemmas.{two, whole_nodes, bounded_values, needs_me
 use Rattle.range_code.specs.ParameterNeeds.{need_in}
 use Rattle.range_code.specs.Nodes.{node_variables, node_variable, rename_node}
 use Rattle.range_code.specs.Slots.{slots_of, slot_of, slot_needs, in_slots, slot_features}
-use Rattle.range_code.specs.Kinds.{has_pair, all_told, val_slots}
+use Rattle.range_code.specs.ValSlots.{has_pair, val_slots}
 use Rattle.range_code.specs.Heights.{tallest}
 use Rattle.range_code.specs.FoldedRanges.{folded_nodes}
 use Rattle.range_code.specs.Pieces.{piece_node, taken, literals, FitsAlone}
@@ -37,7 +37,6 @@ use Rattle.range_code.proofs.PostedRanges.{fits_table}
 use Rattle.range_code.proofs.FoldedRanges.{pieces_are}
 use Rattle.range_code.specs.Forms.{IsEvaluation, IsShifted}
 use Rattle.range_code.specs.declared.form.Evaluation.{Evaluation}
-use Rattle.range_code.specs.declared.compile.ReadKind.{ReadKind}
 use Rattle.range_code.specs.declared.evaluate.Steps.{Steps}
 use Rattle.range_code.specs.SlotNumbering.{IsNumbered}
 use Rattle.range_code.specs.declared.compile.Numbered.{Numbered}
@@ -135,12 +134,11 @@ shaped q ns slots keys asked ms by_slot nodes slotted keyed named d needed =
     )
 
 -- what is gathered of a range in slots
-pub record Gathers (r : Range) (slots : List ℕ) (ms : List RangeNode) (fs : List (ℕ × Feature)) (kinds : List (ℕ × ReadKind)) (ys : List ℕ) (by_slot : List (Option Need)) : Type 0 where
+pub record Gathers (r : Range) (slots : List ℕ) (ms : List RangeNode) (fs : List (ℕ × Feature)) (ys : List ℕ) (by_slot : List (Option Need)) : Type 0 where
   pub slotted : slots ≡ slots_of r
   pub needed : by_slot ≡ slot_needs r
   pub named : ms ≡ nodes_of (in_slots r)
   pub features : fs ≡ each_once (node_features ms)
-  pub told : kinds ≡ all_told (λ s. has_pair fs (s, feature.Min)) (λ s. has_pair fs (s, feature.Max)) fs
   pub vals : ys ≡ filter (λ s. has_pair fs (s, feature.Val)) (count_up 0 (length slots))
 
 -- a list without elements
@@ -149,23 +147,22 @@ none_there [] n e h = refl
 none_there (y ∷ ys) n e h = absurd (let k : n ≡ 0 = eqb-true n 0 h in let z : ⊥ = omega (arith, e, k) in z)
 
 -- the whole
-pub compiled : (r q : Range) (slots : List ℕ) (ms : List RangeNode) (fs : List (ℕ × Feature)) (kinds : List (ℕ × ReadKind)) (ys : List ℕ)
+pub compiled : (r q : Range) (slots : List ℕ) (ms : List RangeNode) (fs : List (ℕ × Feature)) (ys : List ℕ)
     (by_slot : List (Option Need)) (pieces : List Piece) (steps : Steps) (form : Evaluation) (high : ℕ) →
-    IsTrue (is_accepted INFINITY r) → q ≡ r → Gathers r slots ms fs kinds ys by_slot →
+    IsTrue (is_accepted INFINITY r) → q ≡ r → Gathers r slots ms fs ys by_slot →
     reverse pieces ≡ fold taken [] ms → AreStepsOf by_slot ys (literals pieces) (map piece_node pieces) steps → ((x : Range) → ms ≡ nodes_of x → IsEvaluation x form)
     → (IsShifted form → ys ≡ []) → high ≡ tallest (map piece_node pieces) →
-    IsCompiled q slots by_slot fs kinds ys ms steps form high
-compiled r q slots ms fs kinds ys by_slot pieces steps form high accepted e g ps st fm sh hi =
+    IsCompiled q slots by_slot fs ys ms steps form high
+compiled r q slots ms fs ys by_slot pieces steps form high accepted e g ps st fm sh hi =
     let told : fs ≡ slot_features r = g.features ∙ (ap (λ l. each_once (node_features l)) g.named ∙ ap each_once (whole_nodes feature_at (in_slots r))) in
     let val : ys ≡ val_slots r = g.vals ∙ (ap (λ l. filter (λ x. has_pair l (x, feature.Val)) (count_up 0 (length slots))) told
     ∙ ap (λ l. filter (λ x. has_pair (slot_features r) (x, feature.Val)) (count_up 0 (length l))) g.slotted) in
     let folds = pieces_are (in_slots r) ms pieces (fits_alone r accepted) g.named ps in
-    subst (λ x. IsCompiled x slots by_slot fs kinds ys ms steps form high) (sym e) (record {
+    subst (λ x. IsCompiled x slots by_slot fs ys ms steps form high) (sym e) (record {
       accepted = accepted;
       slots = g.slotted;
       needs = g.needed;
       features = told;
-      kinds = g.told ∙ ap (λ l. all_told (λ s. has_pair l (s, feature.Min)) (λ s. has_pair l (s, feature.Max)) l) told;
       vals = val;
       nodes = g.named;
       steps = subst (λ ns. AreStepsOf ns (val_slots r) (integers (folded_nodes r)) (folded_nodes r) steps) g.needed

@@ -12,7 +12,7 @@ use Rattle.fd_language.specs.Range.{Range, Span, One, Dom, Union, Inter, Outside
 use Rattle.fd_language.specs.Range.{Sub, Mul, DivDown, DivUp}
 use Rattle.fd_language.specs.PostfixRanges.{range_nodes, expr_nodes, IsSpelled}
 use Rattle.range_code.specs.Heights.{values_after, sets_after, peak, tallest, HasRoom, IsCounted, KeepsRoom}
-use Rattle.range_code.proofs.ReadKinds.{low_peak}
+use Rattle.range_code.proofs.Peaks.{low_peak}
 
 -- what is counted doesn't fall where more waits before
 abbrev Grows : (RangeNode → ℕ → ℕ) → Type 0

@@ -13,7 +13,8 @@ mod SetEnds
 mod Operators
 mod SameNodes
 mod Heights
-mod ReadKinds
+mod KeptSlots
+mod Peaks
 mod PostedRanges
 mod FoldedRanges
 mod ConstantPlaces

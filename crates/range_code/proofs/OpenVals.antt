@@ -14,7 +14,7 @@ use Rattle.fd_language.specs.Features.{is_val, is_same_pair}
 use Rattle.fd_language.proofs.Lemmas.{in_count_up, has-filter, any_to}
 use Rattle.range_code.specs.declared.frame.Arg.{Arg}
 use Rattle.range_code.specs.Frames.{AreArgs}
-use Rattle.range_code.specs.Kinds.{has_pair}
+use Rattle.range_code.specs.ValSlots.{has_pair}
 use Rattle.range_code.specs.Nodes.{IsSeen}
 use Rattle.range_code.specs.Standings.{opens}
 use Rattle.range_code.proofs.Standings.{same_is}

@@ -28,7 +28,7 @@ use Rattle.range_code.specs.declared.quick_forms.Pair.{Pair}
 use Rattle.range_code.specs.declared.Reach.TheVariants as reach
 use Rattle.range_code.specs.Frames.{IsArgumentFrame, posted, family_of, slot_set, slot_integer, slot_variable}
 use Rattle.range_code.specs.Nodes.{IsSeen, IsReadable}
-use Rattle.range_code.specs.Kinds.{val_slots}
+use Rattle.range_code.specs.ValSlots.{val_slots}
 use Rattle.range_code.specs.Slots.{in_slots}
 use Rattle.range_code.specs.Steps.{outside}
 use Rattle.range_code.specs.Work.{filled_set}

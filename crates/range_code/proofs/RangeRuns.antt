@@ -24,7 +24,7 @@ use Rattle.range_code.specs.declared.frame.Standing.TheVariants.{Empty, Open, Se
 use Rattle.domain_ranges.specs.declared.Narrowed.{Narrowed}
 use Rattle.domain_ranges.specs.Narrowing.{IsNarrowed, all_but}
 use Rattle.range_code.specs.Slots.{slot_of, in_slots, slots_of, slot_needs, need_at}
-use Rattle.range_code.specs.Kinds.{has_pair, val_slots}
+use Rattle.range_code.specs.ValSlots.{has_pair, val_slots}
 use Rattle.range_code.specs.Frames.{IsArgumentFrame, slot_variable, slot_integer, family_of, slot_set, posted}
 use Rattle.range_code.specs.Nodes.{IsSeen, IsReadable}
 use Rattle.range_code.specs.Standings.{opens, standing_of, tested, IsTestSeen, TestRises}

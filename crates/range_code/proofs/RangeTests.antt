@@ -15,7 +15,7 @@ use Rattle.fd_language.specs.RangeVerdict.{has_one_use}
 use Rattle.fd_language.specs.Features.{features_of}
 use Rattle.fd_language.proofs.Lemmas.{has_kept, has_once, any_from, any_to, map_has, has_map, reads_map, range_leaves}
 use Rattle.range_code.specs.Slots.{slots_of, slot_of, slot_needs, need_at, in_slots}
-use Rattle.range_code.specs.Kinds.{val_slots}
+use Rattle.range_code.specs.ValSlots.{val_slots}
 use Rattle.range_code.proofs.Standings.{any_read}
 use Rattle.range_code.proofs.Frames.{no_parameter, reads_occur}
 use Rattle.range_code.specs.declared.instr.RangeInstr.{RangeInstr}

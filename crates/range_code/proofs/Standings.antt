@@ -104,20 +104,6 @@ reads_filled p r = filled_leaves read_at (λ x. refl) p r
 pub vals_filled : (p : ℕ → ℤ) (r : Range) → vals (fill_range p r) ≡ vals r
 vals_filled p r = filled_leaves val_at (λ x. refl) p r
 
--- no set of a family is empty, where no listed one is
-at_or_past : (domains : List (List ℕ)) (k : ℕ) → (k < length domains) ⊎ (get_or domains k (universe INFINITY) ≡ universe INFINITY)
-at_or_past [] k = inr refl
-at_or_past (d ∷ ds) zero = inl (omega arith)
-at_or_past (d ∷ ds) (suc k) = elim (at_or_past ds k) [ inl h ↦ inl (omega arith) | inr h ↦ inr h ]
-
 pub universe_some : (M : ℕ) → is_none_left (universe M) ≡ false
 unfolding universe
 universe_some M = refl
-
-pub all_some : (domains : List (List ℕ)) (i : ℕ) → length domains ≤ i
-    → ((k : ℕ) → k < i → (is_none_left (get_or domains k (universe INFINITY)) ≡ false) × IsRising 0 INFINITY (get_or domains k (universe INFINITY))) → (k : ℕ)
-    → (is_none_left (get_or domains k (universe INFINITY)) ≡ false) × IsRising 0 INFINITY (get_or domains k (universe INFINITY))
-all_some domains i l h k = elim (at_or_past domains k) [
-  | inl g ↦ h k (omega arith)
-  | inr g ↦ (ap is_none_left g ∙ universe_some INFINITY, subst (IsRising 0 INFINITY) (sym g) (universe_rising INFINITY))
-]

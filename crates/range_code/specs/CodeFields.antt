@@ -7,13 +7,12 @@ use Rattle.fd_language.specs.declared.TheConstants.{INFINITY}
 use Rattle.fd_language.specs.Range.{Range}
 use Rattle.fd_language.specs.RangeVerdict.{is_accepted}
 use Rattle.fd_language.specs.PostfixRanges.{nodes_of}
-use Rattle.range_code.specs.declared.compile.ReadKind.{ReadKind}
 use Rattle.range_code.specs.declared.evaluate.Steps.{Steps}
 use Rattle.range_code.specs.declared.form.Evaluation.{Evaluation}
 use Rattle.range_code.specs.declared.Shape.{Shape}
 use Rattle.range_code.specs.Forms.{IsEvaluation, IsShifted}
 use Rattle.range_code.specs.Slots.{slots_of, slot_needs, slot_features, in_slots}
-use Rattle.range_code.specs.Kinds.{slot_kinds, val_slots}
+use Rattle.range_code.specs.ValSlots.{val_slots}
 use Rattle.range_code.specs.Heights.{height}
 use Rattle.range_code.specs.FoldedRanges.{folded_nodes}
 use Rattle.range_code.specs.Instructions.{tests_for, integers, once_each, instr_of}
@@ -30,13 +29,12 @@ pub record IsShapeOf (r : Range) (s : Shape) : Type 0 where
   pub needs : s.needs.items ≡ slot_needs r
   pub nodes : s.nodes.items ≡ nodes_of (in_slots r)
 
-pub record IsCompiled (r : Range) (vs : List ℕ) (ns : List (Option Need)) (fs : List (ℕ × Feature)) (ks : List (ℕ × ReadKind)) (ys : List ℕ)
+pub record IsCompiled (r : Range) (vs : List ℕ) (ns : List (Option Need)) (fs : List (ℕ × Feature)) (ys : List ℕ)
     (ms : List RangeNode) (s : Steps) (way : Evaluation) (high : ℕ) : Type 0 where
   pub accepted : IsTrue (is_accepted INFINITY r)
   pub slots : vs ≡ slots_of r
   pub needs : ns ≡ slot_needs r
   pub features : fs ≡ slot_features r
-  pub kinds : ks ≡ slot_kinds r
   pub vals : ys ≡ val_slots r
   pub nodes : ms ≡ nodes_of (in_slots r)
   pub steps : AreStepsOf (slot_needs r) (val_slots r) (integers (folded_nodes r)) (folded_nodes r) s

@@ -11,7 +11,7 @@ use Rattle.fd_language.specs.Range.{Range}
 use Rattle.range_code.specs.declared.instr.RangeInstr.{RangeInstr}
 use Rattle.range_code.specs.declared.instr.RangeInstr.TheVariants as instr
 use Rattle.range_code.specs.Slots.{slot_needs}
-use Rattle.range_code.specs.Kinds.{val_slots}
+use Rattle.range_code.specs.ValSlots.{val_slots}
 use Rattle.range_code.specs.FoldedRanges.{folded_nodes}
 
 -- the slots from n on that need nothing: those of no parameter

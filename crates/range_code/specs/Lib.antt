@@ -1,7 +1,7 @@
 pub mod Slots
 pub mod Frames
 pub mod Nodes
-pub mod Kinds
+pub mod ValSlots
 pub mod FoldedRanges
 pub mod Instructions
 pub mod Standings

@@ -9,7 +9,7 @@ ghost use Rattle.fd_language.specs.Features.{each_once, is_same_feature, is_same
 ghost use Rattle.range_code.specs.Nodes.{node_variable, node_variables, rename_node};
 ghost use Rattle.range_code.specs.ParameterNeeds.{need_in};
 ghost use Rattle.fd_language.specs.Family.{count_up};
-ghost use Rattle.range_code.specs.Kinds.{has_pair, told_as as told_by, all_told};
+ghost use Rattle.range_code.specs.ValSlots.{has_pair};
 ghost use Rattle.range_code.specs.Heights.{values_after, sets_after, tallest};
 ghost use Rattle.range_code.specs.Pieces.{piece_node};
 ghost use Rattle.range_code.specs.SlotNumbering.{IsNumbered};
@@ -37,11 +37,10 @@ pub(crate) struct Slotted {
     pub nodes: Vec<RangeNode>,
 }
 
-/// What nodes read of their slots: the pairs of a slot and a feature, their kinds, and the slots that are read by val.
+/// What nodes read of their slots: the pairs of a slot and a feature, and the slots that are read by val.
 #[derive(Drop)]
 pub(crate) struct Reads {
     pub features: Vec<(usize, Feature)>,
-    pub kinds: Vec<(usize, ReadKind)>,
     pub vals: Vec<usize>,
 }
 
@@ -226,70 +225,6 @@ fn slots_with(
     Ok(met)
 }
 
-/// What a range reads of a slot, the least and the greatest member of one slot together.
-#[derive(Clone, Copy, Debug, PartialEq, Eq)]
-pub enum ReadKind {
-    /// The least member alone of the two.
-    Min,
-    /// The greatest member alone of the two.
-    Max,
-    /// The least and the greatest member.
-    Both,
-    /// The only member.
-    Val,
-    /// All members.
-    Dom,
-}
-
-/// What the pair is told as, where the slots are known that are read by min and by max.
-fn told_as(
-    min: &HashSet<usize>,
-    max: &HashSet<usize>,
-    slot: usize,
-    feature: Feature,
-) -> Option<(usize, ReadKind)>
-    ensures { result ≡ told_by (λ s. list_any (nat_eq s) min.now.keys)
-        (λ s. list_any (nat_eq s) max.now.keys) (slot, feature) }
-{
-    match feature {
-        Feature::Min => {
-            if max.contains(&slot) {
-                Some((slot, ReadKind::Both))
-            } else {
-                Some((slot, ReadKind::Min))
-            }
-        }
-        Feature::Max => {
-            if min.contains(&slot) {
-                None
-            } else {
-                Some((slot, ReadKind::Max))
-            }
-        }
-        Feature::Val => Some((slot, ReadKind::Val)),
-        Feature::Dom => Some((slot, ReadKind::Dom)),
-    }
-}
-
-/// The kinds of the pairs.
-fn kinds_of(
-    alloc: Global,
-    min: &HashSet<usize>,
-    max: &HashSet<usize>,
-    features: &[(usize, Feature)],
-) -> Result<Vec<(usize, ReadKind)>, NoMemory>
-    ensures { IfOk result (λ v. v.items ≡ all_told (λ s. list_any (nat_eq s) min.now.keys)
-        (λ s. list_any (nat_eq s) max.now.keys) features.now) }
-{
-    let mut kinds = Vec::new(alloc);
-    for (slot, feature) in features {
-        if let Some(kind) = told_as(min, max, *slot, *feature) {
-            kinds.push(kind)?;
-        }
-    }
-    Ok(kinds)
-}
-
 /// The slots below the number that are read by val.
 fn vals_of(alloc: Global, val: &HashSet<usize>, count: usize) -> Result<Vec<usize>, NoMemory>
     ensures { IfOk result (λ v. v.items ≡ filter (λ s. list_any (nat_eq s) val.now.keys)
@@ -302,19 +237,6 @@ fn vals_of(alloc: Global, val: &HashSet<usize>, count: usize) -> Result<Vec<usiz
         }
     }
     Ok(vals)
-}
-
-/// The kinds of what is read.
-fn read_kinds(
-    alloc: Global,
-    features: &[(usize, Feature)],
-) -> Result<Vec<(usize, ReadKind)>, NoMemory>
-    ensures { IfOk result (λ v. v.items ≡ all_told (λ s. has_pair features.now (s, Told.Min))
-        (λ s. has_pair features.now (s, Told.Max)) features.now) }
-{
-    let min = slots_with(alloc, features, Feature::Min)?;
-    let max = slots_with(alloc, features, Feature::Max)?;
-    kinds_of(alloc, &min, &max, features)
 }
 
 /// The slots below the number that are read by val.
@@ -334,20 +256,12 @@ fn read_vals(
 pub(crate) fn reads_of(alloc: Global, nodes: &[RangeNode], count: usize) -> Result<Reads, NoMemory>
     ensures features { IfOk result (λ reads. reads.features.items
         ≡ each_once (read_by nodes.now)) }
-    ensures kinds { IfOk result (λ reads. reads.kinds.items
-        ≡ all_told (λ s. has_pair reads.features.items (s, Told.Min))
-        (λ s. has_pair reads.features.items (s, Told.Max)) reads.features.items) }
     ensures vals { IfOk result (λ reads. reads.vals.items
         ≡ filter (λ s. has_pair reads.features.items (s, Told.Val)) (count_up 0 count)) }
 {
     let features = read_slots(alloc, nodes)?;
-    let kinds = read_kinds(alloc, &features)?;
     let vals = read_vals(alloc, &features, count)?;
-    Ok(Reads {
-        features,
-        kinds,
-        vals,
-    })
+    Ok(Reads { features, vals })
 }
 
 /// How many values wait behind the piece, where so many wait before it.

@@ -1,12 +1,11 @@
 //! The arguments of a range, and what they give.
 
-ghost use Rattle.std.specs.Prelude.{◌≡◌, ◌<◌, ◌↔◌, ℕ, IsTrue, false, length};
+ghost use Rattle.std.specs.Prelude.{◌≡◌, ◌<◌, length};
 ghost use Rattle.std.specs.List.{All, list_any};
-ghost use Rattle.fd_language.specs.Family.{IsFamily};
-ghost use Rattle.range_code.specs.Frames.{variable_of, arg_integer, slot_integer, slot_set, family_of};
+ghost use Rattle.range_code.specs.Frames.{variable_of, arg_integer, slot_integer, slot_set};
 ghost use Rattle.range_code.specs.Nodes.{IsSeen};
 ghost use Rattle.range_code.specs.Standings.{tested, IsTestSeen, TestRises};
-ghost use Rattle.fd_language.specs.Range.{is_several, is_none_left};
+ghost use Rattle.fd_language.specs.Range.{is_several};
 
 use crate::instr::RangeInstr;
 use domain_ranges::{Domain, View};
@@ -116,18 +115,4 @@ pub(crate) fn is_some_open<V: View>(slots: &[usize], args: &[Arg], view: &V) -> 
         }
     }
     false
-}
-
-/// Whether each domain has a member. This is what `narrow` asks of the sets of its view.
-pub fn are_some(domains: &[Domain]) -> bool
-    ensures some { IsTrue result
-        ↔ ((k : ℕ) → is_none_left (family_of domains.now k) ≡ false) }
-    ensures family { IsTrue result → IsFamily INFINITY (family_of domains.now) }
-{
-    for domain in domains {
-        if domain.min().is_none() {
-            return false;
-        }
-    }
-    true
 }

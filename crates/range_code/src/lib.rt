@@ -8,7 +8,7 @@ ghost use Rattle.fd_language.specs.PostfixRanges.{nodes_of};
 ghost use Rattle.fd_language.specs.Range.{Range, set_of, least, is_none_left, is_several};
 ghost use Rattle.domain_ranges.specs.Narrowing.{IsNarrowed};
 ghost use Rattle.range_code.specs.Slots.{slots_of, slot_needs, slot_features, in_slots, IsAlike};
-ghost use Rattle.range_code.specs.Kinds.{slot_kinds, val_slots};
+ghost use Rattle.range_code.specs.ValSlots.{val_slots};
 ghost use Rattle.range_code.specs.Heights.{height, tallest};
 ghost use Rattle.range_code.specs.FoldedRanges.{folded_nodes};
 ghost use Rattle.range_code.specs.Pieces.{pieces_of, piece_node, literals};
@@ -32,12 +32,11 @@ mod quick_forms;
 mod renamed_ranges;
 mod work;
 
-pub use crate::compile::ReadKind;
 use crate::compile::{copy_range, height_of, needs_of_slots, put_in_slots, reads_of};
 use crate::evaluate::{Steps, evaluate, evaluate_narrowing};
 use crate::fold::fold_literals;
 use crate::form::{Evaluation, both_values, form_of};
-pub use crate::frame::{Arg, are_some};
+pub use crate::frame::Arg;
 use crate::frame::{Standing, find_standing, is_open, is_some_open, slot_domain};
 pub use crate::instr::RangeInstr;
 use crate::instr::steps_of;
@@ -60,7 +59,6 @@ pub struct RangeCode {
     slots: Vec<u64>,
     needs: Vec<Option<Need>>,
     features: Vec<(usize, Feature)>,
-    kinds: Vec<(usize, ReadKind)>,
     vals: Vec<usize>,
     nodes: Vec<RangeNode>,
     steps: Steps,
@@ -83,7 +81,7 @@ impl Model for RangeCode {
     ghost view = { λ c. c.range };
 
     ghost invariant = { λ c. IsCompiled c.range c.slots.items c.needs.items c.features.items
-        c.kinds.items c.vals.items c.nodes.items c.steps c.form c.height };
+        c.vals.items c.nodes.items c.steps c.form c.height };
 }
 
 /// How many ranges were evaluated.
@@ -133,13 +131,6 @@ impl RangeCode {
         &self.features
     }
 
-    /// The same, the least and the greatest member of one slot together.
-    pub fn kinds(&self) -> &[(usize, ReadKind)]
-        ensures { result.now ≡ slot_kinds self.now }
-    {
-        &self.kinds
-    }
-
     /// The range itself.
     pub fn range(&self) -> &FlatRange
         ensures { result.now ≡ self.now }
@@ -154,20 +145,8 @@ impl RangeCode {
         &self.steps.instrs
     }
 
-    /// Whether the other range is the same but for the names of its variables. With the same arguments the two are posted as one range,
-    /// so the code of one serves for both.
-    pub fn is_alike(&self, other: &RangeCode) -> bool
-        ensures alike { IsTrue result ↔ IsAlike self.now other.now }
-        ensures posted { IsTrue result
-            → (args : List AnyArg) → posted self.now args ≡ posted other.now args }
-        ensures needs { IsTrue result → slot_needs self.now ≡ slot_needs other.now }
-        ensures nodes { IsTrue result
-            → length (nodes_of self.now) ≡ length (nodes_of other.now) }
-    {
-        are_same_needs(&self.needs, &other.needs) && are_same_nodes(&self.nodes, &other.nodes)
-    }
-
-    /// Whether the code's range and that of the shape are the same but for the names of their variables, as `is_alike` says of codes.
+    /// Whether the code's range and that of the shape are the same but for the names of their variables. With the same arguments the two
+    /// are posted as one range, so the code serves for both.
     pub fn has_shape(&self, shape: &Shape) -> bool
         ensures alike { (r : Range) → IsShapeOf r shape.now → IsTrue result ↔ IsAlike self.now r }
         ensures posted { (r : Range) → IsShapeOf r shape.now → IsTrue result
@@ -302,7 +281,6 @@ pub fn compile_shape(alloc: Global, c: &Checked, shape: Shape) -> Result<RangeCo
         slots: shape.slots,
         needs: shape.needs,
         features: reads.features,
-        kinds: reads.kinds,
         vals: reads.vals,
         nodes: shape.nodes,
         steps,

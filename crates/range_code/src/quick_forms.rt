@@ -6,7 +6,7 @@ ghost use Rattle.fd_language.specs.PostfixRanges.{nodes_of};
 ghost use Rattle.fd_language.specs.RangeVerdict.{is_accepted};
 ghost use Rattle.range_code.specs.Frames.{slot_variable, slot_integer};
 ghost use Rattle.range_code.specs.Forms.{IsInterval, IsException};
-ghost use Rattle.range_code.specs.Kinds.{val_slots};
+ghost use Rattle.range_code.specs.ValSlots.{val_slots};
 ghost use Rattle.range_code.specs.Slots.{in_slots};
 ghost use Rattle.range_code.specs.QuickForms.{IsPairOf, IsQuick, IsWithin, between_parameters, reached};
 

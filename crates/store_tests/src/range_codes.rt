@@ -7,10 +7,7 @@ use crate::assertions::same;
 use crate::codes::code_of;
 use domain_ranges::{Domain, View};
 use fd_language::{Feature, Need, RangeNode};
-use range_code::{
-    Activations, Arg, Narrowed, RangeCode, RangeInstr, ReadKind, Stacks, are_some, narrow,
-    run_range,
-};
+use range_code::{Activations, Arg, RangeCode, RangeInstr, run_range};
 use std::alloc::Global;
 use std::marker::Model;
 use std::process::Abort;
@@ -113,68 +110,17 @@ fn gives(
     set_is(rt, alloc, &code, args, &view, want)
 }
 
-/// Narrows the target by the code over the variables' domains, with these stacks, and compares what is left.
-fn left_is(
-    rt: &impl Abort,
-    code: &RangeCode,
-    args: &[Arg],
-    view: &Domains,
-    target: &Domain,
-    stacks: &mut Stacks,
-    want: &[(u32, u32)],
-) -> Result<(), Fail> {
-    let fits = are_args(view.list.len(), code.needs(), args);
-    assert!(rt; fits);
-    let some = are_some(&view.list);
-    assert!(rt; some);
-    stacks.reserve(code)?;
-    let mut n = Activations::new();
-    let nothing: &[(u32, u32)] = &[];
-    match narrow(code, args, view, target, stacks, &mut n)? {
-        Narrowed::Same => same(rt, target.spans(), want, "the same"),
-        Narrowed::Empty => same(rt, nothing, want, "nothing"),
-        Narrowed::Changed(domain) => same(rt, domain.spans(), want, "what is left"),
-    }
-    same(rt, n.count, 1, "activations");
-    Ok(())
-}
-
-/// What the range leaves of the target, over the variables' domains.
-fn leaves(
-    rt: &impl Abort,
-    alloc: Global,
-    nodes: &[RangeNode],
-    args: &[Arg],
-    spans: &[(i128, i128)],
-    target: (i128, i128),
-    want: &[(u32, u32)],
-) -> Result<(), Fail> {
-    let code = code_of(alloc, nodes)?;
-    let view = domains_of(alloc, spans)?;
-    let target = Domain::interval(alloc, target.0, target.1);
-    let mut stacks = Stacks::new(alloc);
-    left_is(rt, &code, args, &view, &target, &mut stacks, want)
-}
-
-/// What `min(Y)+1..infinity` and `-{val(Y)}` leave of a domain.
+/// The sets of `min(Y)+1..infinity` and `-{val(Y)}`.
 #[test]
-fn interval_and_complement_narrow(rt: HostRuntime) -> Result<(), Fail> {
+fn sets_of_an_interval_and_a_complement(rt: HostRuntime) -> Result<(), Fail> {
     use RangeNode::*;
     let alloc = rt.alloc();
     let y = [Arg::Var(0)];
     let above = [Min(7), Int(1), Add, Infinity, Span];
-    leaves(&rt, alloc, &above, &y, &[(3, 5)], (0, 9), &[(4, 9)])?;
+    gives(&rt, alloc, &above, &y, &[(3, 5)], &[(4, 268_435_455)])?;
     let differs = [Val(7), One, Outside];
-    leaves(
-        &rt,
-        alloc,
-        &differs,
-        &y,
-        &[(4, 4)],
-        (3, 5),
-        &[(3, 3), (5, 5)],
-    )?;
-    Ok(())
+    let others: &[(u32, u32)] = &[(0, 3), (5, 268_435_455)];
+    gives(&rt, alloc, &differs, &y, &[(4, 4)], others)
 }
 
 /// The set of `(0..max(Y))&-{2}`.
@@ -212,28 +158,13 @@ const NEEDS: &[Option<Need>] = &[Some(Need::Natural), None, Some(Need::Divisor)]
 
 const FEATURES: &[(usize, Feature)] = &[(1, Feature::Min), (1, Feature::Max)];
 
-const KINDS: &[(usize, ReadKind)] = &[(1, ReadKind::Both)];
-
 #[test]
 fn slots_needs_and_reads(rt: HostRuntime) -> Result<(), Fail> {
     let code = code_of(rt.alloc(), NODES)?;
     same(&rt, code.slots(), SLOTS, "the slots");
     same(&rt, code.needs(), NEEDS, "the needs");
     same(&rt, code.features(), FEATURES, "the features");
-    same(&rt, code.kinds(), KINDS, "the kinds");
     same(&rt, code.range().nodes(), NODES, "the range");
-    Ok(())
-}
-
-/// `min(Y)..9` and `min(Z)..9` are alike, and `val(Y)..9` isn't.
-#[test]
-fn alike_but_for_names(rt: HostRuntime) -> Result<(), Fail> {
-    use RangeNode::*;
-    let first = code_of(rt.alloc(), &[Min(3), Int(9), Span])?;
-    let second = code_of(rt.alloc(), &[Min(8), Int(9), Span])?;
-    let third = code_of(rt.alloc(), &[Val(3), Int(9), Span])?;
-    assert!(rt; first.is_alike(&second));
-    assert!(rt; !first.is_alike(&third));
     Ok(())
 }
 

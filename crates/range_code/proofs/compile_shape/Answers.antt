@@ -4,7 +4,7 @@ use Rattle.fd_language.specs.declared.range_node.Feature.TheVariants as feature
 use Rattle.fd_language.specs.Family.{count_up}
 use Rattle.fd_language.specs.Features.{each_once, node_features}
 use Rattle.range_code.specs.Heights.{tallest}
-use Rattle.range_code.specs.Kinds.{has_pair}
+use Rattle.range_code.specs.ValSlots.{has_pair}
 use Rattle.range_code.specs.Pieces.{piece_node, pieces_of, taken, literals}
 use Rattle.range_code.specs.CodeFields.{AreStepsOf}
 use Rattle.range_code.proofs.CompiledRanges.{compiled, none_there}
@@ -17,7 +17,7 @@ invariant_of-result c =
     let nodes = s.nodes.items in
     let vals = c.in_ok-reads.reads.vals.items in
     let pieces = pieces_of nodes in
-    compiled c.args.c.now c.in_ok-range.range slots nodes c.in_ok-reads.reads.features.items c.in_ok-reads.reads.kinds.items vals s.needs.items
+    compiled c.args.c.now c.in_ok-range.range slots nodes c.in_ok-reads.reads.features.items vals s.needs.items
     pieces c.in_ok-steps.steps c.in_ok-form.form c.in_ok-steps.height
     c.range.ensures.accepted (c.in_ok-range.ensures ∙ c.range.ensures.range)
     (record {
@@ -25,7 +25,6 @@ invariant_of-result c =
       needed = c.requires.needs;
       named = c.requires.nodes;
       features = c.in_ok-reads.ensures.features ∙ ap (λ l. each_once (node_features l)) c.deref.ensures.value;
-      told = c.in_ok-reads.ensures.kinds;
       vals = c.in_ok-reads.ensures.vals
           ∙ ap (λ n. filter (λ s. has_pair c.in_ok-reads.reads.features.items (s, feature.Val)) (count_up 0 n)) (ap length c.as_slice.ensures.value);
     })

@@ -4,7 +4,7 @@ use Rattle.fd_language.specs.declared.TheConstants.{INFINITY}
 use Rattle.fd_language.specs.Family.{IsSubset}
 use Rattle.fd_language.proofs.Lemmas.{rising_inside}
 use Rattle.domain_ranges.specs.Narrowing.{between, all_but}
-use Rattle.range_code.specs.Kinds.{val_slots}
+use Rattle.range_code.specs.ValSlots.{val_slots}
 use Rattle.range_code.proofs.Forms.{narrows_same}
 use Rattle.range_code.proofs.RangeRuns.{nodes_readable, nodes_spelled, nodes_fit_family, table_narrows}
 use Rattle.range_code.specs.Slots.{in_slots}

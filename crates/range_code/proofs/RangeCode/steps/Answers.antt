@@ -1,6 +1,6 @@
 use Rattle.std.proofs.Common.{◌∙◌, ap}
 use Rattle.range_code.specs.Slots.{slot_needs, in_slots}
-use Rattle.range_code.specs.Kinds.{val_slots}
+use Rattle.range_code.specs.ValSlots.{val_slots}
 use Rattle.range_code.specs.FoldedRanges.{folded_nodes}
 use Rattle.range_code.proofs.ConstantPlaces.{steps_are, steps_placed}
 use Rattle.range_code.proofs.RangeCode.steps.Goals as goal

@@ -1,6 +1,6 @@
 use Rattle.std.proofs.Common.{◌∙◌, ap, take}
 use Rattle.range_code.specs.Slots.{slot_needs}
-use Rattle.range_code.specs.Kinds.{val_slots}
+use Rattle.range_code.specs.ValSlots.{val_slots}
 use Rattle.range_code.specs.FoldedRanges.{folded_nodes}
 use Rattle.range_code.specs.Instructions.{tests_of}
 use Rattle.range_code.proofs.ConstantPlaces.{tests_are}

@@ -1,7 +1,7 @@
 use Rattle.std.proofs.Common.{◌∙◌, ap, map, max}
 use Rattle.range_code.specs.Heights.{tallest}
 use Rattle.range_code.specs.Pieces.{piece_node}
-use Rattle.range_code.proofs.ReadKinds.{high_piece}
+use Rattle.range_code.proofs.Peaks.{high_piece}
 use Rattle.range_code.proofs.compile.height_of.Goals as goal
 
 pub loop-piece-preserved : goal.loop-piece-preserved

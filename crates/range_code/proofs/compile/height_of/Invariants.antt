@@ -1,7 +1,7 @@
 use Rattle.std.proofs.Common.{map}
 use Rattle.range_code.specs.Heights.{tallest}
 use Rattle.range_code.specs.Pieces.{piece_node}
-use Rattle.range_code.proofs.ReadKinds.{IsHigh}
+use Rattle.range_code.proofs.Peaks.{IsHigh}
 use Rattle.range_code.proofs.compile.height_of.Given as goal
 
 abbrev pub invariant-loop-piece : goal.invariant-loop-piece

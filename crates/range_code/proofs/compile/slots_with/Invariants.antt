@@ -1,6 +1,6 @@
 use Rattle.std.proofs.Common.{◌≡◌, ℕ, take, nat_eq}
 use Rattle.std.specs.List.{list_any}
-use Rattle.range_code.specs.Kinds.{has_pair}
+use Rattle.range_code.specs.ValSlots.{has_pair}
 use Rattle.range_code.proofs.compile.slots_with.Given as goal
 
 abbrev pub invariant-loop-slot : goal.invariant-loop-slot

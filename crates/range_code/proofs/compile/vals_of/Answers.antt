@@ -1,6 +1,6 @@
 use Rattle.std.proofs.Common.{nat_eq, ◌∙◌, ap, sym}
 use Rattle.std.specs.List.{list_any}
-use Rattle.range_code.proofs.ReadKinds.{kept_put, kept_left}
+use Rattle.range_code.proofs.KeptSlots.{kept_put, kept_left}
 use Rattle.range_code.proofs.compile.vals_of.Goals.{then-contains+in_ok-push, else-contains}
 use Rattle.range_code.proofs.compile.vals_of.Goals as goal
 
