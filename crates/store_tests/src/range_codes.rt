@@ -1,13 +1,16 @@
 //! Codes of ranges: their sets over given domains, as the table of ranges has them, and what they tell.
 
-ghost use Rattle.std.specs.Prelude.{◌≡◌, ◌<◌, IsTrue};
-ghost use Rattle.range_code.specs.Frames.{IsArg, AreArgs};
+ghost use Rattle.std.specs.Prelude.{◌≡◌, ◌<◌, ℕ, IsTrue, false};
+ghost use Rattle.fd_language.specs.declared.TheConstants.{INFINITY};
+ghost use Rattle.fd_language.specs.Family.{IsFamily};
+ghost use Rattle.fd_language.specs.Range.{is_none_left};
+ghost use Rattle.range_code.specs.Frames.{IsArg, AreArgs, family_of};
 
 use crate::assertions::same;
 use crate::codes::code_of;
 use domain_ranges::{Domain, View};
 use fd_language::{Feature, Need, RangeNode};
-use range_code::{Activations, Arg, RangeCode, RangeInstr, run_range};
+use range_code::{Activations, Arg, Narrowed, RangeCode, RangeInstr, Stacks, narrow, run_range};
 use std::alloc::Global;
 use std::marker::Model;
 use std::process::Abort;
@@ -110,17 +113,82 @@ fn gives(
     set_is(rt, alloc, &code, args, &view, want)
 }
 
-/// The sets of `min(Y)+1..infinity` and `-{val(Y)}`.
+/// Whether each domain has a member, which `narrow` asks of the sets of its view.
+fn are_some(domains: &[Domain]) -> bool
+    ensures some { IsTrue result
+        → (k : ℕ) → is_none_left (family_of domains.now k) ≡ false }
+    ensures family { IsTrue result → IsFamily INFINITY (family_of domains.now) }
+{
+    for domain in domains {
+        if domain.min().is_none() {
+            return false;
+        }
+    }
+    true
+}
+
+/// Narrows the target by the code over the variables' domains, with these stacks, and compares what is left.
+fn left_is(
+    rt: &impl Abort,
+    code: &RangeCode,
+    args: &[Arg],
+    view: &Domains,
+    target: &Domain,
+    stacks: &mut Stacks,
+    want: &[(u32, u32)],
+) -> Result<(), Fail> {
+    let fits = are_args(view.list.len(), code.needs(), args);
+    assert!(rt; fits);
+    let some = are_some(&view.list);
+    assert!(rt; some);
+    stacks.reserve(code)?;
+    let mut n = Activations::new();
+    let nothing: &[(u32, u32)] = &[];
+    match narrow(code, args, view, target, stacks, &mut n)? {
+        Narrowed::Same => same(rt, target.spans(), want, "the same"),
+        Narrowed::Empty => same(rt, nothing, want, "nothing"),
+        Narrowed::Changed(domain) => same(rt, domain.spans(), want, "what is left"),
+    }
+    same(rt, n.count, 1, "activations");
+    Ok(())
+}
+
+/// What the range leaves of the target, over the variables' domains.
+fn leaves(
+    rt: &impl Abort,
+    alloc: Global,
+    nodes: &[RangeNode],
+    args: &[Arg],
+    spans: &[(i128, i128)],
+    target: (i128, i128),
+    want: &[(u32, u32)],
+) -> Result<(), Fail> {
+    let code = code_of(alloc, nodes)?;
+    let view = domains_of(alloc, spans)?;
+    let target = Domain::interval(alloc, target.0, target.1);
+    let mut stacks = Stacks::new(alloc);
+    left_is(rt, &code, args, &view, &target, &mut stacks, want)
+}
+
+/// What `min(Y)+1..infinity` and `-{val(Y)}` leave of a domain.
 #[test]
-fn sets_of_an_interval_and_a_complement(rt: HostRuntime) -> Result<(), Fail> {
+fn interval_and_complement_narrow(rt: HostRuntime) -> Result<(), Fail> {
     use RangeNode::*;
     let alloc = rt.alloc();
     let y = [Arg::Var(0)];
     let above = [Min(7), Int(1), Add, Infinity, Span];
-    gives(&rt, alloc, &above, &y, &[(3, 5)], &[(4, 268_435_455)])?;
+    leaves(&rt, alloc, &above, &y, &[(3, 5)], (0, 9), &[(4, 9)])?;
     let differs = [Val(7), One, Outside];
-    let others: &[(u32, u32)] = &[(0, 3), (5, 268_435_455)];
-    gives(&rt, alloc, &differs, &y, &[(4, 4)], others)
+    leaves(
+        &rt,
+        alloc,
+        &differs,
+        &y,
+        &[(4, 4)],
+        (3, 5),
+        &[(3, 3), (5, 5)],
+    )?;
+    Ok(())
 }
 
 /// The set of `(0..max(Y))&-{2}`.
