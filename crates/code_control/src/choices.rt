@@ -1,4 +1,5 @@
-//! Choices: places to come back to are left, and gone back to.
+//! Choices: places to come back to are left, and gone back to. Each instruction has a function, also where it does next to nothing, as
+//! `jump` and `fail_now`: so each has a contract of one form, by which the machine's step is proved.
 
 ghost use Rattle.std.specs.Prelude.{◌≡◌, ◌<◌, ◌∷◌, length, IfOk, OnOk};
 ghost use Rattle.wam_code.specs.declared.instruction.Code.TheVariants as step;

@@ -1,4 +1,5 @@
-//! Steps that say nothing.
+//! Steps that say nothing. An instruction is matched in groups, first those of terms, then calls and choices, then goals, since the prover
+//! takes a wide match badly: where a group doesn't have it, the place is put back, and the next group matches it again.
 
 ghost use Rattle.std.specs.Prelude.{◌≡◌, ◌<◌, reverse, length, true, false, IfOk, OnOk};
 ghost use Rattle.wam_code.specs.declared.instruction.Code.TheVariants as step;
