@@ -31,9 +31,10 @@ use Rattle.domain_ranges.specs.Narrowing.{between}
 use Rattle.range_code.specs.Work.{IsLimited, operated, filled_value, filled_set, Fits, RangeFits}
 use Rattle.range_code.specs.declared.form.Evaluation.{Evaluation}
 use Rattle.range_code.specs.declared.form.Shift.{Shift}
-use Rattle.range_code.specs.declared.form.Evaluation.TheVariants.{Nodes, Differs, Above, Below, Between, Row, Without, Except, Chosen}
+use Rattle.range_code.specs.declared.form.Evaluation.TheVariants.{Nodes, Differs, Above, Below, Between, Row, Without, Except, Chosen, Counter, Counted, Products, Quotients}
 use Rattle.range_code.specs.declared.form.Bound.{Bound}
 use Rattle.range_code.specs.Forms.{IsShiftUsable, IsUsable, IsInterval, IsEvaluation}
+use Rattle.range_code.specs.SpelledRanges.{counter_range, counted_range, products_range, quotients_range, MeansSame}
 use Rattle.range_code.proofs.Tables.{one_is, union_is, inter_is, outside_is, plus_is, minus_is, times_is, over_is}
 
 -- the last piece of a list is the first one of the list turned round
@@ -286,6 +287,9 @@ interval_folded r a b h = record { set = λ S p. set_folded S p r ∙ h.set S p;
 shift_folded : (r : Range) (s : Shift) → IsShiftUsable r s → IsShiftUsable (folded_range r) s
 shift_folded r s u = record { width = u.width; seen = λ count args h. u.seen count args (readable_unfolded count args r h) }
 
+same_folded : (r q : Range) → MeansSame r q → MeansSame (folded_range r) q
+same_folded r q h = record { set = λ S p. set_folded S p r ∙ h.set S p; readable = λ count args g. h.readable count args (readable_unfolded count args r g) }
+
 pub form_folded : (r : Range) (f : Evaluation) → IsEvaluation r f → IsEvaluation (folded_range r) f
 form_folded r Nodes h = tt
 form_folded r (Differs slot) h = ap folded_range h
@@ -296,6 +300,10 @@ form_folded r (Row a b) h = (interval_folded r a b h.0, h.1)
 form_folded r (Without a b) h = record { set = λ S p. set_folded S p r ∙ h.set S p; low = usable_folded r a h.low; high = usable_folded r b h.high }
 form_folded r (Except a) h = record { set = λ S p. set_folded S p r ∙ h.set S p; value = usable_folded r a h.value }
 form_folded r (Chosen c) h = record { set = λ S p. set_folded S p r ∙ h.set S p; high = h.high; rising = h.rising; seen = λ count args g. h.seen count args (readable_unfolded count args r g) }
+form_folded r (Counter v slot) h = same_folded r (counter_range v slot) h
+form_folded r (Counted v slot) h = (same_folded r (counted_range v slot) h.0, h.1)
+form_folded r (Products x y) h = same_folded r (products_range x y) h
+form_folded r (Quotients x y) h = same_folded r (quotients_range x y) h
 
 -- The walk over the nodes, with the last piece first.
 abbrev pub walked : List Piece → List RangeNode → List Piece

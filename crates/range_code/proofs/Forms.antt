@@ -41,6 +41,7 @@ use Rattle.range_code.specs.Steps.{outside}
 use Rattle.range_code.specs.Forms.{IsEvaluation, end_of, width_of, sum_of, total_of, divided, bound_value, product_value, leaf_amount, amount, AreNarrow, AreSeen}
 use Rattle.range_code.specs.Forms.{IsLeafSeen, IsPositive, IsUsable, IsInterval, IsComplement, IsException, IsAbove, IsBelow, IsShiftOf, IsShiftUsable}
 use Rattle.range_code.specs.Forms.{all_but_val, IsLeaf, IsSigned, IsDivision, IsPart, IsAdded, IsBound, other_end, IsOpposite, AreOpposite}
+use Rattle.range_code.specs.SpelledRanges.{MeansSame}
 use Rattle.range_code.proofs.Tables.{outside_is, one_is}
 
 -- leaves
@@ -458,6 +459,14 @@ above_form r a b s z h e f = record { set = λ S p. h.set S p ∙ two between (e
 
 pub below_form : (r : Range) (a b : Bound) (s : Shift) (z : ℤ) → IsInterval r a b → ((S : Family) → bound_value S a ≡ z) → IsShiftOf b Greatest s → IsBelow r z s
 below_form r a b s z h f e = record { set = λ S p. h.set S p ∙ two between (f S) (e.value S); usable = shift_usable r b Greatest s h.high e }
+
+-- a range that all its nodes tell
+pub spelled_same : (ns : List RangeNode) (q : Range) → ns ≡ nodes_of q → (r : Range) → ns ≡ nodes_of r → MeansSame r q
+spelled_same ns q e r f =
+    let is : r ≡ q = sym (spelled_range-nodes r) ∙ (ap spelled_range (sym f ∙ e) ∙ spelled_range-nodes q) in record {
+      set = λ S p. ap (filled_set S p) is;
+      readable = λ count args h. subst (λ x. All (IsReadable count args) (nodes_of x)) is h;
+    }
 
 -- all numbers but the value of a variable
 pub differs_form : (ns : List RangeNode) (slot : ℕ) → ns ≡ nodes_of (all_but_val slot) → (r : Range) → ns ≡ nodes_of r → r ≡ all_but_val slot

@@ -20,6 +20,8 @@ mod FoldedRanges
 mod ConstantPlaces
 mod RangeTests
 mod RangeRuns
+mod CounterSets
+mod EndQuotients
 mod QuickSets
 mod Forms
 mod Choices

@@ -1,6 +1,5 @@
 -- The operators of terms by their instructions.
-use Rattle.std.proofs.Common.{arith, ◌≡◌, ◌∙◌, ℤ, pos, negsuc, ◌-ℤ◌, ◌≤ℤ◌, refl, SFits}
-use Rattle.std.proofs.Math.IntN.{+ℤ_idl}
+use Rattle.std.proofs.Common.{arith, ◌≡◌, ℤ, pos, negsuc, refl, SFits}
 use mir.Syntax.{w128}
 use Rattle.range_code.specs.declared.instr.RangeInstr.{RangeInstr}
 use Rattle.range_code.specs.declared.instr.RangeInstr.TheVariants as instr

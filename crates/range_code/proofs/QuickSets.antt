@@ -11,7 +11,7 @@ use Rattle.fd_language.specs.declared.range_node.RangeNode.TheVariants as node
 use Rattle.fd_language.specs.Features.{features_of}
 use Rattle.range_code.specs.Standings.{opens}
 use Rattle.fd_language.specs.Family.{Family}
-use Rattle.fd_language.specs.Range.{Range, set_of, least, greatest, is_none_left, is_several}
+use Rattle.fd_language.specs.Range.{Range, set_of, least, greatest, div_down, div_up, is_none_left, is_several}
 use Rattle.fd_language.specs.RangeVerdict.{is_accepted}
 use Rattle.fd_language.specs.PostfixRanges.{nodes_of, spelled_range, spelled_range-nodes}
 use Rattle.fd_language.proofs.Lemmas.{two}
@@ -23,7 +23,7 @@ use Rattle.range_code.specs.declared.form.Bound.{Bound}
 use Rattle.range_code.specs.declared.form.Product.{Product}
 use Rattle.range_code.specs.declared.form.Shift.{Shift}
 use Rattle.range_code.specs.declared.form.Division.TheVariants.{Whole}
-use Rattle.range_code.specs.declared.quick_forms.Quick.TheVariants.{Within, Differs, Above, Below, Moved, Plus, Minus}
+use Rattle.range_code.specs.declared.quick_forms.Quick.TheVariants.{Within, Differs, Above, Below, Moved, Plus, Minus, Counter, Counted, Products, Quotients}
 use Rattle.range_code.specs.declared.quick_forms.Pair.{Pair}
 use Rattle.range_code.specs.declared.Reach.TheVariants as reach
 use Rattle.range_code.specs.Frames.{IsArgumentFrame, posted, family_of, slot_set, slot_integer, slot_variable}
@@ -33,10 +33,12 @@ use Rattle.range_code.specs.Slots.{in_slots}
 use Rattle.range_code.specs.Steps.{outside}
 use Rattle.range_code.specs.Work.{filled_set}
 use Rattle.range_code.specs.Forms.{end_of, sum_of, product_value, bound_value, AreNarrow, AreSeen, IsInterval, IsException, IsAbove, IsBelow, IsShiftOf}
-use Rattle.range_code.specs.Forms.{all_but_val}
+use Rattle.range_code.specs.Forms.{all_but_val, IsNumber}
+use Rattle.range_code.specs.SpelledRanges.{counter_range, counted_range, products_range, quotients_range, MeansSame}
 use Rattle.range_code.specs.SetReaches.{IsReach}
-use Rattle.range_code.specs.QuickForms.{between_parameters, IsQuick, IsSmall, IsPairOf}
+use Rattle.range_code.specs.QuickForms.{between_parameters, counter_least, counter_greatest, counted_reach, IsQuick, IsSmall, IsPairOf}
 use Rattle.range_code.proofs.Forms.{whole_value, plus_none, once_is, but_val_set, except_one}
+use Rattle.range_code.proofs.CounterSets.{counter_is, counted_is}
 use Rattle.range_code.proofs.Frames.{all_readable}
 use Rattle.range_code.proofs.PostedRanges.{one_use}
 use Rattle.range_code.proofs.RangeRuns.{opens_same, settled_set, shifted_set, open_set, one_open}
@@ -166,6 +168,54 @@ module _ (r : Range) (args : List Arg) (accepted : is_accepted INFINITY r ≡ tr
       reach = λ sets fit some. shifted_set sets r args accepted fit some no_val
           ∙ (h.set (slot_set sets args) (slot_integer args) ∙ ap (λ v. between z (s.constant +ℤ pos (greatest (family_of sets v)))) e);
     }
+
+    -- a range that all its nodes tell
+    module _ (q : Range) (m : MeansSame (in_slots r) q) where
+      same_set : (sets : List (List ℕ)) → IsArgumentFrame (length sets) r args → ((x : ℕ) → is_none_left (family_of sets x) ≡ false)
+          → set sets ≡ filled_set (slot_set sets args) (slot_integer args) q
+      same_set sets fit some = shifted_set sets r args accepted fit some no_val ∙ m.set (slot_set sets args) (slot_integer args)
+
+      there_all : (count : ℕ) → IsArgumentFrame count r args → All (IsReadable count args) (nodes_of q)
+      there_all count fit = m.readable count args (nodes count fit)
+
+    pub counter_quick : (v : ℤ) (slot k : ℕ) → slot_variable args slot ≡ k → MeansSame (in_slots r) (counter_range v slot) → IsQuick r args (Counter k v)
+    counter_quick v slot k e m = record {
+      within = λ count fit. there count slot k e (there_all (counter_range v slot) m count fit 2 node.One (omega arith));
+      reach = λ sets fit some. same_set (counter_range v slot) m sets fit some
+          ∙ (counter_is (slot_set sets args) (slot_integer args) v slot (some (slot_variable args slot))
+          ∙ ap (λ x. between (counter_least (family_of sets x) v) (counter_greatest (family_of sets x) v)) e);
+    }
+
+    pub counted_quick : (v : ℤ) (slot k : ℕ) → slot_variable args slot ≡ k → MeansSame (in_slots r) (counted_range v slot) × IsNumber v → IsQuick r args (Counted k v)
+    counted_quick v slot k e m = record {
+      within = λ count fit. (there count slot k e (there_all (counted_range v slot) m.0 count fit 2 node.One (omega arith)), m.1);
+      reach = λ sets fit some.
+          subst (λ s. IsReach s (counted_reach (family_of sets k) v)) (sym (same_set (counted_range v slot) m.0 sets fit some))
+          (subst (λ x. IsReach (filled_set (slot_set sets args) (slot_integer args) (counted_range v slot)) (counted_reach (family_of sets x) v)) e
+          (counted_is (slot_set sets args) (slot_integer args) v slot m.1));
+    }
+
+    module _ (x y k j : ℕ) (e : slot_variable args x ≡ k) (f : slot_variable args y ≡ j) where
+      pub products_quick : MeansSame (in_slots r) (products_range x y) → IsQuick r args (Products k j)
+      products_quick m = record {
+        within = λ count fit. let all = there_all (products_range x y) m count fit in (
+          there count x k e (all 0 node.One (omega arith)),
+          there count y j f (all 1 node.One (omega arith)),
+        );
+        reach = λ sets fit some. same_set (products_range x y) m sets fit some
+            ∙ two (λ v w. between (pos (least (family_of sets v)) *ℤ pos (least (family_of sets w))) (pos (greatest (family_of sets v)) *ℤ pos (greatest (family_of sets w)))) e f;
+      }
+
+      pub quotients_quick : MeansSame (in_slots r) (quotients_range x y) → IsQuick r args (Quotients k j)
+      quotients_quick m = record {
+        within = λ count fit. let all = there_all (quotients_range x y) m count fit in (
+          there count x k e (all 0 node.One (omega arith)),
+          there count y j f (all 1 node.One (omega arith)),
+        );
+        reach = λ sets fit some. same_set (quotients_range x y) m sets fit some
+            ∙ two (λ v w. between (div_up INFINITY (pos (least (family_of sets v))) (pos (greatest (family_of sets w))))
+            (div_down INFINITY (pos (greatest (family_of sets v))) (pos (least (family_of sets w))))) e f;
+      }
 
     module _ (a b : Bound) (h : IsInterval (in_slots r) a b) where
       row : (sets : List (List ℕ)) → IsArgumentFrame (length sets) r args → ((x : ℕ) → is_none_left (family_of sets x) ≡ false) → (y z : ℤ)

@@ -1,5 +1,5 @@
 -- How the variables of a range stand, told from what it reads.
-use Rattle.std.proofs.Common.{◌≡◌, ℕ, zero, suc, ◌≤◌, ◌⊎◌, arith, ℤ, ◌<◌, length, get_or, subst, Bool, true, false, cond, not, ◌||◌, ◌&&◌, ◌==◌, List, [], ◌∷◌}
+use Rattle.std.proofs.Common.{◌≡◌, ℕ, ℤ, Bool, true, false, cond, not, ◌||◌, ◌&&◌, ◌==◌, List, [], ◌∷◌}
 use Rattle.std.proofs.Common.{◌++◌, map, filter, refl, sym, ◌∙◌, ap, inl, inr, eqb-true}
 use Rattle.std.specs.List.{All, list_any}
 use Rattle.std.proofs.lemmas.Bool.{cases_Bool}
@@ -11,10 +11,9 @@ use Rattle.fd_language.specs.declared.range_node.RangeNode.{RangeNode}
 use Rattle.fd_language.specs.declared.range_node.RangeNode.TheVariants as node
 use Rattle.fd_language.specs.Range.{from_node, Range, reads, read_at, vals, val_at, is_none_left}
 use Rattle.fd_language.specs.Check.{fill_range}
-use Rattle.fd_language.specs.declared.TheConstants.{INFINITY}
-use Rattle.fd_language.specs.Family.{IsRising, universe}
+use Rattle.fd_language.specs.Family.{universe}
 use Rattle.fd_language.specs.Features.{is_val, range_features, is_same_feature, is_same_pair, each_once, features_of, feature_at, node_features}
-use Rattle.fd_language.proofs.Lemmas.{same_feature, two, universe_rising, filled_leaves, reads_of_features, vals_of, vals_of_features}
+use Rattle.fd_language.proofs.Lemmas.{same_feature, two, filled_leaves, reads_of_features, vals_of, vals_of_features}
 use Rattle.range_code.specs.declared.frame.Arg.{Arg}
 use Rattle.range_code.specs.Nodes.{IsSeen, IsReadable}
 

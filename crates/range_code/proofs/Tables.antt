@@ -17,7 +17,7 @@ any_up : (p q : ℕ → Bool) (low k : ℕ) → ((n : ℕ) → n < low + k → p
 any_up p q low zero h = refl
 any_up p q low (suc k) h = let here : p low ≡ q low = h low (omega arith) in let rest = any_up p q (suc low) k (λ n l. h n (omega arith)) in rw (here, rest) refl
 
-any_within : (M : ℕ) (p q : ℕ → Bool) → ((n : ℕ) → n ≤ M → p n ≡ q n) → some_number M p ≡ some_number M q
+pub any_within : (M : ℕ) (p q : ℕ → Bool) → ((n : ℕ) → n ≤ M → p n ≡ q n) → some_number M p ≡ some_number M q
 unfolding universe
 any_within M p q h = any_up p q 0 (suc M) (λ n l. h n (omega arith))
 

@@ -16,7 +16,7 @@ use Rattle.range_code.specs.declared.form.Division.{Division}
 use Rattle.range_code.specs.declared.form.Division.TheVariants.{Whole, Down, Up}
 use Rattle.range_code.specs.declared.form.Bound.{Bound}
 use Rattle.range_code.specs.declared.form.Evaluation.{Evaluation}
-use Rattle.range_code.specs.declared.form.Evaluation.TheVariants.{Nodes, Differs, Above, Below, Between, Row, Without, Except, Chosen}
+use Rattle.range_code.specs.declared.form.Evaluation.TheVariants.{Nodes, Differs, Above, Below, Between, Row, Without, Except, Chosen, Counter, Counted, Products, Quotients}
 use Rattle.range_code.specs.declared.form.Leaf.{Leaf}
 use Rattle.range_code.specs.declared.form.Leaf.TheVariants.{Number, Read}
 use Rattle.range_code.specs.declared.form.Addend.{Addend}
@@ -24,6 +24,7 @@ use Rattle.range_code.specs.Nodes.{IsSeen, IsReadable}
 use Rattle.range_code.specs.Choices.{IsChoice}
 use Rattle.range_code.specs.Work.{filled_value, filled_set}
 use Rattle.range_code.specs.Steps.{outside}
+use Rattle.range_code.specs.SpelledRanges.{counter_range, counted_range, products_range, quotients_range, MeansSame}
 
 -- one end of a set
 abbrev pub end_of : List ℕ → End → ℕ
@@ -131,6 +132,10 @@ pub record IsException (r : Range) (a : Bound) : Type 0 where
   pub set : (S : Family) (p : ℕ → ℤ) → filled_set S p r ≡ outside (between (bound_value S a) (bound_value S a))
   pub value : IsUsable r a
 
+-- a number of the universe
+abbrev pub IsNumber : ℤ → Type 0
+IsNumber z = (pos 0 ≤ℤ z) × (z ≤ℤ pos INFINITY)
+
 -- the form is one of the range
 abbrev pub IsEvaluation : Range → Evaluation → Type 0
 IsEvaluation r Nodes = Unit {0}
@@ -142,6 +147,10 @@ IsEvaluation r (Row a b) = IsInterval r a b × AreOpposite a.products.items b.pr
 IsEvaluation r (Without a b) = IsComplement r a b
 IsEvaluation r (Except a) = IsException r a
 IsEvaluation r (Chosen c) = IsChoice r c
+IsEvaluation r (Counter v slot) = MeansSame r (counter_range v slot)
+IsEvaluation r (Counted v slot) = MeansSame r (counted_range v slot) × IsNumber v
+IsEvaluation r (Products x y) = MeansSame r (products_range x y)
+IsEvaluation r (Quotients x y) = MeansSame r (quotients_range x y)
 
 -- the form reads one end of one domain
 abbrev pub IsShifted : Evaluation → Type 0

@@ -14,6 +14,7 @@ pub mod ParameterNeeds
 pub mod SlotNumbering
 pub mod CodeFields
 pub mod Choices
+pub mod SpelledRanges
 pub mod Forms
 pub mod SetReaches
 pub mod QuickForms

@@ -1,20 +1,41 @@
--- What the ends of one variable or two tell of the set of a range with its arguments.
-use Rattle.std.specs.Prelude.{◌≡◌, ℕ, ◌+◌, ◌-◌, ◌^◌, ◌≤◌, ◌<◌, ℤ, pos, ◌+ℤ◌, ◌-ℤ◌, ◌*ℤ◌, nat_abs, false, cond, List, length}
+-- What one look at a variable or two tells of the set of a range with its arguments.
+use Rattle.std.specs.Prelude.{◌≡◌, ℕ, ◌+◌, ◌-◌, ◌^◌, ◌≤◌, ◌<◌, ◌==◌, Bool, ◌||◌, ◌&&◌, not, if◌then◌else◌, ℤ, pos, ◌+ℤ◌, ◌-ℤ◌, ◌*ℤ◌, nat_abs, false, cond, List, length}
 use Rattle.fd_language.specs.declared.TheConstants.{INFINITY}
-use Rattle.fd_language.specs.Family.{Family}
-use Rattle.fd_language.specs.Range.{Range, Span, Param, set_of, least, greatest, is_none_left, is_several}
+use Rattle.std.specs.Ordering.{int_eq}
+use Rattle.fd_language.specs.Family.{Family, has}
+use Rattle.fd_language.specs.Range.{Range, Span, Param, set_of, least, greatest, is_none_left, is_several, some_number, div_down, div_up}
 use Rattle.range_code.specs.declared.frame.Arg.{Arg}
 use Rattle.range_code.specs.declared.form.End.{End}
 use Rattle.range_code.specs.declared.form.Bound.{Bound}
 use Rattle.range_code.specs.declared.quick_forms.Quick.{Quick}
-use Rattle.range_code.specs.declared.quick_forms.Quick.TheVariants.{Other, Within, Differs, Above, Below, Moved, Plus, Minus}
+use Rattle.range_code.specs.declared.quick_forms.Quick.TheVariants.{Other, Within, Differs, Above, Below, Moved, Plus, Minus, Counter, Counted, Products, Quotients}
 use Rattle.range_code.specs.declared.quick_forms.Pair.{Pair}
 use Rattle.range_code.specs.declared.Reach.{Reach}
 use Rattle.range_code.specs.declared.Reach.TheVariants as reach
 use Rattle.range_code.specs.Frames.{IsArgumentFrame, posted, family_of}
 use Rattle.range_code.specs.Nodes.{IsSeen}
-use Rattle.range_code.specs.Forms.{end_of, bound_value, AreNarrow, AreSeen}
+use Rattle.range_code.specs.Forms.{end_of, bound_value, AreNarrow, AreSeen, IsNumber}
 use Rattle.range_code.specs.SetReaches.{IsReach}
+
+-- whether the set has the number, and whether it has another
+abbrev pub has_value : List ℕ → ℤ → Bool
+has_value s v = some_number INFINITY (λ n. int_eq v (pos n) && has s n)
+
+abbrev pub has_other : List ℕ → ℤ → Bool
+has_other s v = some_number INFINITY (λ n. not (int_eq v (pos n)) && has s n)
+
+-- what the counter of a number in a set is at least, and at most
+abbrev pub counter_least : List ℕ → ℤ → ℤ
+counter_least s v = if has_other s v || is_none_left s then pos 0 else pos 1
+
+abbrev pub counter_greatest : List ℕ → ℤ → ℤ
+counter_greatest s v = if has_value s v then pos 1 else pos 0
+
+-- What is reached where the set is that of a number's counter: where it may be 0, all but the number or all, and else the number alone if it is at most 1.
+abbrev pub counted_reach : List ℕ → ℤ → Reach
+counted_reach s v =
+    if least s == 0 then (if greatest s == 0 then reach.Except v else reach.All) else
+    reach.Between v (v +ℤ (pos (greatest s) -ℤ pos 1) *ℤ (pos INFINITY +ℤ pos 1))
 
 -- what is reached over these sets
 abbrev pub reached : List (List ℕ) → Quick → Reach
@@ -26,6 +47,12 @@ reached sets (Below x z low) = reach.Between low (z +ℤ pos (greatest (family_o
 reached sets (Moved x z) = reach.Between (z +ℤ pos (least (family_of sets x))) (z +ℤ pos (greatest (family_of sets x)))
 reached sets (Plus x y z) = reach.Between ((z +ℤ pos (least (family_of sets x))) +ℤ pos (least (family_of sets y))) ((z +ℤ pos (greatest (family_of sets x))) +ℤ pos (greatest (family_of sets y)))
 reached sets (Minus x y z) = reach.Between ((z +ℤ pos (least (family_of sets x))) -ℤ pos (greatest (family_of sets y))) ((z +ℤ pos (greatest (family_of sets x))) -ℤ pos (least (family_of sets y)))
+reached sets (Counter x v) = reach.Between (counter_least (family_of sets x) v) (counter_greatest (family_of sets x) v)
+reached sets (Counted x v) = counted_reach (family_of sets x) v
+reached sets (Products x y) = reach.Between (pos (least (family_of sets x)) *ℤ pos (least (family_of sets y))) (pos (greatest (family_of sets x)) *ℤ pos (greatest (family_of sets y)))
+reached sets (Quotients x y) = reach.Between
+    (div_up INFINITY (pos (least (family_of sets x))) (pos (greatest (family_of sets y))))
+    (div_down INFINITY (pos (greatest (family_of sets x))) (pos (least (family_of sets y))))
 
 -- a moved end, and the sum of two ends, are integers of 64 bits
 abbrev pub IsSmall : ℤ → Type 0
@@ -44,6 +71,10 @@ IsWithin count (Below x z low) = (x < count) × IsSmall z
 IsWithin count (Moved x z) = (x < count) × IsSmall z
 IsWithin count (Plus x y z) = (x < count) × (y < count) × IsSmallForTwo z
 IsWithin count (Minus x y z) = (x < count) × (y < count) × IsSmallForTwo z
+IsWithin count (Counter x v) = x < count
+IsWithin count (Counted x v) = (x < count) × IsNumber v
+IsWithin count (Products x y) = (x < count) × (y < count)
+IsWithin count (Quotients x y) = (x < count) × (y < count)
 
 -- wherever the range may be evaluated, the quick form may be, and reaches its set
 pub record IsQuick (r : Range) (args : List Arg) (quick : Quick) : Type 0 where

@@ -11,6 +11,7 @@ ghost use Rattle.range_code.specs.Forms.{end_of as end_of_set, sum_of, total_of,
 
 use crate::choice::{Choice, read_choice};
 use crate::frame::{Arg, slot_domain};
+use crate::spelled_forms::spelled_form;
 use domain_ranges::{Domain, View};
 use fd_language::{INFINITY, NoMemory, RangeNode};
 use std::alloc::Global;
@@ -55,7 +56,8 @@ pub(crate) struct Shift {
 
 /// How a range is evaluated: by its nodes, as the complement of a variable's value, as an interval from a moved least member up to a
 /// number or from a number up to a moved greatest member, as any other interval, as one between bounds whose products are opposite, as
-/// the complement of an interval or of a single number, or by choosing numbers.
+/// the complement of an interval or of a single number, by choosing numbers, as the counter of a number in a slot, as what a variable
+/// may be whose number is counted in a slot, or as all products or quotients of two slots.
 #[derive(Drop)]
 pub(crate) enum Evaluation {
     Nodes,
@@ -67,6 +69,10 @@ pub(crate) enum Evaluation {
     Without(Bound, Bound),
     Except(Bound),
     Chosen(Choice),
+    Counter(i64, usize),
+    Counted(i64, usize),
+    Products(usize, usize),
+    Quotients(usize, usize),
 }
 
 /// A term without operators.
@@ -517,6 +523,9 @@ pub(crate) fn form_of(
 {
     if let Some(slot) = differing_slot(nodes) {
         return Ok(Evaluation::Differs(slot));
+    }
+    if let Some(form) = spelled_form(nodes) {
+        return Ok(form);
     }
     match read_choice(alloc, nodes)? {
         Some(choice) => Ok(Evaluation::Chosen(choice)),

@@ -1,24 +1,24 @@
-//! Ranges whose set the ends of one variable or two tell, with the variables in hand.
+//! Ranges whose set one look at a variable or two tells, with the variables in hand.
 
-ghost use Rattle.std.specs.Prelude.{◌≡◌, ◌<◌, ◌≤◌, ◌^◌, ◌+◌, ◌-◌, pos, ◌+ℤ◌, ◌-ℤ◌, nat_abs, List, [], ◌∷◌, ℕ, length, IfSome, IsTrue};
-ghost use Rattle.fd_language.specs.Range.{Range, least, greatest};
+ghost use Rattle.std.specs.Prelude.{◌≡◌, ◌<◌, ◌≤◌, ◌^◌, ◌+◌, ◌-◌, pos, ◌+ℤ◌, ◌-ℤ◌, ◌*ℤ◌, nat_abs, List, [], ◌∷◌, ℕ, length, IfSome, IsTrue};
+ghost use Rattle.fd_language.specs.Range.{Range, div_down, div_up, greatest, least};
 ghost use Rattle.fd_language.specs.PostfixRanges.{nodes_of};
 ghost use Rattle.fd_language.specs.RangeVerdict.{is_accepted};
 ghost use Rattle.range_code.specs.Frames.{slot_variable, slot_integer};
-ghost use Rattle.range_code.specs.Forms.{IsInterval, IsException};
+ghost use Rattle.range_code.specs.Forms.{IsEvaluation, IsException, IsInterval, IsNumber};
 ghost use Rattle.range_code.specs.ValSlots.{val_slots};
 ghost use Rattle.range_code.specs.Slots.{in_slots};
-ghost use Rattle.range_code.specs.QuickForms.{IsPairOf, IsQuick, IsWithin, between_parameters, reached};
+ghost use Rattle.range_code.specs.QuickForms.{IsPairOf, IsQuick, IsWithin, between_parameters, counted_reach as counted_in, counter_greatest, counter_least, reached};
 
 use crate::form::{
     Bound, End, Evaluation, Product, add_end, end_of, is_same_end, is_span, is_whole, shift_of,
 };
 use crate::frame::{Arg, is_open};
 use crate::{RangeCode, Reach};
-use domain_ranges::{Domain, View};
+use domain_ranges::{Domain, Membership, View};
 use fd_language::{INFINITY, RangeNode};
 
-/// The set of a range with its arguments, where one look at the ends of a variable or two tells it.
+/// The set of a range with its arguments, where one look at a variable or two tells it.
 #[derive(Clone, Copy)]
 pub enum Quick {
     /// Such a look doesn't tell it.
@@ -37,6 +37,14 @@ pub enum Quick {
     Plus(usize, usize, i64),
     /// All that a variable less another may be, plus a constant.
     Minus(usize, usize, i64),
+    /// 1 alone where the variable has the number alone, 0 alone where it doesn't have it, and else both.
+    Counter(usize, i64),
+    /// The number alone where the variable, its counter, is 1, all but the number where it is 0, and all where it may be both.
+    Counted(usize, i64),
+    /// From the product of the least members of two variables to that of their greatest.
+    Products(usize, usize),
+    /// All numbers whose product with a member of the second variable may be one of the first.
+    Quotients(usize, usize),
 }
 
 /// The sum of a constant and an end of the domain in a slot, and another end in a second slot.
@@ -221,6 +229,36 @@ fn quick_except(number: &Bound, vals: &[usize], args: &[Arg]) -> Option<Quick>
     Some(Quick::Differs(variable, shift.constant))
 }
 
+/// The quick form of the form, where nothing is read by val.
+fn quick_without_val(form: &Evaluation, args: &[Arg]) -> Option<Quick>
+    ensures { IfSome result (λ quick. (r : Range) → IsTrue (is_accepted INFINITY r)
+        → val_slots r ≡ [] → IsEvaluation (in_slots r) form.now
+        → IsQuick r args.now quick) }
+{
+    match form {
+        Evaluation::Row(low, high) => quick_row(low, high, args),
+        Evaluation::Counter(value, slot) => {
+            let variable = variable_at(args, *slot)?;
+            Some(Quick::Counter(variable, *value))
+        }
+        Evaluation::Counted(value, slot) => {
+            let variable = variable_at(args, *slot)?;
+            Some(Quick::Counted(variable, *value))
+        }
+        Evaluation::Products(one, other) => {
+            let one = variable_at(args, *one)?;
+            let other = variable_at(args, *other)?;
+            Some(Quick::Products(one, other))
+        }
+        Evaluation::Quotients(one, other) => {
+            let one = variable_at(args, *one)?;
+            let other = variable_at(args, *other)?;
+            Some(Quick::Quotients(one, other))
+        }
+        _ => None,
+    }
+}
+
 fn quick_form(code: &RangeCode, args: &[Arg]) -> Option<Quick>
     ensures { IfSome result (IsQuick code.now args.now) }
 {
@@ -239,12 +277,12 @@ fn quick_form(code: &RangeCode, args: &[Arg]) -> Option<Quick>
             Some(Quick::Below(variable, high.constant, *low))
         }
         Evaluation::Except(number) => quick_except(number, code.vals(), args),
-        Evaluation::Row(low, high) if code.reads_no_val() => quick_row(low, high, args),
+        form if code.reads_no_val() => quick_without_val(form, args),
         _ => None,
     }
 }
 
-/// What the set of the range with these arguments is, as far as one look at the ends of a variable or two tells it.
+/// What the set of the range with these arguments is, as far as one look at a variable or two tells it.
 pub fn quick_of(code: &RangeCode, args: &[Arg]) -> Quick
     ensures { IsQuick code.now args.now result }
 {
@@ -314,6 +352,97 @@ fn differences_between(constant: i64, one: &Domain, other: &Domain) -> Reach
     Reach::Between(low, high)
 }
 
+/// What the counter of the number in the domain may be.
+#[inline(always)]
+fn counter_reach(domain: &Domain, value: i64) -> Reach
+    ensures { result ≡ Reach.Between (counter_least domain.now value)
+        (counter_greatest domain.now value) }
+{
+    match domain.membership(value) {
+        Membership::Outside => Reach::Between(0, 0),
+        Membership::Alone => Reach::Between(1, 1),
+        Membership::Among(_) => Reach::Between(0, 1),
+    }
+}
+
+/// What a variable may be whose number is counted by a counter with this domain.
+#[inline(always)]
+fn counted_reach(counter: &Domain, value: i64) -> Reach
+    requires { IsNumber value }
+    ensures { result ≡ counted_in counter.now value }
+{
+    let high = end_of(counter, End::Greatest);
+    if end_of(counter, End::Least) != 0 {
+        Reach::Between(value, value + (high as i64 - 1) * (INFINITY as i64 + 1))
+    } else if high == 0 {
+        Reach::Except(value)
+    } else {
+        Reach::All
+    }
+}
+
+/// The product of two ends.
+#[inline(always)]
+fn product(a: u32, b: u32) -> i64
+    requires one { a ≤ INFINITY }
+    requires other { b ≤ INFINITY }
+    ensures { result ≡ pos a *ℤ pos b }
+{
+    a as i64 * b as i64
+}
+
+/// The quotient of two ends, rounded up. By 0 it is 0 for 0, and else `INFINITY`.
+#[inline(always)]
+fn quotient_up(a: u32, b: u32) -> i64
+    requires one { a ≤ INFINITY }
+    requires other { b ≤ INFINITY }
+    ensures { result ≡ div_up INFINITY (pos a) (pos b) }
+{
+    if b != 0 {
+        ((a + (b - 1)) / b) as i64
+    } else if a == 0 {
+        0
+    } else {
+        INFINITY as i64
+    }
+}
+
+/// The quotient of two ends, rounded down. By 0 it is `INFINITY`.
+#[inline(always)]
+fn quotient_down(a: u32, b: u32) -> i64
+    requires { a ≤ INFINITY }
+    ensures { result ≡ div_down INFINITY (pos a) (pos b) }
+{
+    if b != 0 {
+        (a / b) as i64
+    } else {
+        INFINITY as i64
+    }
+}
+
+/// From the product of the least members of two domains to that of their greatest.
+#[inline(always)]
+fn products_between(one: &Domain, other: &Domain) -> Reach
+    ensures { result ≡ Reach.Between (pos (least one.now) *ℤ pos (least other.now))
+        (pos (greatest one.now) *ℤ pos (greatest other.now)) }
+{
+    let low = product(end_of(one, End::Least), end_of(other, End::Least));
+    let high = product(end_of(one, End::Greatest), end_of(other, End::Greatest));
+    Reach::Between(low, high)
+}
+
+/// From the least member of a domain by the greatest of another to the greatest by the least.
+#[inline(always)]
+fn quotients_between(one: &Domain, other: &Domain) -> Reach
+    ensures { result ≡ Reach.Between
+        (div_up INFINITY (pos (least one.now)) (pos (greatest other.now)))
+        (div_down INFINITY (pos (greatest one.now)) (pos (least other.now))) }
+{
+    let low = quotient_up(end_of(one, End::Least), end_of(other, End::Greatest));
+    let high = quotient_down(end_of(one, End::Greatest), end_of(other, End::Least));
+    Reach::Between(low, high)
+}
+
 /// The set that the quick form tells over the domains of a view. `quick_of` says of which range that is the set.
 #[inline(always)]
 pub fn quick_reach<V: View>(quick: Quick, view: &V) -> Reach
@@ -354,5 +483,9 @@ pub fn quick_reach<V: View>(quick: Quick, view: &V) -> Reach
             view.domain(one),
             view.domain(other),
         ),
+        Quick::Counter(variable, value) => counter_reach(view.domain(variable), value),
+        Quick::Counted(variable, value) => counted_reach(view.domain(variable), value),
+        Quick::Products(one, other) => products_between(view.domain(one), view.domain(other)),
+        Quick::Quotients(one, other) => quotients_between(view.domain(one), view.domain(other)),
     }
 }
