@@ -21,8 +21,10 @@ pub use Rattle.branch_lemmas.proofs.OpenVariables.{unsettled}
 pub use Rattle.branch_lemmas.proofs.SingletonDomains.{settled_held, settled_look, settled_rest}
 -- A unification of two cells, as the machine relation has it.
 pub use Rattle.branch_lemmas.proofs.Unification.{kept_barred, kept_refuted, kept_unified, link_at, linked_at}
--- A greatest number of variables as ranges: the models are the same where each variable is bounded, and bounds that come behind leave what a heap and a store
--- stand for as it is.
+-- Posted ranges in another order: they name the same variables and have the same models.
+pub use Rattle.branch_lemmas.proofs.PermutedRanges.{some_permuted, named_permuted, model_permuted}
+-- A greatest number of variables as ranges: the models are the same where each variable is bounded, and bounds that come beside the others leave what a heap and
+-- a store stand for as it is.
 pub use Rattle.fd_model.proofs.Lemmas.{bound_low, bound_in}
 pub use Rattle.branch_lemmas.proofs.VariableBounds.{bounded_at, model_narrower, model_wider, model_bounded, stored_bounded, kept_bounded}
 pub use Rattle.branch_lemmas.proofs.VariableBounds.{none_bounded}

@@ -9,5 +9,6 @@ mod OpenVariables
 mod HeapGrowth
 mod AtomNames
 mod ConstraintSteps
+mod PermutedRanges
 mod VariableBounds
 pub mod Lemmas

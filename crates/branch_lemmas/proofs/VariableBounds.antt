@@ -1,6 +1,8 @@
--- A greatest number of variables, as ranges behind those that a store had: the store stands for the same.
+-- A greatest number of variables, as ranges beside those that a store had: the store stands for the same.
 use Rattle.std.proofs.Common.{◌≡◌, ℕ, ◌<◌, ◌≤◌, true, false, cond, ◌==◌, ◌&&◌, List, [], ◌∷◌, ◌++◌, Option, length, refl, sym, ◌∙◌, subst, inl}
 use Rattle.std.proofs.Common.{inr, arith, eq-eqb, eqb-true}
+use Rattle.std.specs.List.Sorted.{IsPermutation}
+use Rattle.std.proofs.lemmas.List.Sorted.{IsPermutation-sym}
 use Rattle.std.proofs.lemmas.Bool.{cases_Bool, or_cases, or_left, true≢false}
 use Rattle.fd_language.specs.Term.{Var, Substitution}
 use Rattle.fd_language.specs.Unifier.{Equation}
@@ -17,6 +19,7 @@ use Rattle.branch_meaning.proofs.Lemmas.{front, holds_agree}
 use Rattle.branch_lemmas.specs.VariableBounds.{IsBounded, AreBounds, IsBoundedMore}
 use Rattle.branch_lemmas.specs.Frames.{link_in, IsKept}
 use Rattle.fd_model.proofs.Lemmas.{bound_in, bound_low}
+use Rattle.branch_lemmas.proofs.PermutedRanges.{model_permuted, named_permuted}
 
 abbrev Holds : ℕ → Family → List Indexical → Type 0
 Holds M S ps = AllPosted (λ p. IsSubset (S p.target) (set_of M S p.range)) ps
@@ -114,20 +117,22 @@ model_bounded M N qs bs within a T m =
 -- What a heap and a store stand for is the same then.
 pub stored_bounded : (M N : ℕ) (es : List Equation) (ps : List Indexical) (P : ℕ → Type 0) (h : ℕ) (look : Substitution) (link : ℕ → Option ℕ) (slot : ℕ → ℕ) (qs now : List Indexical) → N ≤ M
     → IsBoundedMore N qs now → IsStored M N es ps P h look link slot qs → IsStored M N es ps P h look link slot now
-stored_bounded M N es ps P h look link slot qs now within a s = subst (IsStored M N es ps P h look link slot) (sym a.2) (record {
+stored_bounded M N es ps P h look link slot qs now within a s = record {
   heap = s.heap;
   used = s.used;
-  down = λ T m. s.down T (front M N qs a.0 T m);
+  down = λ T m. s.down T (front M N qs a.0 T (model_permuted M N now (qs ++ a.0) a.2 T m));
   up = λ S m. (
       let u = s.up S m in
       let w = model_bounded M N qs a.0 within a.1 u.0 u.1 in
-      (w.0, w.1, λ v c. w.2 (slot v) (s.slots v c) ∙ u.2 v c)
+      (w.0, model_permuted M N (qs ++ a.0) now back w.0 w.1, λ v c. w.2 (slot v) (s.slots v c) ∙ u.2 v c)
       );
-  agrees = λ T m. s.agrees T (front M N qs a.0 T m);
-  slots = λ v c. named_left qs a.0 (slot v) (s.slots v c);
+  agrees = λ T m. s.agrees T (front M N qs a.0 T (model_permuted M N now (qs ++ a.0) a.2 T m));
+  slots = λ v c. named_permuted (qs ++ a.0) now back (slot v) (named_left qs a.0 (slot v) (s.slots v c));
   linked = s.linked;
   from = s.from;
-})
+} where
+  back : IsPermutation (qs ++ a.0) now
+  back = IsPermutation-sym now (qs ++ a.0) a.2
 
 pub kept_bounded : (M N : ℕ) (h : Cells) (qs now : List Indexical) (es : List Equation) (ps : List Indexical) (P : ℕ → Type 0) (look : Substitution) → N ≤ M
     → IsBoundedMore N qs now → IsKept M N h qs es ps P look → IsKept M N h now es ps P look

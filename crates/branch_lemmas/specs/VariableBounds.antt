@@ -1,5 +1,6 @@
--- A greatest number of variables, as ranges behind those that a store had.
+-- A greatest number of variables, as ranges beside those that a store had.
 use Rattle.std.specs.Prelude.{◌≡◌, ℕ, List, [], ◌∷◌, ◌++◌}
+use Rattle.std.specs.List.Sorted.{IsPermutation}
 use Rattle.fd_language.specs.Range.{Indexical}
 use Rattle.fd_model.specs.Answers.{Somewhere}
 use Rattle.fd_model.specs.Bounds.{bound}
@@ -13,6 +14,6 @@ abbrev pub AreBounds : ℕ → List Indexical → Type 0
 AreBounds N [] = Unit {0}
 AreBounds N (q ∷ qs) = ((x : ℕ) × (q ≡ bound N x)) × AreBounds N qs
 
--- the second list is the first with such ranges behind it
+-- the second list has the ranges of the first and such ranges, in whatever order
 abbrev pub IsBoundedMore : ℕ → List Indexical → List Indexical → Type 0
-IsBoundedMore N qs now = (bs : List Indexical) × AreBounds N bs × (now ≡ qs ++ bs)
+IsBoundedMore N qs now = (bs : List Indexical) × AreBounds N bs × IsPermutation now (qs ++ bs)

@@ -4,6 +4,7 @@ use Rattle.std.proofs.Common.{sym, ◌∙◌, subst, inl, inr, arith, append_ass
 use Rattle.std.proofs.lemmas.Bool.{cases_Bool}
 use Rattle.std.proofs.lemmas.List.Elements.{All-nil, All-cons}
 use Rattle.std.specs.Prelude.{All}
+use Rattle.std.specs.List.Sorted.{IsPermutation}
 use Rattle.fd_language.specs.declared.TheConstants.{INFINITY}
 use Rattle.fd_language.specs.declared.NoMemory.{NoMemory}
 use Rattle.fd_language.specs.declared.range_node.Need.{Need}
@@ -34,6 +35,7 @@ use Rattle.branch_meaning.specs.Store.{posts, touched}
 use Rattle.branch_meaning.proofs.Lemmas.{plain, range_plain}
 use Rattle.branch_lemmas.specs.CellRanges.{target_offence, cells_offence, filled, cells_range, Names, AreNumbers, IsTermsLinked}
 use Rattle.branch_lemmas.specs.Frames.{link_in, store_touches}
+use Rattle.branch_lemmas.proofs.Lemmas.{named_permuted}
 use Rattle.branch_state.specs.declared.cell_looks.Look.{Look}
 use Rattle.branch_state.specs.VariableBounds.{new_bounds}
 use Rattle.branch_state.specs.CellVariables.{shown_slots, slots_offence, IsFineGoal, slots_open, NamedBy, slot_in, AreTold, IsTold, IsTermNaming, AreCellsReady}
@@ -217,7 +219,8 @@ module _ (name : Naming) (old : State) (pair : IsPair old.atoms old.infinity old
     abbrev After : List Indexical
     After = qs ++ goal_ranges r k as' fs
 
-    cells_pair : IsGreatest I → (next : Level) → length next.sets ≡ length S → next.posted ≡ After ++ new_bounds I (length sets) (length S - length sets)
+    cells_pair : IsGreatest I → (next : Level) → length next.sets ≡ length S
+        → IsPermutation next.posted (After ++ new_bounds I (length sets) (length S - length sets))
         → (next.failed ≡ false) × IsSettled INFINITY next → IsPair old.atoms I now next
     cells_pair g next e f v = record {
       valid = w.links.valid;
@@ -230,13 +233,15 @@ module _ (name : Naming) (old : State) (pair : IsPair old.atoms old.infinity old
       settled = level_settled I g next bounded named v.1;
     } where
       bounded : HasBounds I next
-      bounded = level_bounded I qs (goal_ranges r k as' fs) (length sets) pair.bounded next (subst (λ m. next.posted ≡ After ++ new_bounds I (length sets) (m - length sets)) (sym e) f)
+      bounded = level_bounded I qs (goal_ranges r k as' fs) (length sets) pair.bounded next
+          (subst (λ m. IsPermutation next.posted (After ++ new_bounds I (length sets) (m - length sets))) (sym e) f)
 
       named : (j : ℕ) → has (constrained next.posted) j ≡ true → j < length next.sets
-      named j i = subst (λ m. j < m) (sym e) (elim (constrained_either After (new_bounds I (length sets) (length S - length sets)) j (subst (λ ps. has (constrained ps) j ≡ true) f i)) [
-        | inl a ↦ goal_low (length S) qs r k as' fs (λ j i. (let a = pair.posted j i in let b = w.longer in omega (arith, a, b))) cells_target_low accepted cells_frame cells_touches_low j a
-        | inr a ↦ new_low I (length sets) (length S) j w.longer a
-      ])
+      named j i = subst (λ m. j < m) (sym e) (elim (constrained_either After (new_bounds I (length sets) (length S - length sets)) j
+          (named_permuted next.posted (After ++ new_bounds I (length sets) (length S - length sets)) f j i)) [
+            | inl a ↦ goal_low (length S) qs r k as' fs (λ j i. (let a = pair.posted j i in let b = w.longer in omega (arith, a, b))) cells_target_low accepted cells_frame cells_touches_low j a
+            | inr a ↦ new_low I (length sets) (length S) j w.longer a
+          ])
 
     all_same : (st : Levels) → st ≡ with_level_sets old.levels S → (first : ℕ) → first ≡ length sets
         → (st.current.posted ++ goal_ranges r k as' fs) ++ new_bounds I first (length st.current.sets - first) ≡ After ++ new_bounds I (length sets) (length S - length sets)
@@ -247,17 +252,17 @@ module _ (name : Naming) (old : State) (pair : IsPair old.atoms old.infinity old
     -- whether all has a model then
     pub cells_step : IsSound old → (hs : Heaps) → hs.now ≡ now → hs.below ≡ old.heaps.below → (st ls : Levels) → st ≡ with_level_sets old.levels S
         → ls.below ≡ st.below → ls.spent ≡ false → length ls.current.sets ≡ length st.current.sets → (first : ℕ) → first ≡ length sets → (kept : Bool)
-        → IfTrue {E = NoMemory} (Ok kept) (ls.current.posted ≡ (st.current.posted ++ goal_ranges r k as' fs)
-        ++ new_bounds I first (length st.current.sets - first))
+        → IfTrue {E = NoMemory} (Ok kept) (IsPermutation ls.current.posted ((st.current.posted ++ goal_ranges r k as' fs)
+        ++ new_bounds I first (length st.current.sets - first)))
         → IfTrue {E = NoMemory} (Ok kept) ((ls.current.failed ≡ false) × IsSettled INFINITY ls.current)
         → IfFalse {E = NoMemory} (Ok kept) (HasNoModel INFINITY ((st.current.posted ++ goal_ranges r k as' fs) ++ new_bounds I first (length st.current.sets - first)))
         → PostsNamed name old target cells r (record { atoms = old.atoms; infinity = old.infinity; heaps = hs; levels = ls }) (kept_step kept)
     cells_step o hs e f st ls g b u len first start true p v none =
-        let q : ls.current.posted ≡ After ++ new_bounds I (length sets) (length S - length sets) = p ∙ all_same st g first start in (
+        let q : IsPermutation ls.current.posted (After ++ new_bounds I (length sets) (length S - length sets)) = subst (IsPermutation ls.current.posted) (all_same st g first start) p in (
           (
             After,
             subst (λ (c : Cells). IsCellsPosted name old target cells r c After) (sym e) cells_posted,
-            subst (λ m. ls.current.posted ≡ After ++ new_bounds I (length sets) (m - length sets)) (sym (len ∙ ap (λ (l : Levels). length l.current.sets) g)) q,
+            subst (λ m. IsPermutation ls.current.posted (After ++ new_bounds I (length sets) (m - length sets))) (sym (len ∙ ap (λ (l : Levels). length l.current.sets) g)) q,
           ),
           record {
             greatest = o.greatest;

@@ -2,6 +2,7 @@
 use Rattle.std.proofs.Common.{◌≡◌, ℕ, ◌-◌, ◌<◌, Bool, true, false, List, [], ◌∷◌, ◌++◌, length, Option, Some, None, Result, Ok, Err, ap, sym, ◌∙◌, subst, inl}
 use Rattle.std.proofs.Common.{inr}
 use Rattle.std.specs.Prelude.{All, MatchOption}
+use Rattle.std.specs.List.Sorted.{IsPermutation}
 use Rattle.fd_language.specs.declared.TheConstants.{INFINITY}
 use Rattle.fd_language.specs.declared.NoMemory as memory
 use Rattle.fd_language.specs.Range.{Indexical, params}
@@ -83,16 +84,17 @@ module _ (names : List Name) (old : State) (o : IsSound old) (kind : ConstraintK
   -- whether all has a model then
   pub constraint_step : (hs : Heaps) → hs.now ≡ now → hs.below ≡ old.heaps.below → (st ls : Levels) → st ≡ with_level_sets old.levels S → ls.below ≡ st.below
       → ls.spent ≡ false → length ls.current.sets ≡ length st.current.sets → (first : ℕ) → first ≡ length sets → (kept : Bool)
-      → IfTrue {E = memory.NoMemory} (Ok kept) (ls.current.posted ≡ ((st.current.posted ++ posted_by list) ++ posts (store_touches fixed)) ++ new_bounds I first (length st.current.sets - first))
+      → IfTrue {E = memory.NoMemory} (Ok kept) (IsPermutation ls.current.posted
+      (((st.current.posted ++ posted_by list) ++ posts (store_touches fixed)) ++ new_bounds I first (length st.current.sets - first)))
       → IfTrue {E = memory.NoMemory} (Ok kept) ((ls.current.failed ≡ false) × IsSettled INFINITY ls.current)
       → IfFalse {E = memory.NoMemory} (Ok kept) (HasNoModel INFINITY (((st.current.posted ++ posted_by list) ++ posts (store_touches fixed)) ++ new_bounds I first (length st.current.sets - first)))
       → Constrains names old kind c (record { atoms = old.atoms; infinity = old.infinity; heaps = hs; levels = ls }) (kept_step kept)
   constraint_step hs e f st ls g b u len first start true p v none =
-      let q : ls.current.posted ≡ After' ++ new_bounds I (length sets) (length S - length sets) = p ∙ all_same st g first start in (
+      let q : IsPermutation ls.current.posted (After' ++ new_bounds I (length sets) (length S - length sets)) = subst (IsPermutation ls.current.posted) (all_same st g first start) p in (
         (
           After',
           subst (λ (x : Cells). IsConstrained names old kind c x After') (sym e) constrained_row,
-          subst (λ m. ls.current.posted ≡ After' ++ new_bounds I (length sets) (m - length sets)) (sym (len ∙ ap (λ (l : Levels). length l.current.sets) g)) q,
+          subst (λ m. IsPermutation ls.current.posted (After' ++ new_bounds I (length sets) (m - length sets))) (sym (len ∙ ap (λ (l : Levels). length l.current.sets) g)) q,
         ),
         record {
           greatest = o.greatest;

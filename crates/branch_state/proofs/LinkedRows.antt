@@ -2,6 +2,7 @@
 use Rattle.std.proofs.Common.{◌≡◌, ℕ, suc, ◌+◌, ◌-◌, ◌<◌, ◌≤◌, true, false, cond, nat_lt, ◌==◌, ℤ, List, [], ◌∷◌, ◌++◌, length, map, append_assoc, Option, Some}
 use Rattle.std.proofs.Common.{None, refl, ap, sym, ◌∙◌, subst, inl, inr, arith, eq-eqb, eqb-true}
 use Rattle.std.specs.Prelude.{All}
+use Rattle.std.specs.List.Sorted.{IsPermutation}
 use Rattle.std.proofs.lemmas.Bool.{cases_Bool, or_cases, or_left, or_right, true≢false}
 use Rattle.std.proofs.lemmas.Bool.Decides.{nat_tests}
 use Rattle.std.proofs.lemmas.List.Elements.{All-nil, All-cons}
@@ -35,7 +36,7 @@ use Rattle.branch_meaning.proofs.Lemmas.{bindings, without, number_touches, AreC
 use Rattle.branch_lemmas.specs.VariableBounds.{IsBounded}
 use Rattle.branch_lemmas.specs.Frames.{link_of, link_in, store_touches, IsGrown}
 use Rattle.branch_lemmas.specs.Posting.{IsRowLinked}
-use Rattle.branch_lemmas.proofs.Lemmas.{slot_behind}
+use Rattle.branch_lemmas.proofs.Lemmas.{slot_behind, named_permuted}
 use Rattle.range_code.specs.declared.frame.Arg.TheVariants as arg
 use Rattle.range_code.specs.Frames.{AreArgs, IsArg, posted}
 use Rattle.range_code.specs.Slots.{slots_of, need_at}
@@ -346,7 +347,7 @@ module _ (h : Cells) (sets : List (List ℕ)) (o : OwnLinks (length sets) h) (qs
 
   -- the pair once the ranges are posted
   pub row_pair : (atoms N : ℕ) → IsGreatest N → HasAtomsBelow atoms h → ((k : ℕ) → k < length sets → (N ≡ INFINITY → ⊥) → IsBounded N qs k) → (next : Level)
-      → length next.sets ≡ length S → next.posted ≡ After ++ new_bounds N (length sets) (length S - length sets)
+      → length next.sets ≡ length S → IsPermutation next.posted (After ++ new_bounds N (length sets) (length S - length sets))
       → (next.failed ≡ false) × IsSettled INFINITY next → IsPair atoms N now next
   row_pair atoms N g names old next e f v = record {
     valid = subst IsHeap (sym r.bound_now) (bound_valid H y.equated r.middle w.links.valid row.equated opens);
@@ -361,19 +362,20 @@ module _ (h : Cells) (sets : List (List ℕ)) (o : OwnLinks (length sets) h) (qs
     before : (c k : ℕ) → link_in now c ≡ Some k → link_in r.middle c ≡ Some k
     before c k i = (unified.still c k i).0
 
-    all : next.posted ≡ (qs ++ (posted_by list ++ posts (store_touches fixed))) ++ new_bounds N (length sets) (length next.sets - length sets)
-    all = subst (λ m. next.posted ≡ After ++ new_bounds N (length sets) (m - length sets)) (sym e) f
-        ∙ ap (λ (l : List Indexical). l ++ new_bounds N (length sets) (length next.sets - length sets))
+    all : IsPermutation next.posted ((qs ++ (posted_by list ++ posts (store_touches fixed))) ++ new_bounds N (length sets) (length next.sets - length sets))
+    all = subst (λ (l : List Indexical). IsPermutation next.posted (l ++ new_bounds N (length sets) (length next.sets - length sets)))
         (append_assoc qs (posted_by list) (posts (store_touches fixed)))
+        (subst (λ m. IsPermutation next.posted (After ++ new_bounds N (length sets) (m - length sets))) (sym e) f)
 
     bounded : HasBounds N next
     bounded = level_bounded N qs (posted_by list ++ posts (store_touches fixed)) (length sets) old next all
 
     named : (k : ℕ) → has (constrained next.posted) k ≡ true → k < length next.sets
-    named k i = subst (λ m. k < m) (sym e) (elim (constrained_either After (new_bounds N (length sets) (length S - length sets)) k (subst (λ ps. has (constrained ps) k ≡ true) f i)) [
-      | inl a ↦ names_low k a
-      | inr a ↦ new_low N (length sets) (length S) k w.longer a
-    ])
+    named k i = subst (λ m. k < m) (sym e) (elim (constrained_either After (new_bounds N (length sets) (length S - length sets)) k
+        (named_permuted next.posted (After ++ new_bounds N (length sets) (length S - length sets)) f k i)) [
+          | inl a ↦ names_low k a
+          | inr a ↦ new_low N (length sets) (length S) k w.longer a
+        ])
 
   -- the row as it is linked, and the ranges then
   pub row_linked : (link : ℕ → Option ℕ) × (ranges : List Indexical) × (ts : List store.Touch) × IsRowLinked h now qs y link ranges (bindings y.equated) ts × (After ≡ ranges ++ posts ts)

@@ -2,7 +2,7 @@
 use Rattle.std.proofs.Common.{◌≡◌, ◌<◌, List, ◌∷◌, length, drop, refl, ap, sym, ◌∙◌, subst, arith}
 use Rattle.fd_model.specs.Levels.{Level, Levels}
 use Rattle.heap_cells.specs.Cells.{Cells, Heaps}
-use Rattle.branch_state.specs.States.{State, ArePairs, IsPair, IsSound, IsSoundBelow, IsUndone, with_pair, without_pairs}
+use Rattle.branch_state.specs.States.{State, ArePairs, IsSound, IsSoundBelow, IsUndone, with_pair, without_pairs}
 use Rattle.branch_state.proofs.States.{dropped_sound}
 
 module _ (s : State) (h : Heaps) (l : Levels) (o : IsSoundBelow s) (more : 1 < length s.heaps.below) (back : s.heaps.below ≡ h.now ∷ drop 1 s.heaps.below)

@@ -166,6 +166,11 @@ if_false_by (Ok true) P Q R f p q = tt
 if_false_by (Ok false) P Q R f p q = f p q
 if_false_by (Err e) P Q R f p q = tt
 
+pub if_false_as : {E : Type 0} (r : Result _ E) (P Q : Type 0) → (P → Q) → IfFalse r P → IfFalse r Q
+if_false_as (Ok true) P Q f p = tt
+if_false_as (Ok false) P Q f p = f p
+if_false_as (Err e) P Q f p = tt
+
 pub levels_sound : (s : State) → IsSound s → (l : Levels) → l.below ≡ s.levels.below → l.spent ≡ false → IsPair s.atoms s.infinity s.heaps.now l.current → IsSound (record s { levels = l })
 levels_sound s o l e u p = record {
   greatest = o.greatest;

@@ -5,7 +5,7 @@ use Rattle.std.specs.Prelude.{All}
 use Rattle.std.specs.List.{list_all}
 use Rattle.std.proofs.lemmas.Bool.{or_cases, true≢false, and_parts}
 use Rattle.std.proofs.lemmas.Bool.Decides.{nat_tests}
-use Rattle.std.proofs.lemmas.List.{append-nil, append_assoc, take_more, map-append}
+use Rattle.std.proofs.lemmas.List.{append-nil, append_assoc, length-append, length-map, take_more, map-append}
 use Rattle.std.proofs.lemmas.List.Elements.{All-cons, All-nil}
 use Rattle.fd_language.specs.declared.TheConstants.{INFINITY}
 use Rattle.fd_language.specs.declared.range_node.Need.TheVariants.{Whole, Natural}
@@ -157,7 +157,15 @@ postings_step first is new ts i d l e f =
     ∙ append_assoc (map posting first) (postings (take i ts)) (touch_postings (get_or ts i d))
     ∙ ap (λ (ps : List Posting). map posting first ++ ps) (postings_next ts i d l)
 
+-- a list with more behind it
+pub listed_more : (is list : List Instance) (ps : List Posting) → map posting is ≡ map posting list ++ ps → length list ≤ length is
+listed_more is list ps e = omega (arith, ap length e, length-map is posting, length-map list posting, length-append (map posting list) ps)
+
 -- ---- a goal's range before the touches
+
+-- is one
+pub goal_listed : (is : List Instance) (p : Posting) (ts : List Touch) → map posting is ≡ p ∷ postings ts → 1 ≤ length is
+goal_listed is p ts e = omega (arith, ap length e, length-map is posting)
 
 -- the ranges
 pub goal_posted : (is : List Instance) (r : Range) (v : ℕ) (as' : List Arg) (ts : List Touch)

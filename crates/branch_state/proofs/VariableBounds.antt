@@ -1,9 +1,11 @@
 -- Bounds of new variables: what is posted, and that each variable is bounded then.
-use Rattle.std.proofs.Common.{◌≡◌, ℕ, zero, suc, ◌+◌, ◌-◌, ◌<◌, ◌≤◌, Bool, true, false, cond, ◌==◌, pos, List, [], ◌∷◌, ◌++◌, length, map, refl, ap, sym, ◌∙◌}
+use Rattle.std.proofs.Common.{◌≡◌, ℕ, zero, suc, ◌+◌, ◌-◌, ◌<◌, ◌≤◌, Bool, true, false, cond, ◌==◌, pos, List, [], ◌∷◌, ◌++◌, length, map, take, drop, refl, ap, sym, ◌∙◌}
 use Rattle.std.proofs.Common.{subst, inl, inr, arith, eq-eqb, eqb-true, append_assoc, append-nil}
 use Rattle.std.specs.Prelude.{All}
 use Rattle.std.proofs.lemmas.Bool.{cases_lt, or_cases, true≢false}
-use Rattle.std.proofs.lemmas.List.{map-append}
+use Rattle.std.proofs.lemmas.List.{map-append, take-append-drop}
+use Rattle.std.specs.List.Sorted.{IsPermutation}
+use Rattle.std.proofs.lemmas.List.Sorted.{IsPermutation-append_comm, IsPermutation-append_right, IsPermutation-map, IsPermutation-refl, IsPermutation-sym}
 use Rattle.fd_language.specs.declared.TheConstants.{INFINITY}
 use Rattle.fd_language.specs.Family.{has}
 use Rattle.fd_language.specs.Range.{Range, Indexical}
@@ -14,11 +16,11 @@ use Rattle.fd_model.specs.ClosedFamilies.{constrained}
 use Rattle.fd_model.specs.Levels.{Level}
 use Rattle.fd_model.proofs.Lemmas.{constrained_either}
 use Rattle.propagate_queue.specs.declared.instance.Instance.{Instance}
-use Rattle.propagate_queue.specs.Instances.{posting, posting_of, posted_by, IsInstance}
+use Rattle.propagate_queue.specs.Instances.{posting, posting_of, posted_by, indexical, IsInstance}
 use Rattle.propagate_queue.specs.Postings.{Posting, ranged}
 use Rattle.branch_meaning.proofs.Lemmas.{front}
 use Rattle.branch_lemmas.specs.VariableBounds.{IsBounded, AreBounds, IsBoundedMore}
-use Rattle.branch_lemmas.proofs.Lemmas.{model_narrower, model_wider, none_bounded}
+use Rattle.branch_lemmas.proofs.Lemmas.{model_narrower, model_wider, model_permuted, none_bounded, some_permuted}
 use Rattle.unify_core.specs.declared.Touch.{Touch}
 use Rattle.branch_state.specs.StoreVariables.{goal_ranges}
 use Rattle.branch_state.specs.VariableBounds.{bound_posting, bound_postings, bounds_from, new_postings, new_bounds, PostsBounds}
@@ -150,9 +152,10 @@ new_bounded N first n k low high other = by_test (N == INFINITY) refl where
 
 -- each variable is bounded
 pub level_bounded : (N : ℕ) (qs ps : List Indexical) (first : ℕ) → ((k : ℕ) → k < first → (N ≡ INFINITY → ⊥) → IsBounded N qs k) → (next : Level)
-    → next.posted ≡ (qs ++ ps) ++ new_bounds N first (length next.sets - first) → HasBounds N next
+    → IsPermutation next.posted ((qs ++ ps) ++ new_bounds N first (length next.sets - first)) → HasBounds N next
 level_bounded N qs ps first old next e k l other =
-    subst (λ rs. IsBounded N rs k) (sym e) (elim (cases_lt k first) [
+    some_permuted (λ q. q ≡ bound N k) ((qs ++ ps) ++ new_bounds N first (length next.sets - first)) next.posted (IsPermutation-sym next.posted _ e)
+    (elim (cases_lt k first) [
       | inl low ↦ somewhere_left (λ q. q ≡ bound N k) (qs ++ ps) (new_bounds N first (length next.sets - first)) (somewhere_left (λ q. q ≡ bound N k) qs ps (old k low other))
       | inr high ↦ somewhere_right (λ q. q ≡ bound N k) (qs ++ ps) (new_bounds N first (length next.sets - first))
           (new_bounded N first (length next.sets - first) k high (omega (arith, l, high)) other)
@@ -164,6 +167,27 @@ level_settled N g l bounded named s = record {
   model = model_narrower INFINITY N l.posted (λ k c other. bounded k (named k c) other) g.1 _ s.model;
   most = λ R m. s.most R (model_wider INFINITY N l.posted g.1 R m);
 }
+
+-- Where ranges have no model, they have none in another order.
+pub none_permuted : (N : ℕ) (ps qs : List Indexical) → IsPermutation ps qs → HasNoModel N ps → HasNoModel N qs
+none_permuted N ps qs o none = λ T m. none T (model_permuted INFINITY N qs ps (IsPermutation-sym ps qs o) T m)
+
+-- the same order is one
+pub permuted_by : (ps qs : List Indexical) → ps ≡ qs → IsPermutation ps qs
+permuted_by ps qs e = subst (IsPermutation ps) e (IsPermutation-refl ps)
+
+-- the first of a list behind the others
+pub turned_list : (n : ℕ) (is turned : List Instance) → turned ≡ drop n is ++ take n is → IsPermutation is turned
+turned_list n is turned e =
+    subst (IsPermutation is) (sym e) (subst (λ (l : List Instance). IsPermutation l (drop n is ++ take n is)) (take-append-drop n is)
+    (IsPermutation-append_comm (take n is) (drop n is)))
+
+-- Ranges of a list that are posted in another order.
+pub turned_posted : (is turned : List Instance) → IsPermutation is turned → (qs now ps : List Indexical) → now ≡ qs ++ posted_by turned → qs ++ posted_by is ≡ ps
+    → IsPermutation now ps
+turned_posted is turned o qs now ps e f =
+    subst (λ (l : List Indexical). IsPermutation l ps) (sym e) (subst (IsPermutation (qs ++ posted_by turned)) f
+    (IsPermutation-append_right qs (posted_by turned) (posted_by is) (IsPermutation-map indexical turned is (IsPermutation-sym is turned o))))
 
 pub none_before : (N : ℕ) → IsGreatest N → (qs : List Indexical) (first n : ℕ) → HasNoModel INFINITY (qs ++ new_bounds N first n) → HasNoModel N qs
 none_before N g qs first n none = none_bounded INFINITY N qs (new_bounds N first n) g.1 (are_bounds N first n) none

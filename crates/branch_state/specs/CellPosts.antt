@@ -23,7 +23,7 @@ term_in name s c = seen_term name s.heaps.now (family_of s.levels.current.sets) 
 abbrev pub slots_in : Naming → State → Range → List Cell → Substitution
 slots_in name s r cells = shown_slots name s.heaps.now s.levels.current.sets r cells
 
--- The goal has no offence, and its range is linked on the heap now. The store's ranges are to be qs then, before the bounds of new variables.
+-- The goal has no offence, and its range is linked on the heap now. The store's ranges are to be qs then, and the bounds of new variables.
 pub record IsCellsPosted (name : Naming) (old : State) (target : Cell) (cells : List Cell)
     (r : Range) (now : Cells) (qs : List Indexical) : Type 0 where
   pub fine : cells_offence (term_in name old target) (slots_in name old r cells) r ≡ None

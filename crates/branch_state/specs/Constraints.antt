@@ -38,7 +38,7 @@ abbrev pub row_of : List Name → State → ConstraintKind → Cell → Result E
 row_of names s kind c = heap_row INFINITY s.heaps.now (family_of s.levels.current.sets) kind
     (term_of (full names) s.heaps.now c)
 
--- The constraint's row is linked on the heap now. The store's ranges are to be qs then, before the bounds of new variables.
+-- The constraint's row is linked on the heap now. The store's ranges are to be qs then, and the bounds of new variables.
 pub record IsConstrained (names : List Name) (old : State) (kind : ConstraintKind) (c : Cell)
     (now : Cells) (qs : List Indexical) : Type 0 where
   pub row : Expansion

@@ -1,5 +1,6 @@
 -- The bounds that are posted for new variables of the store.
-use Rattle.std.specs.Prelude.{◌≡◌, ℕ, zero, suc, ◌+◌, ◌-◌, ◌==◌, length, if◌then◌else◌, pos, List, [], ◌∷◌, ◌++◌}
+use Rattle.std.specs.Prelude.{ℕ, zero, suc, ◌+◌, ◌-◌, ◌==◌, length, if◌then◌else◌, pos, List, [], ◌∷◌, ◌++◌}
+use Rattle.std.specs.List.Sorted.{IsPermutation}
 use Rattle.fd_language.specs.declared.TheConstants.{INFINITY}
 use Rattle.fd_language.specs.Range.{Indexical}
 use Rattle.fd_model.specs.Bounds.{bound}
@@ -28,7 +29,7 @@ new_postings N first n = if N == INFINITY then [] else bound_postings N first n
 abbrev pub new_bounds : ℕ → ℕ → ℕ → List Indexical
 new_bounds N first n = if N == INFINITY then [] else bounds_from N first n
 
--- A level's ranges are qs, and behind them the bounds of the variables that it has more than an old one.
+-- A level's ranges are qs and the bounds of the variables that it has more than an old one, in whatever order.
 abbrev pub PostsBounds : ℕ → Level → List Indexical → Level → Type 0
-PostsBounds N old qs new = new.posted
-    ≡ qs ++ new_bounds N (length old.sets) (length new.sets - length old.sets)
+PostsBounds N old qs new = IsPermutation new.posted
+    (qs ++ new_bounds N (length old.sets) (length new.sets - length old.sets))

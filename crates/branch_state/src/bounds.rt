@@ -3,14 +3,13 @@
 ghost use Rattle.std.specs.Prelude.{◌≡◌, ◌≤◌, ◌-◌, ◌++◌, map, OnOk};
 ghost use Rattle.propagate_queue.specs.Instances.{posting};
 ghost use Rattle.branch_state.specs.VariableBounds.{bound_postings, new_postings};
-ghost use Rattle.branch_state.specs.Codes.{bound_range};
 
+use crate::codes::Codes;
 use crate::posting::instance;
 use fd_language::{INFINITY, NoMemory};
 use propagate_queue::Instance;
-use range_code::{Arg, RangeCode};
+use range_code::Arg;
 use std::alloc::Global;
-use std::rc::Rc;
 
 /// The variables of the store from `first` on are new, and none may have a number beyond `infinity`.
 #[derive(Clone, Copy)]
@@ -22,17 +21,16 @@ pub(crate) struct NewVars {
 /// Puts the bounds of new variables behind the list, where `vars` is the number of all.
 fn add_bounds(
     alloc: Global,
-    bound: &Rc<RangeCode>,
+    codes: &Codes,
     made: NewVars,
     vars: usize,
     list: &mut Vec<Instance>,
 ) -> Result<(), NoMemory>
-    requires bound { bound.now.value ≡ bound_range }
     ensures { OnOk result (map posting list.new.items ≡ map posting list.old.items
         ++ bound_postings made.infinity made.first (vars - made.first)) }
 {
     for k in made.first..vars {
-        list.push(instance(alloc, bound, k, Arg::Int(i64::from(made.infinity)))?)?;
+        list.push(instance(alloc, &codes.bound, k, Arg::Int(i64::from(made.infinity)))?)?;
     }
     Ok(())
 }
@@ -40,17 +38,16 @@ fn add_bounds(
 /// The same, unless these may have each number of the universe.
 pub(crate) fn add_new_bounds(
     alloc: Global,
-    bound: &Rc<RangeCode>,
+    codes: &Codes,
     made: NewVars,
     vars: usize,
     list: &mut Vec<Instance>,
 ) -> Result<(), NoMemory>
-    requires bound { bound.now.value ≡ bound_range }
     ensures { OnOk result (map posting list.new.items ≡ map posting list.old.items
         ++ new_postings made.infinity made.first (vars - made.first)) }
 {
     if made.infinity == INFINITY {
         return Ok(());
     }
-    add_bounds(alloc, bound, made, vars, list)
+    add_bounds(alloc, codes, made, vars, list)
 }

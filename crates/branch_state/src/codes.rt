@@ -11,8 +11,30 @@ use range_code::{RangeCode, compile_range};
 use std::alloc::Global;
 use std::rc::Rc;
 
+/// The codes of the ranges by which touches and bounds are posted: of an integer, of another variable's values, and of the greatest number.
+#[derive(Drop)]
+pub(crate) struct Codes {
+    pub exact: Rc<RangeCode>,
+    pub same: Rc<RangeCode>,
+    pub bound: Rc<RangeCode>,
+    ghost exact_is: { exact.value ≡ exact_range },
+    ghost same_is: { same.value ≡ same_range },
+    ghost bound_is: { bound.value ≡ bound_range },
+}
+
+impl Codes {
+    /// Compiles the three ranges.
+    pub(crate) fn new(alloc: Global) -> Result<Codes, NoMemory> {
+        Ok(Codes {
+            exact: exact_code(alloc)?,
+            same: same_code(alloc)?,
+            bound: bound_code(alloc)?,
+        })
+    }
+}
+
 /// The code of the range `P..P`, by which a variable of the store gets an integer.
-pub(crate) fn exact_code(alloc: Global) -> Result<Rc<RangeCode>, NoMemory>
+fn exact_code(alloc: Global) -> Result<Rc<RangeCode>, NoMemory>
     ensures { IfOk result (λ code. code.value ≡ exact_range) }
 {
     let nodes = vec![in alloc; RangeNode::Param(0), RangeNode::Param(0), RangeNode::Span]?;
@@ -22,7 +44,7 @@ pub(crate) fn exact_code(alloc: Global) -> Result<Rc<RangeCode>, NoMemory>
 }
 
 /// The code of the range `dom(Y)`, by which a variable of the store gets the values of another one.
-pub(crate) fn same_code(alloc: Global) -> Result<Rc<RangeCode>, NoMemory>
+fn same_code(alloc: Global) -> Result<Rc<RangeCode>, NoMemory>
     ensures { IfOk result (λ code. code.value ≡ same_range) }
 {
     let nodes = vec![in alloc; RangeNode::Dom(0)]?;
@@ -32,7 +54,7 @@ pub(crate) fn same_code(alloc: Global) -> Result<Rc<RangeCode>, NoMemory>
 }
 
 /// The code of the range `0..P`, by which a variable of the store gets its greatest number.
-pub(crate) fn bound_code(alloc: Global) -> Result<Rc<RangeCode>, NoMemory>
+fn bound_code(alloc: Global) -> Result<Rc<RangeCode>, NoMemory>
     ensures { IfOk result (λ code. code.value ≡ bound_range) }
 {
     let nodes = vec![in alloc; RangeNode::Int(0), RangeNode::Param(0), RangeNode::Span]?;

@@ -4,18 +4,17 @@ ghost use Rattle.std.specs.Prelude.{◌≡◌, ◌≤◌, ◌+◌, ◌++◌, fal
 ghost use Rattle.fd_language.specs.declared.TheConstants.{INFINITY};
 ghost use Rattle.unify_core.specs.Outcome.{IfTrue, IfFalse};
 ghost use Rattle.branch_state.specs.VariableBounds.{new_bounds};
-ghost use Rattle.branch_state.specs.Codes.{bound_range};
 ghost use Rattle.branch_state.specs.States.{HasNoModel};
 ghost use Rattle.branch_state.specs.StoreVariables.{with_level_sets};
 ghost use Rattle.branch_state.specs.OpenSets.{with_open_sets};
 
-use crate::bounds::NewVars;
-use crate::posting::post_bounded;
+use crate::bounds::{NewVars, add_new_bounds};
+use crate::codes::Codes;
+use crate::posting::post_list;
 use fd_language::NoMemory;
 use propagate_queue::{Agenda, Store};
-use range_code::{Activations, RangeCode};
+use range_code::Activations;
 use std::alloc::Global;
-use std::rc::Rc;
 
 /// Gives the store so many more variables, which may have any value.
 fn add_open<A: Agenda + Drop>(store: &mut Store<A>, count: usize) -> Result<(), NoMemory>
@@ -33,12 +32,11 @@ pub(crate) fn add_bounded<A: Agenda + Drop>(
     alloc: Global,
     store: &mut Store<A>,
     n: &mut Activations,
-    bound: &Rc<RangeCode>,
+    codes: &Codes,
     infinity: u32,
     count: usize,
 ) -> Result<bool, NoMemory>
-    requires bound { bound.now.value ≡ bound_range }
-    requires greatest { infinity ≤ INFINITY }
+    requires { infinity ≤ INFINITY }
     ensures posted { OnOk result (store.new.current.posted ≡ store.old.current.posted
         ++ new_bounds infinity (length store.old.current.sets) count) }
     ensures kept { IfTrue result (store.new.current.failed ≡ false) }
@@ -53,5 +51,7 @@ pub(crate) fn add_bounded<A: Agenda + Drop>(
         infinity,
     };
     add_open(store, count)?;
-    post_bounded(alloc, store, Vec::new(alloc), n, bound, made)
+    let mut list = Vec::new(alloc);
+    add_new_bounds(alloc, codes, made, store.vars(), &mut list)?;
+    post_list(store, list, n)
 }

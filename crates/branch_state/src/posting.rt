@@ -2,12 +2,12 @@
 
 ghost use Rattle.std.specs.Prelude.{◌≡◌, ◌<◌, ◌≤◌, ◌-◌, ◌++◌, ◌∷◌, [], false, map, length, All, IfOk, OnOk};
 ghost use Rattle.std.specs.List.{list_all};
+ghost use Rattle.std.specs.List.Sorted.{IsPermutation};
 ghost use Rattle.propagate_queue.specs.Instances.{posting, posting_of, posted_by, IsInstance};
 ghost use Rattle.propagate_queue.specs.Postings.{ranged, IsPosting};
 ghost use Rattle.unify_core.specs.Outcome.{IfTrue, IfFalse};
 ghost use Rattle.fd_language.specs.declared.TheConstants.{INFINITY};
 ghost use Rattle.branch_state.specs.VariableBounds.{new_bounds};
-ghost use Rattle.branch_state.specs.Codes.{exact_range, same_range, bound_range};
 ghost use Rattle.range_code.specs.Frames.{IsArgumentFrame};
 ghost use Rattle.branch_state.specs.StoreVariables.{goal_ranges};
 ghost use Rattle.branch_state.specs.Posting.{is_natural as natural, touch_postings, postings};
@@ -17,6 +17,7 @@ ghost use Rattle.branch_meaning.specs.Store.{posts};
 ghost use Rattle.branch_lemmas.specs.Frames.{store_touches};
 
 use crate::bounds::{NewVars, add_new_bounds};
+use crate::codes::Codes;
 use crate::constraints::Listed;
 use crate::store_variables::Prepared;
 use fd_language::{INFINITY as TOP, NoMemory};
@@ -63,21 +64,18 @@ pub(crate) fn instance(
 /// Puts what is posted for a touch behind the list.
 fn add_touch(
     alloc: Global,
-    exact: &Rc<RangeCode>,
-    same: &Rc<RangeCode>,
+    codes: &Codes,
     touch: Touch,
     list: &mut Vec<Instance>,
 ) -> Result<(), NoMemory>
-    requires exact { exact.now.value ≡ exact_range }
-    requires same { same.now.value ≡ same_range }
     ensures { OnOk result (map posting list.new.items
         ≡ map posting list.old.items ++ touch_postings touch) }
 {
     match touch {
-        Touch::Value(k, z) => list.push(instance(alloc, exact, k, Arg::Int(z))?)?,
+        Touch::Value(k, z) => list.push(instance(alloc, &codes.exact, k, Arg::Int(z))?)?,
         Touch::Same(k, j) => {
-            list.push(instance(alloc, same, k, Arg::Var(j))?)?;
-            list.push(instance(alloc, same, j, Arg::Var(k))?)?;
+            list.push(instance(alloc, &codes.same, k, Arg::Var(j))?)?;
+            list.push(instance(alloc, &codes.same, j, Arg::Var(k))?)?;
         }
     }
     Ok(())
@@ -86,18 +84,15 @@ fn add_touch(
 /// Puts what is posted for touches behind the list.
 fn add_touches(
     alloc: Global,
-    exact: &Rc<RangeCode>,
-    same: &Rc<RangeCode>,
+    codes: &Codes,
     touches: &[Touch],
     list: &mut Vec<Instance>,
 ) -> Result<(), NoMemory>
-    requires exact { exact.now.value ≡ exact_range }
-    requires same { same.now.value ≡ same_range }
     ensures { OnOk result (map posting list.new.items
         ≡ map posting list.old.items ++ postings touches.now) }
 {
     for touch in touches {
-        add_touch(alloc, exact, same, *touch, list)?;
+        add_touch(alloc, codes, *touch, list)?;
     }
     Ok(())
 }
@@ -150,30 +145,35 @@ fn post_single<A: Agenda + Drop>(
     }
 }
 
-/// Posts the list, and behind it the bounds of new variables. Whether all that is posted has a model.
-pub(crate) fn post_bounded<A: Agenda + Drop>(
+/// Posts the list and the bounds of new variables. The first `late` of the list come last, so that the others and the bounds narrow their
+/// variables before they are activated. Whether all that is posted has a model.
+fn post_bounded<A: Agenda + Drop>(
     alloc: Global,
     store: &mut Store<A>,
     list: Vec<Instance>,
+    late: usize,
     n: &mut Activations,
-    bound: &Rc<RangeCode>,
+    codes: &Codes,
     made: NewVars,
 ) -> Result<bool, NoMemory>
-    requires bound { bound.now.value ≡ bound_range }
     requires list { All (IsInstance (length store.old.current.sets)) list.items }
+    requires late { late ≤ length list.items }
     requires greatest { made.infinity ≤ INFINITY }
-    ensures posted { OnOk result (store.new.current.posted
-        ≡ (store.old.current.posted ++ posted_by list.items)
-        ++ new_bounds made.infinity made.first (length store.old.current.sets - made.first)) }
+    ensures posted { OnOk result (IsPermutation store.new.current.posted
+        ((store.old.current.posted ++ posted_by list.items)
+        ++ new_bounds made.infinity made.first (length store.old.current.sets - made.first))) }
     ensures kept { IfTrue result ((store.new.current.failed ≡ false)
         × IsSettled INFINITY store.new.current) }
-    ensures none { IfFalse result (HasNoModel INFINITY store.new.current.posted) }
+    ensures none { IfFalse result (HasNoModel INFINITY
+        ((store.old.current.posted ++ posted_by list.items)
+        ++ new_bounds made.infinity made.first (length store.old.current.sets - made.first))) }
     ensures vars { OnOk result (length store.new.current.sets ≡ length store.old.current.sets) }
     ensures below { store.new.below ≡ store.old.below }
     ensures unspent { OnOk result (store.new.spent ≡ false) }
 {
     let mut list = list;
-    add_new_bounds(alloc, bound, made, store.vars(), &mut list)?;
+    add_new_bounds(alloc, codes, made, store.vars(), &mut list)?;
+    list.rotate_left(late);
     post_list(store, list, n)
 }
 
@@ -183,12 +183,9 @@ pub(crate) fn post_all<A: Agenda + Drop>(
     alloc: Global,
     store: &mut Store<A>,
     n: &mut Activations,
-    exact: &Rc<RangeCode>,
-    same: &Rc<RangeCode>,
+    codes: &Codes,
     touches: &[Touch],
 ) -> Result<bool, NoMemory>
-    requires exact { exact.now.value ≡ exact_range }
-    requires same { same.now.value ≡ same_range }
     requires touches { AreTouchesBelow (length store.old.current.sets) touches.now }
     requires unspent { store.old.spent ≡ false }
     ensures posted { IfTrue result (store.new.current.posted
@@ -205,10 +202,10 @@ pub(crate) fn post_all<A: Agenda + Drop>(
         return Ok(false);
     }
     if let &[Touch::Value(k, z)] = touches {
-        return post_single(store, n, exact, k, &[Arg::Int(z)]);
+        return post_single(store, n, &codes.exact, k, &[Arg::Int(z)]);
     }
     let mut list = Vec::with_capacity(alloc, touches.len())?;
-    add_touches(alloc, exact, same, touches, &mut list)?;
+    add_touches(alloc, codes, touches, &mut list)?;
     post_list(store, list, n)
 }
 
@@ -218,23 +215,21 @@ pub(crate) fn post_prepared<A: Agenda + Drop>(
     alloc: Global,
     store: &mut Store<A>,
     n: &mut Activations,
-    codes: (&Rc<RangeCode>, &Rc<RangeCode>, &Rc<RangeCode>),
+    codes: &Codes,
     code: &Rc<RangeCode>,
     prepared: Prepared,
     made: NewVars,
 ) -> Result<bool, NoMemory>
-    requires exact { codes.0.now.value ≡ exact_range }
-    requires same { codes.1.now.value ≡ same_range }
-    requires bound { codes.2.now.value ≡ bound_range }
     requires greatest { made.infinity ≤ INFINITY }
     requires target { prepared.target < length store.old.current.sets }
     requires frame { IsArgumentFrame (length store.old.current.sets) code.now.value
         prepared.args.items }
     requires fixed { AreTouchesBelow (length store.old.current.sets) prepared.fixed.items }
     requires unspent { store.old.spent ≡ false }
-    ensures posted { IfTrue result (store.new.current.posted ≡ (store.old.current.posted
+    ensures posted { IfTrue result (IsPermutation store.new.current.posted
+        ((store.old.current.posted
         ++ goal_ranges code.now.value prepared.target prepared.args.items prepared.fixed.items)
-        ++ new_bounds made.infinity made.first (length store.old.current.sets - made.first)) }
+        ++ new_bounds made.infinity made.first (length store.old.current.sets - made.first))) }
     ensures kept { IfTrue result ((store.new.current.failed ≡ false)
         × IsSettled INFINITY store.new.current) }
     ensures none { IfFalse result (HasNoModel INFINITY ((store.old.current.posted
@@ -261,8 +256,8 @@ pub(crate) fn post_prepared<A: Agenda + Drop>(
         target,
         args,
     })?;
-    add_touches(alloc, codes.0, codes.1, &fixed, &mut list)?;
-    post_bounded(alloc, store, list, n, codes.2, made)
+    add_touches(alloc, codes, &fixed, &mut list)?;
+    post_bounded(alloc, store, list, 1, n, codes, made)
 }
 
 /// Posts the ranges of a constraint, gives variables their integers, and bounds new ones. Whether all that is posted then has a model.
@@ -270,20 +265,18 @@ pub(crate) fn post_rows<A: Agenda + Drop>(
     alloc: Global,
     store: &mut Store<A>,
     n: &mut Activations,
-    codes: (&Rc<RangeCode>, &Rc<RangeCode>, &Rc<RangeCode>),
+    codes: &Codes,
     listed: Listed,
     made: NewVars,
 ) -> Result<bool, NoMemory>
-    requires exact { codes.0.now.value ≡ exact_range }
-    requires same { codes.1.now.value ≡ same_range }
-    requires bound { codes.2.now.value ≡ bound_range }
     requires greatest { made.infinity ≤ INFINITY }
     requires list { All (IsInstance (length store.old.current.sets)) listed.list.items }
     requires fixed { AreTouchesBelow (length store.old.current.sets) listed.fixed.items }
     requires unspent { store.old.spent ≡ false }
-    ensures posted { IfTrue result (store.new.current.posted ≡ ((store.old.current.posted
-        ++ posted_by listed.list.items) ++ posts (store_touches listed.fixed.items))
-        ++ new_bounds made.infinity made.first (length store.old.current.sets - made.first)) }
+    ensures posted { IfTrue result (IsPermutation store.new.current.posted
+        (((store.old.current.posted ++ posted_by listed.list.items)
+        ++ posts (store_touches listed.fixed.items))
+        ++ new_bounds made.infinity made.first (length store.old.current.sets - made.first))) }
     ensures kept { IfTrue result ((store.new.current.failed ≡ false)
         × IsSettled INFINITY store.new.current) }
     ensures none { IfFalse result (HasNoModel INFINITY (((store.old.current.posted
@@ -298,6 +291,6 @@ pub(crate) fn post_rows<A: Agenda + Drop>(
         return Ok(false);
     }
     let mut list = list;
-    add_touches(alloc, codes.0, codes.1, &fixed, &mut list)?;
-    post_bounded(alloc, store, list, n, codes.2, made)
+    add_touches(alloc, codes, &fixed, &mut list)?;
+    post_bounded(alloc, store, list, 0, n, codes, made)
 }

@@ -21,7 +21,7 @@ use std::alloc::Global;
 use std::rc::Rc;
 
 /// How many codes are kept.
-const KEPT: usize = 8;
+const KEPT: usize = 32;
 
 /// The last codes that were made, the oldest first. A constraint's ranges are alike one after the other, or every second one, and those of
 /// a clause's constraints are alike each time that the clause is called.

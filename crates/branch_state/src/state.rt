@@ -20,7 +20,7 @@ ghost use Rattle.range_code.specs.Slots.{slots_of};
 use crate::bounds::NewVars;
 use crate::cell_looks::{find_cells_offence, look_cell};
 use crate::cells::prepare_cells;
-use crate::codes::{bound_code, exact_code, know_code, same_code};
+use crate::codes::{Codes, know_code};
 use crate::constraints::{expand_goal, fault_of, prepare_row};
 use crate::heap_facts::know;
 use crate::open_vars::add_bounded;
@@ -54,9 +54,7 @@ pub struct BranchState<A: Agenda + Drop> {
     heap: Heap,
     store: Store<A>,
     activations: Activations,
-    exact: Rc<RangeCode>,
-    same: Rc<RangeCode>,
-    bound: Rc<RangeCode>,
+    own_codes: Codes,
     recent: Recent,
     terms: Option<Pool>,
 }
@@ -71,18 +69,12 @@ impl<A: Agenda + Drop> Model for BranchState<A> {
 
     ghost coded = { Prim.hlevel (codes, levels_coded) };
 
-    ghost use Rattle.std.specs.Prelude.{◌≡◌};
-    ghost use Rattle.branch_state.specs.Codes.{exact_range, same_range, bound_range};
-
     ghost view = { λ s. record {
       atoms = s.atoms;
       infinity = s.infinity;
       heaps = s.heap;
       levels = s.store;
     } };
-
-    ghost invariant = { λ s. (s.exact.value ≡ exact_range) × (s.same.value ≡ same_range)
-        × (s.bound.value ≡ bound_range) };
 }
 
 /// An empty heap, and an equal one below it.
@@ -116,6 +108,7 @@ impl<A: Agenda + Drop> BranchState<A> {
         ensures first { IfOk result (λ s. s ≡ first_state atoms infinity) }
         ensures sound { IfOk result IsSound }
     {
+        let own_codes = Codes::new(alloc)?;
         let heap = first_heap(alloc)?;
         let store = first_store(alloc, agenda)?;
         store.known();
@@ -126,9 +119,7 @@ impl<A: Agenda + Drop> BranchState<A> {
             heap,
             store,
             activations: Activations::new(),
-            exact: exact_code(alloc)?,
-            same: same_code(alloc)?,
-            bound: bound_code(alloc)?,
+            own_codes,
             recent: Recent::new(alloc),
             terms: None,
         })
@@ -332,8 +323,7 @@ impl<A: Agenda + Drop> BranchState<A> {
             self.alloc,
             &mut self.store,
             &mut self.activations,
-            &self.exact,
-            &self.same,
+            &self.own_codes,
             touches,
         )
     }
@@ -375,7 +365,7 @@ impl<A: Agenda + Drop> BranchState<A> {
             self.alloc,
             &mut self.store,
             &mut self.activations,
-            (&self.exact, &self.same, &self.bound),
+            &self.own_codes,
             code,
             prepared,
             made,
@@ -426,7 +416,7 @@ impl<A: Agenda + Drop> BranchState<A> {
             self.alloc,
             &mut self.store,
             &mut self.activations,
-            (&self.exact, &self.same, &self.bound),
+            &self.own_codes,
             listed,
             made,
         )?;
@@ -461,7 +451,7 @@ impl<A: Agenda + Drop> BranchState<A> {
             self.alloc,
             &mut self.store,
             &mut self.activations,
-            &self.bound,
+            &self.own_codes,
             self.infinity,
             added,
         )?;

@@ -1,4 +1,4 @@
--- Bounds that a store gets behind its other ranges: the machine stands for the same.
+-- Bounds that a store gets beside its other ranges: the machine stands for the same.
 use Rattle.std.proofs.Common.{ℕ, ◌<◌, ◌≤◌, List, Option, inl, inr}
 use Rattle.fd_language.specs.Range.{Indexical}
 use Rattle.fd_model.specs.Goal.{Branch, Program, Query, Event}

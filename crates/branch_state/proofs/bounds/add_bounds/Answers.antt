@@ -34,5 +34,5 @@ loop-k-preserved c =
       to = omega (arith, below);
       listed = postings_more c.args.list.now.items c.loop-k.list.items c.push.new.self.items N start (c.loop-k.k - start) (c.loop-k.k + 1 - start) more
           c.loop-k.invariant.listed c.in_ok-instance.field-0
-          (c.in_ok-instance.ensures ∙ same_one _ c.loop-k.k (start + (c.loop-k.k - start)) _ N c.requires.bound there fits) c.in_ok-push.ensures.items;
+          (c.in_ok-instance.ensures ∙ same_one _ c.loop-k.k (start + (c.loop-k.k - start)) _ N c.args.codes.now.bound_is there fits) c.in_ok-push.ensures.items;
     }

@@ -41,7 +41,7 @@ returns-in-Value-clause-posted g c =
     let at : get_or c.args.touches.now 0 v ≡ v = first_of (search rules, cc, grind (arith, common_steps)) in
     let one : c.args.touches.now ≡ v ∷ [] = one_touch c.args.touches.now v c.in-Value.len_at_least c.in-Value.len_below at in
     let fits : to_z w64 (of_z w64 c.in-Value.z) ≡ c.in-Value.z = first_of (search rules, grind (arith, ints, to_z-of_z), grind (arith, common_steps)) in
-    let is = value_posted c.args.exact.now.value c.requires.exact c.args.touches.now c.in-Value.k (to_z w64 (of_z w64 c.in-Value.z)) (one ∙ ap (λ y. Value c.in-Value.k y ∷ []) (sym fits)) in
+    let is = value_posted c.args.codes.now.exact.value c.args.codes.now.exact_is c.args.touches.now c.in-Value.k (to_z w64 (of_z w64 c.in-Value.z)) (one ∙ ap (λ y. Value c.in-Value.k y ∷ []) (sym fits)) in
     ok_true c.post_single.result _ _ (λ e. e ∙ ap (λ (l : List Indexical). c.args.store.now.current.posted ++ l) is) c.post_single.ensures.posted
 
 pub returns-in-Value-clause-none : goal.returns-in-Value-clause-none
@@ -50,6 +50,6 @@ returns-in-Value-clause-none g c =
     let at : get_or c.args.touches.now 0 v ≡ v = first_of (search rules, cc, grind (arith, common_steps)) in
     let one : c.args.touches.now ≡ v ∷ [] = one_touch c.args.touches.now v c.in-Value.len_at_least c.in-Value.len_below at in
     let fits : to_z w64 (of_z w64 c.in-Value.z) ≡ c.in-Value.z = first_of (search rules, grind (arith, ints, to_z-of_z), grind (arith, common_steps)) in
-    let is = value_posted c.args.exact.now.value c.requires.exact c.args.touches.now c.in-Value.k (to_z w64 (of_z w64 c.in-Value.z)) (one ∙ ap (λ y. Value c.in-Value.k y ∷ []) (sym fits)) in
+    let is = value_posted c.args.codes.now.exact.value c.args.codes.now.exact_is c.args.touches.now c.in-Value.k (to_z w64 (of_z w64 c.in-Value.z)) (one ∙ ap (λ y. Value c.in-Value.k y ∷ []) (sym fits)) in
     if_false_by c.post_single.result _ _ _ (λ e h. subst (HasNoModel INFINITY) (e ∙ ap (λ (l : List Indexical). c.args.store.now.current.posted ++ l) is) h)
     c.post_single.ensures.posted c.post_single.ensures.none

@@ -1,5 +1,6 @@
 use Rattle.std.proofs.Common.{◌≡◌, ◌∙◌, ◌++◌, ◌-◌, ap, sym, subst, true, List, length, map, append_assoc, rules}
 use Rattle.std.specs.List.{list_all}
+use Rattle.std.specs.List.Sorted.{IsPermutation}
 use Rattle.fd_language.specs.Range.{Indexical}
 use Rattle.propagate_queue.specs.Instances.{posting, posted_by}
 use Rattle.branch_meaning.specs.Store.{posts}
@@ -10,7 +11,7 @@ use Rattle.fd_language.specs.declared.TheConstants.{INFINITY}
 use Rattle.branch_state.specs.VariableBounds.{new_bounds}
 use Rattle.branch_state.specs.States.{HasNoModel}
 use Rattle.branch_state.proofs.VariableBounds.{none_behind}
-use Rattle.branch_state.proofs.States.{ok_true, if_false_by}
+use Rattle.branch_state.proofs.States.{ok_true, if_false_as}
 use Rattle.branch_state.proofs.Touches.{outside_none, rows_posted, rows_fit}
 use Rattle.branch_state.proofs.posting.post_rows.Goals as goal
 
@@ -31,14 +32,13 @@ returns-clause-posted g c =
     let listed : map posting c.add_touches.new.list.items ≡ map posting c.args.listed.list.items ++ postings c.args.listed.fixed.items = search rules in
     let is = ap (λ (l : List Indexical). c.args.store.now.current.posted ++ l) (rows_posted c.add_touches.new.list.items c.args.listed.list.items c.args.listed.fixed.items listed)
     ∙ sym (append_assoc c.args.store.now.current.posted (posted_by c.args.listed.list.items) (posts (store_touches c.args.listed.fixed.items))) in
-    ok_true c.post_bounded.result _ _ (λ e. e ∙ ap (λ (l : List Indexical). l
-    ++ new_bounds c.args.made.infinity c.args.made.first (length c.args.store.now.current.sets - c.args.made.first)) is) c.post_bounded.ensures.posted
+    ok_true c.post_bounded.result _ _ (λ e. subst (λ (l : List Indexical). IsPermutation c.post_bounded.new.store.current.posted
+    (l ++ new_bounds c.args.made.infinity c.args.made.first (length c.args.store.now.current.sets - c.args.made.first))) is e) c.post_bounded.ensures.posted
 
 pub returns-clause-none : goal.returns-clause-none
 returns-clause-none g c =
     let listed : map posting c.add_touches.new.list.items ≡ map posting c.args.listed.list.items ++ postings c.args.listed.fixed.items = search rules in
     let is = ap (λ (l : List Indexical). c.args.store.now.current.posted ++ l) (rows_posted c.add_touches.new.list.items c.args.listed.list.items c.args.listed.fixed.items listed)
     ∙ sym (append_assoc c.args.store.now.current.posted (posted_by c.args.listed.list.items) (posts (store_touches c.args.listed.fixed.items))) in
-    if_false_by c.post_bounded.result _ _ _ (λ e n. subst (HasNoModel INFINITY)
-    (e ∙ ap (λ (l : List Indexical). l ++ new_bounds c.args.made.infinity c.args.made.first (length c.args.store.now.current.sets - c.args.made.first)) is)
-    n) c.post_bounded.ensures.posted c.post_bounded.ensures.none
+    if_false_as c.post_bounded.result _ _ (λ n. subst (λ (l : List Indexical). HasNoModel INFINITY
+    (l ++ new_bounds c.args.made.infinity c.args.made.first (length c.args.store.now.current.sets - c.args.made.first))) is n) c.post_bounded.ensures.none

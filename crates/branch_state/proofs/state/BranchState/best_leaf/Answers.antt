@@ -8,8 +8,8 @@ use Rattle.branch_state.proofs.OpenSets.{open_model}
 use Rattle.branch_state.proofs.States.{false_at}
 use Rattle.branch_state.proofs.state.BranchState.best_leaf.Goals as goal
 
-pub add_bounded-requires-clause-greatest : goal.add_bounded-requires-clause-greatest
-add_bounded-requires-clause-greatest g c =
+pub add_bounded-requires : goal.add_bounded-requires
+add_bounded-requires g c =
     let now : State = record { atoms = c.self.inside.atoms; infinity = c.self.inside.infinity; heaps = c.self.inside.heap; levels = c.self.inside.store } in
     let o : IsSound now = subst IsSound (sym c.self.view_is) c.requires.sound in
     o.greatest.1

@@ -12,4 +12,4 @@ returns-clause-sound g c =
     let levels = c.in_ok-store.ensures in
     let valid : IsHeap no_cells = subst IsHeap (ap (λ (h : Heaps). h.now) heaps) c.heap.invariant.stored.now in
     let domains = subst (λ (v : Levels). v.spent ≡ false → v.current.failed ≡ false → AreDomains v.current.posted v.current.sets) c.in_ok-store.ensures c.known.ensures.kept in
-    same_sound c.args.atoms c.args.infinity _ _ _ _ heaps levels (first_sound c.args.atoms c.args.infinity c.requires valid (domains refl refl))
+    same_sound c.args.atoms c.args.infinity _ _ _ _ c.in_ok-heap.ensures levels (first_sound c.args.atoms c.args.infinity c.requires valid (domains refl refl))
