@@ -6,5 +6,4 @@ mod Values
 mod Steps
 mod Work
 mod SearchSteps
-mod MemberChecks
 pub mod Lemmas

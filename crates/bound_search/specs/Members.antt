@@ -1,6 +1,5 @@
 -- The members of a list, all of them integers and variables of the store.
-use Rattle.std.specs.Prelude.{ℕ, ◌<◌, nat_lt, ◌==◌, Bool, true, false, ℤ, pos, List, map, Option, Some, None, All}
-use Rattle.std.specs.List.{list_any}
+use Rattle.std.specs.Prelude.{ℕ, ◌<◌, Bool, true, false, ℤ, pos, List, map, Option, Some, None, All}
 use Rattle.fd_language.specs.Family.{Family}
 use Rattle.fd_language.specs.Range.{least, greatest}
 use Rattle.fd_model.specs.Members as seen
@@ -13,23 +12,6 @@ abbrev pub IsOwn : ℕ → Member → Type 0
 IsOwn n (Fixed z) = Unit {0}
 IsOwn n (Var k) = k < n
 IsOwn n Free = ⊥
-
-abbrev pub is_own : ℕ → Member → Bool
-is_own n (Fixed z) = true
-is_own n (Var k) = nat_lt k n
-is_own n Free = false
-
--- a certain variable
-abbrev pub is_variable : ℕ → Member → Bool
-is_variable k (Fixed z) = false
-is_variable k (Var j) = j == k
-is_variable k Free = false
-
--- a cost is an integer, or one of the list's variables
-abbrev pub is_cost_of : List Member → Member → Bool
-is_cost_of list (Fixed z) = true
-is_cost_of list (Var k) = list_any (is_variable k) list
-is_cost_of list Free = false
 
 abbrev pub AreOwn : ℕ → List Member → Type 0
 AreOwn n list = All (IsOwn n) list

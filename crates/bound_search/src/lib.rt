@@ -5,26 +5,27 @@ ghost use Rattle.std.specs.Prelude.{◌≡◌, false, true, length, None, Some, 
 ghost use Rattle.fd_language.specs.declared.TheConstants.{INFINITY};
 ghost use Rattle.fd_model.specs.BestPosted.{IsCostOf, SoughtValues};
 ghost use Rattle.bound_search.specs.Members.{AreOwn, member_of, members_of};
+ghost use Rattle.bound_search.specs.Posting.{exact_range};
 
 mod best_leaf;
-mod member_checks;
 mod posting;
 mod search;
 
-pub use crate::member_checks::may_search;
-use crate::search::{Aim, search};
+pub use crate::search::Aim;
+use crate::search::search;
 use fd_language::NoMemory;
-use fd_model::kinds::Order;
 use label_search::Member;
 use propagate_queue::{Agenda, Store};
-use range_code::Activations;
+use range_code::{Activations, RangeCode};
 use std::alloc::Global;
+use std::rc::Rc;
 
 /// The values of the list's variables, in order, in the first best leaf of its labelling: of the leaves in which the cost is least (or
-/// greatest, where `least` is false) the first in the order of the labelling. `None` comes exactly where there is no leaf. All levels of
+/// greatest, where `aim.least` is false) the first in the order of the labelling. `None` comes exactly where there is no leaf. All levels of
 /// the store are then as before. After `NoMemory` the store answers `NoMemory` from then on.
 ///
-/// The store hasn't failed. The members are integers and variables of the store, and the cost is an integer or one of them. `n` goes up
+/// The store hasn't failed, and `exact` is the code of `P..P`. The members are integers and variables of the store, and the cost is an integer
+/// or one of them. `n` goes up
 /// by the activations that the search takes.
 ///
 /// A node is dropped where the best value that its own domains leave to the cost is no better than the best cost so far. The bound isn't
@@ -33,26 +34,25 @@ use std::alloc::Global;
 pub fn best<A: Agenda + Drop>(
     alloc: Global,
     store: &mut Store<A>,
-    order: Order,
+    exact: &Rc<RangeCode>,
     list: &[Member],
-    cost: Member,
-    least: bool,
+    aim: Aim,
     n: &mut Activations,
 ) -> Result<Option<Vec<u32>>, NoMemory>
     requires level { store.old.current.failed ≡ false }
+    requires exact { exact.now.value ≡ exact_range }
     requires list { AreOwn (length store.old.current.sets) list.now }
-    requires cost { IsCostOf (members_of list.now) (member_of cost) }
+    requires cost { IsCostOf (members_of list.now) (member_of aim.cost) }
     ensures found { IfOk result (λ found. MatchOption found
-        (SoughtValues INFINITY order (members_of list.now) (member_of cost) least
+        (SoughtValues INFINITY aim.order (members_of list.now) (member_of aim.cost) aim.least
         store.old.current.posted None)
-        (λ values. SoughtValues INFINITY order (members_of list.now) (member_of cost) least
-        store.old.current.posted (Some values.items))) }
+        (λ values. SoughtValues INFINITY aim.order (members_of list.now) (member_of aim.cost)
+        aim.least store.old.current.posted (Some values.items))) }
     ensures levels { OnOk result (store.new ≡ store.old) }
     ensures unspent { OnOk result (store.old.spent ≡ false) }
     ensures spent { OnErr result (store.new.spent ≡ true) }
 {
-    let aim = Aim { order, cost, least };
-    match search(alloc, store, list, aim, n) {
+    match search(alloc, store, exact, list, aim, n) {
         Ok(found) => Ok(found),
         Err(NoMemory) => {
             store.give_up();

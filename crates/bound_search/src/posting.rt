@@ -7,22 +7,10 @@ ghost use Rattle.fd_model.specs.BranchViews.{IsConsistent};
 ghost use Rattle.bound_search.specs.Posting.{exact_range};
 ghost use Rattle.bound_search.specs.SearchStates.{IsNode};
 
-use fd_language::{FlatRange, NoMemory, RangeNode};
-use monotone_check::Checked;
+use fd_language::NoMemory;
 use propagate_queue::{Agenda, Posted, Store};
-use range_code::{Activations, Arg, RangeCode, compile_range};
-use std::alloc::Global;
+use range_code::{Activations, Arg, RangeCode};
 use std::rc::Rc;
-
-/// The code of the range `P..P`, by which a variable gets an integer.
-pub(crate) fn exact_code(alloc: Global) -> Result<Rc<RangeCode>, NoMemory>
-    ensures { IfOk result (λ code. code.value ≡ exact_range) }
-{
-    let nodes = vec![in alloc; RangeNode::Param(0), RangeNode::Param(0), RangeNode::Span]?;
-    let range = FlatRange::from_nodes(nodes).unwrap();
-    let checked = Checked::from_accepted(range);
-    Ok(Rc::new(alloc, compile_range(alloc, &checked)?)?)
-}
 
 /// Posts that the variable has the value. Whether no domain is empty then.
 pub(crate) fn post_value<A: Agenda + Drop>(

@@ -9,7 +9,7 @@ ghost use Rattle.bound_search.specs.Members.{IsNoBetter, bound, member_of, membe
 ghost use Rattle.bound_search.specs.Posting.{exact_range};
 
 use crate::best_leaf::{SoFar, bound_of, improves, keep_leaf};
-use crate::posting::{exact_code, post_value};
+use crate::posting::post_value;
 use fd_language::{INFINITY, NoMemory};
 use fd_model::kinds::Order;
 use label_search::{Member, pick};
@@ -20,10 +20,13 @@ use std::rc::Rc;
 
 /// What is searched for: the best cost in a labelling by an order.
 #[derive(Clone, Copy)]
-pub(crate) struct Aim {
-    pub(crate) order: Order,
-    pub(crate) cost: Member,
-    pub(crate) least: bool,
+pub struct Aim {
+    /// The order of the labelling.
+    pub order: Order,
+    /// The cost: an integer, or a member of the list.
+    pub cost: Member,
+    /// Whether the least cost is the best, and not the greatest.
+    pub least: bool,
 }
 
 /// An open node: the variable whose values are tried, and the least number that is still to be tried.
@@ -153,10 +156,12 @@ fn advance<A: Agenda + Drop>(
 pub(crate) fn search<A: Agenda + Drop>(
     alloc: Global,
     store: &mut Store<A>,
+    exact: &Rc<RangeCode>,
     list: &[Member],
     aim: Aim,
     n: &mut Activations,
 ) -> Result<Option<Vec<u32>>, NoMemory>
+    requires exact { exact.now.value ≡ exact_range }
     requires level { store.old.current.failed ≡ false }
     requires wanted { AreWanted (length store.old.current.sets) list.now aim }
     ensures found { IfOk result (λ found. MatchOption found
@@ -167,7 +172,6 @@ pub(crate) fn search<A: Agenda + Drop>(
     ensures levels { OnOk result (store.new ≡ store.old) }
     ensures unspent { OnOk result (store.old.spent ≡ false) }
 {
-    let exact = exact_code(alloc)?;
     let mut nodes = Vec::new(alloc);
     let mut best = SoFar {
         cost: None,
@@ -177,7 +181,7 @@ pub(crate) fn search<A: Agenda + Drop>(
     store.known();
     look(store, list, aim, &mut nodes, &mut best)?;
     'trying: while let Some(node) = nodes.pop() {
-        advance(&exact, store, list, aim, node, &mut nodes, &mut best, n)?;
+        advance(exact, store, list, aim, node, &mut nodes, &mut best, n)?;
     }
     match best.cost {
         None => Ok(None),

@@ -1,10 +1,8 @@
 -- The ranges by which touches and bounds are posted.
 use Rattle.std.specs.Prelude.{pos}
 use Rattle.fd_language.specs.Range.{Range, Span, Dom, Number, Param}
-
 -- a variable gets the integer of the parameter
-abbrev pub exact_range : Range
-exact_range = Span (Param 0) (Param 0)
+pub use Rattle.bound_search.specs.Posting.{exact_range}
 
 -- a variable gets the values of another one
 abbrev pub same_range : Range

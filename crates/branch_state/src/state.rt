@@ -28,7 +28,7 @@ use crate::posting::{post_all, post_prepared, post_rows};
 use crate::posting_lists::Recent;
 use crate::shown_terms::show_cells;
 use crate::step::{Step, step_of};
-use bound_search::best;
+use bound_search::{Aim, best};
 use fd_language::NoMemory;
 use fd_model::kinds::{ConstraintKind, Order};
 use heap_cells::{Cell, Heap};
@@ -462,10 +462,9 @@ impl<A: Agenda + Drop> BranchState<A> {
         let found = best(
             self.alloc,
             &mut self.store,
-            order,
+            &self.own_codes.exact,
             list,
-            cost,
-            least,
+            Aim { order, cost, least },
             &mut self.activations,
         )?;
         self.store.pop_mark();

@@ -1,15 +1,20 @@
 //! Searches for the least and the greatest cost.
 
+ghost use Rattle.std.specs.Prelude.{◌≡◌, IfOk};
+ghost use Rattle.bound_search.specs.Posting.{exact_range};
+
 use crate::assertions::same;
 use crate::stores::post_range;
-use bound_search::{best, may_search};
-use fd_language::RangeNode;
+use bound_search::{Aim, best};
+use fd_language::{FlatRange, NoMemory, RangeNode};
 use fd_model::kinds::Order;
 use label_search::Member;
+use monotone_check::Checked;
 use propagate_queue::{Agenda, Cheapest, Fifo, Posted, Store};
-use range_code::{Activations, Arg};
+use range_code::{Activations, Arg, RangeCode, compile_range};
 use std::alloc::Global;
 use std::process::Abort;
+use std::rc::Rc;
 use std::test::Fail;
 
 const X: usize = 0;
@@ -80,14 +85,24 @@ const WEIGHED_SUM: [RangeNode; 15] = [
     RangeNode::Span,
 ];
 
-/// A search, and the values that it finds.
+/// A search, and the values that it finds. The cost is C where no integer is given.
 struct Search<'a> {
     rows: &'a [(usize, &'a [RangeNode], &'a [Arg])],
     order: Order,
-    cost: Member,
+    cost: Option<i64>,
     least: bool,
     want: Option<&'a [u32]>,
     at: &'a str,
+}
+
+/// The code of the range `P..P`.
+fn exact_code(alloc: Global) -> Result<Rc<RangeCode>, NoMemory>
+    ensures { IfOk result (λ code. code.value ≡ exact_range) }
+{
+    let nodes = vec![in alloc; RangeNode::Param(0), RangeNode::Param(0), RangeNode::Span]?;
+    let range = FlatRange::from_nodes(nodes).unwrap();
+    let checked = Checked::from_accepted(range);
+    Ok(Rc::new(alloc, compile_range(alloc, &checked)?)?)
 }
 
 /// Posts the rows on a store of three variables.
@@ -113,20 +128,21 @@ fn finds<A: Agenda + Drop>(
     search: &Search<'_>,
     n: &mut Activations,
 ) -> Result<(), Fail> {
-    let list = [Member::Var(X), Member::Var(Y), Member::Var(C)];
-    let vars = store.vars();
-    if store.failed() || !may_search(&list, search.cost, vars) {
+    if store.failed() || store.vars() <= C {
         return Err(Fail::new("no search"));
     }
-    let found = best(
-        alloc,
-        store,
-        search.order,
-        &list,
-        search.cost,
-        search.least,
-        n,
-    )?;
+    let exact = exact_code(alloc)?;
+    let list = [Member::Var(X), Member::Var(Y), Member::Var(C)];
+    let cost = match search.cost {
+        Some(z) => Member::Fixed(z),
+        None => Member::Var(C),
+    };
+    let aim = Aim {
+        order: search.order,
+        cost,
+        least: search.least,
+    };
+    let found = best(alloc, store, &exact, &list, aim, n)?;
     match &found {
         Some(values) => same(rt, Some(values.as_slice()), search.want, search.at),
         None => same(rt, None, search.want, search.at),
@@ -205,7 +221,7 @@ const SEARCHES: [Search<'static>; 7] = [
     Search {
         rows: &WEIGHED,
         order: Order::Leftmost,
-        cost: Member::Var(C),
+        cost: None,
         least: true,
         want: Some(&[3, 0, 6]),
         at: "least of a weighed sum",
@@ -213,7 +229,7 @@ const SEARCHES: [Search<'static>; 7] = [
     Search {
         rows: &WEIGHED,
         order: Order::Leftmost,
-        cost: Member::Var(C),
+        cost: None,
         least: false,
         want: Some(&[3, 3, 15]),
         at: "greatest of a weighed sum",
@@ -221,7 +237,7 @@ const SEARCHES: [Search<'static>; 7] = [
     Search {
         rows: &SUMS,
         order: Order::Leftmost,
-        cost: Member::Var(C),
+        cost: None,
         least: true,
         want: Some(&[0, 2, 2]),
         at: "first of equal sums",
@@ -229,7 +245,7 @@ const SEARCHES: [Search<'static>; 7] = [
     Search {
         rows: &APART,
         order: Order::Leftmost,
-        cost: Member::Var(C),
+        cost: None,
         least: false,
         want: Some(&[1, 2, 3]),
         at: "first of the greatest",
@@ -237,7 +253,7 @@ const SEARCHES: [Search<'static>; 7] = [
     Search {
         rows: &CROWDED,
         order: Order::Leftmost,
-        cost: Member::Var(C),
+        cost: None,
         least: true,
         want: None,
         at: "no leaf",
@@ -245,7 +261,7 @@ const SEARCHES: [Search<'static>; 7] = [
     Search {
         rows: &FEWER,
         order: Order::Leftmost,
-        cost: Member::Fixed(-7),
+        cost: Some(-7),
         least: true,
         want: Some(&[1, 1, 2]),
         at: "first leaf",
@@ -253,7 +269,7 @@ const SEARCHES: [Search<'static>; 7] = [
     Search {
         rows: &FEWER,
         order: Order::FirstFail,
-        cost: Member::Fixed(-7),
+        cost: Some(-7),
         least: true,
         want: Some(&[2, 0, 2]),
         at: "first leaf by first-fail",

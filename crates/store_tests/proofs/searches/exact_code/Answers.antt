@@ -1,7 +1,7 @@
 use Rattle.std.proofs.Common.{sym}
 use Rattle.bound_search.specs.Posting.{exact_range}
-use Rattle.bound_search.proofs.PostedValues.{spelled_there}
-use Rattle.bound_search.proofs.posting.exact_code.Goals as goal
+use Rattle.bound_search.proofs.Lemmas.{spelled_there}
+use Rattle.store_tests.proofs.searches.exact_code.Goals as goal
 
 pub unwrap-range-requires : goal.unwrap-range-requires
 unwrap-range-requires c = spelled_there c.in_ok-nodes.nodes.items _ c.from_nodes.result c.from_nodes.ensures (exact_range, sym c.in_ok-nodes.ensures.items)
