@@ -1,11 +1,15 @@
 mod ByteParts
 mod PlaceWords
 mod BeforePlace
+mod Names
 mod ShownCharacters
 mod Pieces
 mod LineSteps
 mod OpenLines
 mod Refusals
 mod LineNumbers
+mod FileNames
+mod LineParts
+mod FilePlaces
 mod WarnedText
 mod Runs

@@ -9,7 +9,7 @@ use Rattle.std.proofs.lemmas.Bool.{leb-true}
 use Rattle.std.proofs.lemmas.Fmt.{IsAscii-decimal, decimal_is_IsNumeral, parse-decimal}
 use Rattle.std.proofs.lemmas.Slice.Eq.{bytes_eq-Decides}
 use Rattle.std.proofs.lemmas.Str.{IsUtf8-from_ascii}
-use Rattle.clpwhere.specs.Refusals.{last_place, place_in}
+use Rattle.clpwhere.specs.Numbers.{last_place, place_in}
 
 no_place : (bs : List ℕ) → ((n : ℕ) → n ≤ last_place → bs ≡ decimal n → ⊥) → None ≡ place_in bs
 no_place bs h = go (bytes_eq (decimal (digits_value 10 bs)) bs) (nat_le (digits_value 10 bs) last_place) refl refl

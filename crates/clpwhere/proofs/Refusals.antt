@@ -17,7 +17,8 @@ use Rattle.std.proofs.lemmas.Option.{same_Some}
 use Rattle.clpwhere.proofs.PlaceWords.{small}
 use Rattle.clpwhere.specs.declared.reason.Reason.{Reason}
 use Rattle.clpwhere.specs.Reasons.{reason_of}
-use Rattle.clpwhere.specs.Refusals.{Refusal, Tells, behind, last_place, place_in, refusal_by, refusal_in, refusal_line, refusal_of}
+use Rattle.clpwhere.specs.Numbers.{behind, last_place, place_in}
+use Rattle.clpwhere.specs.Refusals.{Refusal, Tells, refusal_by, refusal_in, refusal_line, refusal_of}
 
 -- ---- options
 

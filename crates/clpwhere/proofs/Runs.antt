@@ -1,5 +1,5 @@
 -- The whole input, and how a run ends.
-use Rattle.std.proofs.Common.{◌≡◌, ℕ, ◌<◌, ◌≤◌, ◌⊎◌, inl, inr, Bool, true, false, List, [], ◌++◌, Option, Some, None, IsSome, Result, Err, refl, sym, ap, ◌∙◌}
+use Rattle.std.proofs.Common.{◌≡◌, ℕ, ◌<◌, ◌≤◌, inl, inr, Bool, true, false, List, [], ◌++◌, Option, Some, None, IsSome, Result, Err, refl, sym, ap, ◌∙◌}
 use Rattle.std.proofs.Common.{subst, arith, append-nil}
 use Rattle.std.specs.Prelude.{◌||◌}
 use Rattle.byte_ports.specs.Ports.{PutPart, Rose, Took, IsAtEnd}
@@ -7,7 +7,6 @@ use Rattle.byte_ports.proofs.Lemmas.{took_none, took_more}
 use Rattle.clpwhere.specs.declared.outcome.Fault.{Fault}
 use Rattle.clpwhere.specs.declared.outcome.Fault.TheVariants as fault
 use Rattle.clpwhere.specs.declared.outcome.Status.{Status}
-use Rattle.clpwhere.specs.declared.outcome.Status.TheVariants as status
 use Rattle.clpwhere.specs.declared.command.Asked.{Asked}
 use Rattle.clpwhere.specs.declared.command.Asked.TheVariants as asked
 use Rattle.clpwhere.specs.Parts.{TextParts}
@@ -158,18 +157,17 @@ decided_refused false = tt
 -- a run that needs no input
 some_input : (a : Asked) (old new : Option (List ℕ)) → NeedsNoInput a → IsInput a old new []
 some_input asked.Usage old new n = tt
+some_input asked.Help old new n = tt
+some_input asked.Version old new n = tt
 some_input (asked.Unreadable name) old new n = tt
 some_input (asked.Text text) old new n = absurd n
 
 decided_output : (a : Asked) (input : List ℕ) → IsDecided (output_status a input)
 decided_output asked.Usage input = tt
+decided_output asked.Help input = tt
+decided_output asked.Version input = tt
 decided_output (asked.Unreadable name) input = tt
 decided_output (asked.Text text) input = decided_refused (is_refused input)
-
-not_answered : (a : Asked) → NeedsNoInput a → (output_status a [] ≡ status.Done) ⊎ (output_status a [] ≡ status.Refused) → ⊥
-not_answered asked.Usage n c = elim c [ inl f ↦ cc | inr f ↦ cc ]
-not_answered (asked.Unreadable name) n c = elim c [ inl f ↦ cc | inr f ↦ cc ]
-not_answered (asked.Text text) n c = n
 
 pub run_line : (a : Asked) (old new : Ends) (result : Status) → NeedsNoInput a → new.left ≡ old.left → new.source_faults ≡ old.source_faults
     → Ending (sink_of old) (sink_of new) result (output_status a []) (output a []) → Headline a old new result
@@ -186,7 +184,7 @@ run_line a old new result n left same (inl h) =
       source_later = not_below old.source_faults new.source_faults same;
       sink_later = not_below old.sink_faults new.sink_faults h.1.faults;
       rest = ([], subst (λ l. Took old.left l []) (sym left) (took_none old.left));
-      read_whole = λ c. absurd (not_answered a n (elim c [ inl f ↦ inl (sym h.0 ∙ f) | inr f ↦ inr (sym h.0 ∙ f) ]));
+      read_whole = λ f c. absurd (f n);
     }
 run_line a old new result n left same (inr (inl h)) = record {
   whole = λ d. absurd (subst IsDecided h.0 d);
@@ -199,7 +197,7 @@ run_line a old new result n left same (inr (inl h)) = record {
   source_later = not_below old.source_faults new.source_faults same;
   sink_later = h.1.later;
   rest = ([], subst (λ l. Took old.left l []) (sym left) (took_none old.left));
-  read_whole = λ c. absurd (elim c [ inl f ↦ (let g : status.Done ≡ status.WriteFault = sym f ∙ h.0 in cc) | inr f ↦ (let g : status.Refused ≡ status.WriteFault = sym f ∙ h.0 in cc) ]);
+  read_whole = λ f c. absurd (f n);
 }
 run_line a old new result n left same (inr (inr h)) = record {
   whole = λ d. absurd (subst IsDecided h.0 d);
@@ -212,5 +210,5 @@ run_line a old new result n left same (inr (inr h)) = record {
   source_later = not_below old.source_faults new.source_faults same;
   sink_later = not_below old.sink_faults new.sink_faults h.1.faults;
   rest = ([], subst (λ l. Took old.left l []) (sym left) (took_none old.left));
-  read_whole = λ c. absurd (elim c [ inl f ↦ (let g : status.Done ≡ status.NoMemory = sym f ∙ h.0 in cc) | inr f ↦ (let g : status.Refused ≡ status.NoMemory = sym f ∙ h.0 in cc) ]);
+  read_whole = λ f c. absurd (f n);
 }

@@ -22,7 +22,14 @@ IsDecided WriteFault = ⊥
 IsDecided NoMemory = ⊥
 
 abbrev pub usage : List ℕ
-usage = codes "usage: clpwhere [--warn] FILE\n"
+usage = codes "usage: clpwhere [--warn FILE ..|FILE]\n"
+
+abbrev pub help : List ℕ
+help =
+    usage ++ codes "clpwhere FILE reads from its input what clpfd wrote, and explains each refusal in it by the text in the file.\nclpwhere --warn FILE .. warns of what often is a mistake in the text that the files make together.\nclpwhere --version writes the version.\n"
+
+abbrev pub version : List ℕ
+version = codes "clpwhere 1.0\n"
 
 abbrev pub unreadable : List ℕ → List ℕ
 unreadable name = name ++ codes " can't be read\n"
@@ -30,6 +37,8 @@ unreadable name = name ++ codes " can't be read\n"
 -- the whole output for what the words ask for and an input
 abbrev pub output : Asked → List ℕ → List ℕ
 output asked.Usage input = usage
+output asked.Help input = help
+output asked.Version input = version
 output (asked.Unreadable name) input = unreadable (string_bytes name)
 output (asked.Text text) input = marked text input
 
@@ -40,6 +49,8 @@ refused_status false = Done
 -- and its status
 abbrev pub output_status : Asked → List ℕ → Status
 output_status asked.Usage input = Usage
+output_status asked.Help input = Done
+output_status asked.Version input = Done
 output_status (asked.Unreadable name) input = Unreadable
 output_status (asked.Text text) input = refused_status (is_refused input)
 
@@ -48,6 +59,11 @@ output_status (asked.Text text) input = refused_status (is_refused input)
 abbrev pub IsInput : Asked → Option (List ℕ) → Option (List ℕ) → List ℕ → Type 0
 IsInput (asked.Text text) old new input = IsSome new → old ≡ Some input
 IsInput _ old new input = Unit {0}
+
+-- nothing is asked of the source without a text
+abbrev pub NeedsNoInput : Asked → Type 0
+NeedsNoInput (asked.Text text) = ⊥
+NeedsNoInput _ = Unit {0}
 
 -- Put, PutPart and Took say nothing where bytes aren't told; what is said of the status holds all the same.
 pub record Headline (a : Asked) (old new : Ends) (result : Status) : Type 0 where
@@ -71,22 +87,23 @@ pub record Headline (a : Asked) (old new : Ends) (result : Status) : Type 0 wher
   pub sink_later : old.sink_faults ≤ new.sink_faults
   -- what is left is an end of what was left
   pub rest : (front : List ℕ) × Took old.left new.left front
-  -- an input that was answered was read to its end
-  pub read_whole : (result ≡ Done) ⊎ (result ≡ Refused) → IsAtEnd new.left
+  -- an input that was needed and answered was read to its end
+  pub read_whole : (NeedsNoInput a → ⊥) → (result ≡ Done) ⊎ (result ≡ Refused) → IsAtEnd new.left
 
--- nothing is asked of the source without a text
-abbrev pub NeedsNoInput : Asked → Type 0
-NeedsNoInput (asked.Text text) = ⊥
-NeedsNoInput _ = Unit {0}
+-- no memory is taken for lines that are the same for every run
+abbrev pub NeedsNoMemory : Asked → Type 0
+NeedsNoMemory (asked.Text text) = ⊥
+NeedsNoMemory (asked.Unreadable name) = ⊥
+NeedsNoMemory _ = Unit {0}
 
 -- the output was written whole, or a front of it with a write fault that was counted
 abbrev pub WroteOutput : SinkState → SinkState → Status → Status → List ℕ → Type 0
 WroteOutput old new result status out = ((result ≡ status) × WroteAll old new out) ⊎ ((result ≡ WriteFault) × WroteFront old new out)
 
--- How a run ends that looks a text through for warnings: the output of the text was written whole, or a front of it with a write fault that was counted. For
+-- How a run ends that looks the text of files through for warnings: the output of the text was written whole, or a front of it with a write fault that was counted. For
 -- want of memory nothing was written.
-abbrev pub WarnEnds : TextParts → SinkState → SinkState → Status → Type 0
-WarnEnds text old new result =
-    ((out : List ℕ) × (status : Status) × IsWarned text out status
+abbrev pub WarnEnds : List TextParts → SinkState → SinkState → Status → Type 0
+WarnEnds files old new result =
+    ((out : List ℕ) × (status : Status) × IsWarned files out status
     × WroteOutput old new result status out)
     ⊎ ((result ≡ NoMemory) × WroteAll old new [])

@@ -1,29 +1,63 @@
 -- What the words of the command line ask for.
-use Rattle.std.specs.Prelude.{◌≡◌, ◌⊎◌, ℕ, List, [], ◌∷◌, Option, Some, None, nat_eq, codes, string_bytes, if◌then◌else◌}
-use Rattle.std.specs.List.{starts_with}
+use Rattle.std.specs.Prelude.{◌≡◌, ◌⊎◌, ◌&&◌, ℕ, ◌==◌, Bool, not, List, [], ◌∷◌, length, map, nat_eq, codes, string_bytes, if◌then◌else◌}
+use Rattle.std.specs.List.{starts_with, list_all, Contains}
 use Rattle.std.specs.Str.{bytes_eq}
 use Rattle.clpwhere.specs.declared.command.Asked.{Asked}
 use Rattle.clpwhere.specs.declared.command.Asked.TheVariants as asked
+use Rattle.clpwhere.specs.declared.command.Request as code
+use Rattle.clpwhere.specs.declared.command.Request.TheVariants as coded
 use Rattle.clpwhere.specs.declared.command.Wanted.{Wanted}
 use Rattle.clpwhere.specs.declared.command.Wanted.TheVariants as wanted
 
--- the one word that names a file; a word that begins with - names none
-abbrev pub file_word : List (List ℕ) → Option (List ℕ)
-file_word [] = None
-file_word (word ∷ []) = if starts_with nat_eq word (codes "-") then None else Some word
-file_word (word ∷ other ∷ words) = None
+-- the usage line, lines on the words, the version, explanations by a file, or warnings of files
+pub data Request : Type 0 where
+  usage : Request
+  help : Request
+  version : Request
+  explain : List ℕ → Request
+  warn : List (List ℕ) → Request
 
--- the word that names a file behind `--warn`
-abbrev pub warn_word : List (List ℕ) → Option (List ℕ)
-warn_word [] = None
-warn_word (word ∷ words) = if bytes_eq word (codes "--warn") then file_word words else None
+-- what the program keeps of it
+abbrev pub seen_request : code.Request → Request
+seen_request coded.Usage = usage
+seen_request coded.Help = help
+seen_request coded.Version = version
+seen_request (coded.Explain word) = explain (string_bytes word.now)
+seen_request (coded.Warn words) = warn (map string_bytes words.now)
 
--- explanations are asked for by the word of a file, warnings by `--warn` and that word; without a file's word it is the usage line
+-- a word that begins with - names no file
+abbrev pub is_file_name : List ℕ → Bool
+is_file_name word = not (starts_with nat_eq word (codes "-"))
+
+-- words that name files, one at least
+abbrev pub are_file_names : List (List ℕ) → Bool
+are_file_names words = not (length words == 0) && list_all is_file_name words
+
+abbrev pub of_one_word : List ℕ → Request
+of_one_word word =
+    if bytes_eq word (codes "--help") then help
+    else if bytes_eq word (codes "--version") then version
+    else if is_file_name word then explain word
+    else usage
+
+abbrev pub of_words : List ℕ → List (List ℕ) → Request
+of_words word [] = of_one_word word
+of_words word (second ∷ words) = usage
+
+-- what the words ask for
+abbrev pub request_of : List (List ℕ) → Request
+request_of [] = usage
+request_of (word ∷ words) = if bytes_eq word (codes "--warn") && are_file_names words then warn words else of_words word words
+
+-- the file of a request that can't be read is told in place of what was asked for
 abbrev pub IsAskedBy : List (List ℕ) → Asked → Type 0
-IsAskedBy words asked.Usage = (file_word words ≡ None) × (warn_word words ≡ None)
-IsAskedBy words (asked.Unreadable name) = (file_word words ≡ Some (string_bytes name)) ⊎ (warn_word words ≡ Some (string_bytes name))
-IsAskedBy words (asked.Text text) = file_word words ≡ Some text.name
+IsAskedBy words asked.Usage = request_of words ≡ usage
+IsAskedBy words asked.Help = request_of words ≡ help
+IsAskedBy words asked.Version = request_of words ≡ version
+IsAskedBy words (asked.Unreadable name) = (request_of words ≡ explain (string_bytes name))
+    ⊎ ((names : List (List ℕ)) × (request_of words ≡ warn names) × Contains names (string_bytes name))
+IsAskedBy words (asked.Text text) = request_of words ≡ explain text.name
 
 abbrev pub IsWantedBy : List (List ℕ) → Wanted → Type 0
 IsWantedBy words (wanted.Explanations a) = IsAskedBy words a
-IsWantedBy words (wanted.Warnings text) = warn_word words ≡ Some text.name
+IsWantedBy words (wanted.Warnings files) = request_of words ≡ warn (map (λ f. f.name) files.items)

@@ -1,9 +1,10 @@
 //! What the words of the command line ask for.
 
-ghost use Rattle.std.specs.Prelude.{◌≡◌, ◌≢◌, map, string_bytes, option_map, IfOk, OnErr, OnOk, MatchResult};
+ghost use Rattle.std.specs.Prelude.{◌≡◌, ◌≢◌, map, string_bytes, IfOk, OnErr, OnOk, MatchResult};
+ghost use Rattle.std.specs.List.{list_all, Contains};
 ghost use Rattle.std.specs.IoError.{error_kind};
 ghost use Rattle.std.specs.declared.io.ErrorKind.TheVariants as kind;
-ghost use Rattle.clpwhere.specs.Words.{file_word, warn_word, IsWantedBy};
+ghost use Rattle.clpwhere.specs.Words.{are_file_names, is_file_name, of_one_word, request_of, seen_request, IsWantedBy};
 
 use crate::text::NamedText;
 use fd_language::NoMemory;
@@ -17,6 +18,10 @@ use std::rt::Files;
 pub enum Asked {
     /// Nothing that is known: the usage line is written.
     Usage,
+    /// Some lines on the words.
+    Help,
+    /// The program's name and version.
+    Version,
     /// The text of a file, by its name, that can't be read.
     Unreadable(String),
     /// To explain refusals of this text.
@@ -28,29 +33,75 @@ pub enum Asked {
 pub enum Wanted {
     /// Explanations, or the line that says why there are none.
     Explanations(Asked),
-    /// Warnings of this text.
-    Warnings(NamedText),
+    /// Warnings of the text that these files make.
+    Warnings(Vec<NamedText>),
 }
 
-/// The name of the file, where the words are one and it doesn't begin with `-`.
-fn file_word(words: &[String]) -> Option<&String>
-    ensures { option_map (λ word. string_bytes word.now) result
-        ≡ file_word (map string_bytes words.entry.now) }
+/// What the words ask for, by their form.
+#[derive(Clone, Copy)]
+enum Request<'a> {
+    Usage,
+    Help,
+    Version,
+    /// Explanations by the text of this file.
+    Explain(&'a String),
+    /// Warnings of the text that these files make.
+    Warn(&'a [String]),
+}
+
+/// Whether a word names a file.
+fn is_file_name(word: &str) -> bool
+    ensures { result ≡ is_file_name word.now }
 {
-    match words {
-        [word] if !word.as_str().starts_with('-') => Some(word),
-        _ => None,
+    !word.starts_with('-')
+}
+
+/// Whether each of the words names a file.
+fn all_file_names(words: &[String]) -> bool
+    ensures { result ≡ list_all (λ w. is_file_name (string_bytes w)) words.now }
+{
+    words.iter().all(|word| is_file_name(word.as_str()))
+}
+
+/// Whether words name files, one at least.
+fn are_file_names(words: &[String]) -> bool
+    ensures { result ≡ are_file_names (map string_bytes words.now) }
+{
+    if words.is_empty() {
+        return false;
     }
+    all_file_names(words)
 }
 
-/// The name of the file behind `--warn`.
-fn warn_word(words: &[String]) -> Option<&String>
-    ensures { option_map (λ word. string_bytes word.now) result
-        ≡ warn_word (map string_bytes words.entry.now) }
+/// What one word asks for.
+fn of_one_word(word: &String) -> Request<'_>
+    ensures { seen_request result ≡ of_one_word (string_bytes word.entry.now) }
 {
-    match words {
-        [first, rest @ ..] if first.as_str() == "--warn" => file_word(rest),
-        _ => None,
+    if word.as_str() == "--help" {
+        return Request::Help;
+    }
+    if word.as_str() == "--version" {
+        return Request::Version;
+    }
+    if is_file_name(word.as_str()) {
+        return Request::Explain(word);
+    }
+    Request::Usage
+}
+
+/// What the words ask for.
+fn request_of(words: &[String]) -> Request<'_>
+    ensures { seen_request result ≡ request_of (map string_bytes words.entry.now) }
+{
+    let [first, rest @ ..] = words else {
+        return Request::Usage;
+    };
+    if first.as_str() == "--warn" && are_file_names(rest) {
+        return Request::Warn(rest);
+    }
+    match rest {
+        [] => of_one_word(first),
+        [_, ..] => Request::Usage,
     }
 }
 
@@ -83,21 +134,40 @@ fn read_file<R: Files + AllocGlobal>(
     }
 }
 
-/// What the words ask for, without the program's own name: explanations by the text of a file, or warnings of it.
+/// The texts of the files with these names, or the name of one that can't be read.
+fn read_files<R: Files + AllocGlobal>(
+    rt: &R,
+    names: &[String],
+) -> Result<Result<Vec<NamedText>, String>, NoMemory>
+    ensures { IfOk result (λ r. MatchResult r
+        (λ files. map (λ f. f.name) files.items ≡ map string_bytes names.now)
+        (λ name. Contains (map string_bytes names.now) (string_bytes name))) }
+{
+    let mut files = Vec::new(rt.alloc());
+    for name in names {
+        match read_file(rt, name.as_str())? {
+            Ok(file) => files.push(file)?,
+            Err(name) => return Ok(Err(name)),
+        }
+    }
+    Ok(Ok(files))
+}
+
+/// What the words ask for, without the program's own name: explanations by the text of a file, warnings of files, or some lines alone.
 pub fn read_wanted<R: Files + AllocGlobal>(rt: &R, words: &[String]) -> Result<Wanted, NoMemory>
     ensures { IfOk result (IsWantedBy (map string_bytes words.now)) }
 {
-    if let Some(word) = warn_word(words) {
-        return match read_file(rt, word.as_str())? {
-            Ok(text) => Ok(Wanted::Warnings(text)),
+    match request_of(words) {
+        Request::Usage => Ok(Wanted::Explanations(Asked::Usage)),
+        Request::Help => Ok(Wanted::Explanations(Asked::Help)),
+        Request::Version => Ok(Wanted::Explanations(Asked::Version)),
+        Request::Explain(word) => match read_file(rt, word.as_str())? {
+            Ok(text) => Ok(Wanted::Explanations(Asked::Text(text))),
             Err(name) => Ok(Wanted::Explanations(Asked::Unreadable(name))),
-        };
-    }
-    let Some(word) = file_word(words) else {
-        return Ok(Wanted::Explanations(Asked::Usage));
-    };
-    match read_file(rt, word.as_str())? {
-        Ok(text) => Ok(Wanted::Explanations(Asked::Text(text))),
-        Err(name) => Ok(Wanted::Explanations(Asked::Unreadable(name))),
+        },
+        Request::Warn(names) => match read_files(rt, names)? {
+            Ok(files) => Ok(Wanted::Warnings(files)),
+            Err(name) => Ok(Wanted::Explanations(Asked::Unreadable(name))),
+        },
     }
 }

@@ -1,15 +1,21 @@
 //! What is written of a line.
 
-ghost use Rattle.std.specs.Prelude.{◌≡◌, ◌++◌, IfErr, IfOk, OnOk, string_bytes};
+ghost use Rattle.std.specs.Prelude.{◌≡◌, ◌≤◌, ◌++◌, IfErr, IfOk, OnOk, string_bytes};
 ghost use Rattle.byte_ports.specs.Ends.{sink_at};
 ghost use Rattle.clpwhere.specs.Endings.{Wrote};
 ghost use Rattle.clpwhere.specs.declared.outcome.Fault.TheVariants as fault;
-ghost use Rattle.clpwhere.specs.MarkedLines.{caret_lines, explained, is_refusal, marked_line, place_line, told_at};
-ghost use Rattle.clpwhere.specs.Places.{characters, column_number, cut_mark, line_number, shown_before, shown_character, shown_characters, shown_from};
+ghost use Rattle.clpwhere.specs.MarkedLines.{caret_lines, explained, is_refusal, marked_line, place_line, shown_place, told_at};
+ghost use Rattle.clpwhere.specs.Places.{characters, cut_mark, shown_before, shown_character, shown_characters, shown_from};
+ghost use Rattle.clpwhere.specs.PlacedLines.{IsLineOf};
+ghost use Rattle.clpwhere.specs.Numbers.{last_place};
 ghost use Rattle.clpwhere.specs.Refusals.{seen};
 
+use crate::before_place::{Before, read_before};
 use crate::outcome::Fault;
+use crate::placed_line::{PlacedLine, line_of};
+use crate::reason::Reason;
 use crate::refusal::{Refusal, refusal_of};
+use crate::sentences::reason_sentence;
 use crate::text::{NamedText, before_byte};
 use byte_ports::{Sink, write_all};
 use fd_language::NoMemory;
@@ -77,18 +83,18 @@ fn shown_from(alloc: Global, characters: &[char]) -> Result<String, NoMemory>
     Ok(shown)
 }
 
-/// Appends the lines that show the place: its line of the text, and a caret below it. The characters before it are passed.
+/// Appends the lines that show a place: the characters before it in its line and those from it on, and a caret below it.
 fn put_shown_lines(
     alloc: Global,
     out: &mut Vec<u8>,
     before: &[char],
-    bytes: &[u8],
+    from: &[char],
 ) -> Result<(), NoMemory>
     ensures { OnOk result (out.new.items ≡ out.old.items
-        ++ caret_lines (shown_before before.now) (shown_from (characters bytes.now))) }
+        ++ caret_lines (shown_before before.now) (shown_from from.now)) }
 {
     let shown = shown_before(alloc, before)?;
-    let rest = shown_from(alloc, &characters(alloc, bytes)?)?;
+    let rest = shown_from(alloc, from)?;
     let indent = vec![in alloc; b' '; shown.as_str().width()]?;
     out.extend_from_slice(shown.as_bytes())?;
     out.extend_from_slice(rest.as_bytes())?;
@@ -103,16 +109,16 @@ pub(crate) fn place_line(
     alloc: Global,
     text: &NamedText,
     place: usize,
-    line: usize,
-    column: usize,
+    line: &PlacedLine,
     words: &[u8],
 ) -> Result<Vec<u8>, NoMemory>
-    requires line { line ≡ line_number text.now.bytes place }
-    requires column { column ≡ column_number text.now.bytes place }
+    requires { IsLineOf text.now.bytes place line.now }
     ensures { IfOk result (λ out. out.items ≡ place_line text.now place words.now) }
 {
     let name = text.name();
-    let head = format!(in alloc; "{name}:{line}:{column}: ")?;
+    let number = line.number;
+    let column = 1 + line.at;
+    let head = format!(in alloc; "{name}:{number}:{column}: ")?;
     let mut out = Vec::from_slice(alloc, head.as_bytes())?;
     out.extend_from_slice(words)?;
     out.extend_from_slice(b"\n")?;
@@ -124,28 +130,42 @@ pub(crate) fn told_at(
     alloc: Global,
     text: &NamedText,
     place: usize,
-    line: usize,
+    line: &PlacedLine,
     words: &[u8],
     sentence: &str,
 ) -> Result<Vec<u8>, NoMemory>
-    requires { line ≡ line_number text.now.bytes place }
+    requires { IsLineOf text.now.bytes place line.now }
     ensures { IfOk result (λ out. out.items ≡ told_at text.now place words.now sentence.now) }
 {
-    let before = characters(alloc, text.before_place(place))?;
-    let mut out = place_line(alloc, text, place, line, 1 + before.len(), words)?;
-    put_shown_lines(alloc, &mut out, &before, text.from_place(place))?;
+    let mut out = place_line(alloc, text, place, line, words)?;
+    let (before, from) = line.characters.split_at(line.at);
+    put_shown_lines(alloc, &mut out, before, from)?;
     out.extend_from_slice(sentence.as_bytes())?;
     out.extend_from_slice(b"\n")?;
     Ok(out)
 }
 
+/// The place that is shown, by what is read before it.
+fn shown_place(reason: Reason, before: Before, place: usize) -> usize
+    ensures { result ≡ shown_place reason before place }
+{
+    match (reason, before) {
+        (Reason::Syntax, Before::End(at)) => at,
+        _ => place,
+    }
+}
+
 /// The explanation of a refusal.
 fn explained(alloc: Global, text: &NamedText, refusal: &Refusal<'_>) -> Result<Vec<u8>, NoMemory>
+    requires { refusal.now.place ≤ last_place }
     ensures { IfOk result (λ out. out.items ≡ explained text.now (seen refusal.now)) }
 {
-    let line = text.line(refusal.place);
-    let sentence = refusal.reason.sentence(text.bytes(), refusal.place);
-    told_at(alloc, text, refusal.place, line, refusal.words, sentence)
+    let before = read_before(text.bytes(), refusal.place);
+    let rest = text.behind(refusal.place);
+    let sentence = reason_sentence(refusal.reason, refusal.words, before, rest);
+    let place = shown_place(refusal.reason, before, refusal.place);
+    let line = line_of(alloc, text, place, text.line(place))?;
+    told_at(alloc, text, place, &line, refusal.words, sentence)
 }
 
 /// Writes a piece.

@@ -1,21 +1,27 @@
 //! Explains the refusals that `clpfd` writes, by the text that it read.
 #![tactic(auto)]
 
-ghost use Rattle.std.specs.Prelude.{◌≡◌, drop, IfOk, string_bytes};
+ghost use Rattle.std.specs.Prelude.{◌≡◌, ◌≢◌, drop, IfOk, string_bytes};
 ghost use Rattle.std.specs.Vec.Iter.{into_iter_items};
 ghost use Rattle.byte_ports.specs.Ends.{ends, sink_at};
 ghost use Rattle.clpwhere.specs.declared.outcome.Status.TheVariants as ended;
 ghost use Rattle.clpwhere.specs.Endings.{Ending};
-ghost use Rattle.clpwhere.specs.Headline.{unreadable, Headline, NeedsNoInput};
+ghost use Rattle.clpwhere.specs.Headline.{unreadable, Headline, NeedsNoInput, NeedsNoMemory};
 
 mod before_place;
 mod command;
 mod copy;
 mod explanations;
+mod files;
+mod foreign_names;
+mod foreign_words;
+mod functors;
 pub mod laws;
 mod outcome;
+mod placed_line;
 mod reason;
 mod refusal;
+mod sentences;
 mod text;
 mod warnings;
 
@@ -63,9 +69,20 @@ pub fn run<S: Source, K: Sink>(alloc: Global, asked: &Asked, source: &mut S, sin
         (ends (S.left source.new) (K.written sink.new) (S.faults source.new) (K.faults sink.new))
         result }
     ensures untouched { NeedsNoInput asked.now → source.new ≡ source.old }
+    ensures memory { NeedsNoMemory asked.now → result ≢ ended.NoMemory }
 {
     match asked {
-        Asked::Usage => put_last(sink, b"usage: clpwhere [--warn] FILE\n", Status::Usage),
+        Asked::Usage => put_last(
+            sink,
+            b"usage: clpwhere [--warn FILE ..|FILE]\n",
+            Status::Usage,
+        ),
+        Asked::Help => put_last(
+            sink,
+            b"usage: clpwhere [--warn FILE ..|FILE]\nclpwhere FILE reads from its input what clpfd wrote, and explains each refusal in it by the text in the file.\nclpwhere --warn FILE .. warns of what often is a mistake in the text that the files make together.\nclpwhere --version writes the version.\n",
+            Status::Done,
+        ),
+        Asked::Version => put_last(sink, b"clpwhere 1.0\n", Status::Done),
         Asked::Unreadable(name) => match unreadable(alloc, name.as_str()) {
             Ok(line) => put_last(sink, line.as_bytes(), Status::Unreadable),
             Err(NoMemory) => Status::NoMemory,
@@ -112,7 +129,7 @@ fn main(rt: HostRuntime) -> ExitCode {
             let mut source = ReaderSource::new(rt.stdin());
             run(rt.alloc(), &asked, &mut source, &mut sink)
         }
-        Wanted::Warnings(text) => warn(rt.alloc(), &text, &mut sink),
+        Wanted::Warnings(files) => warn(rt.alloc(), &files, &mut sink),
     };
     ExitCode::from(status.number())
 }

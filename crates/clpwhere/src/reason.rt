@@ -1,10 +1,10 @@
 //! The reasons of refusals.
 
 ghost use Rattle.std.specs.Prelude.{◌≡◌};
-ghost use Rattle.clpwhere.specs.BeforePlace.{read_before};
-ghost use Rattle.clpwhere.specs.Reasons.{is_told_by, reason_of, reason_sentence, reason_words};
+ghost use Rattle.clpwhere.specs.Reasons.{is_told_by, names_functor, reason_of, reason_words};
 
-use crate::before_place::read_before;
+use crate::functors::is_functor;
+use crate::refusal::behind;
 
 /// Why a text is refused.
 #[derive(Clone, Copy, Debug, PartialEq, Eq)]
@@ -108,39 +108,13 @@ impl Reason {
         }
     }
 
-    /// The sentence that explains it at a place of a text.
-    pub fn sentence(self, text: &[u8], place: usize) -> &'static str
-        ensures { result.now ≡ reason_sentence self (read_before text.now place) }
+    /// Whether the words are those of this reason and behind them a name with a number of arguments.
+    fn names_functor(self, words: &[u8]) -> bool
+        ensures { result ≡ names_functor words.now self }
     {
-        match self {
-            Reason::TooLarge => "A text has at most 16777216 bytes.",
-            Reason::NotUtf8 => "The bytes from here on begin no character of UTF-8.",
-            Reason::BadCharacter => "No token starts with this character.",
-            Reason::OpenQuote => "This quoted name isn't closed on its line.",
-            Reason::OpenComment => "This comment has no */ that closes it.",
-            Reason::BadEscape => "This backslash starts no escape that a quoted name may have.",
-            Reason::IntegerTooWide => "The greatest integer is 9223372036854775807.",
-            Reason::FloatOut => "Numbers are integers: none has a fraction.",
-            Reason::StringOut =>
-                "Texts in double quotes aren't part of the language; a name may stand in single quotes.",
-            Reason::Syntax => read_before(text, place).sentence(),
-            Reason::TooDeep => "At most 1000 brackets may be open at once.",
-            Reason::ArityOver255 => "A compound term has at most 255 arguments.",
-            Reason::BadHead =>
-                "A clause begins with a name, or with a name and its arguments. A sentence that begins with :- is a directive, and there are none: leave out what loads a library, and ask a query with ?-.",
-            Reason::Redefines => "A clause can't redefine a form of the language.",
-            Reason::BadGoal =>
-                "A goal is a name or a name with arguments, and no variable, number or list; that of fd_minimize and fd_maximize is a labelling.",
-            Reason::Unknown =>
-                "No clause of the text has this name with this number of arguments, and the language has no such form.",
-            Reason::NotARange => "This part fits nowhere in a range.",
-            Reason::TooWide => "A value could become wider than 126 bits here.",
-            Reason::NotMonotone =>
-                "The range could grow when a domain shrinks: turn this part round, or use the variable in one way only.",
-            Reason::NotNatural =>
-                "A product or quotient of terms that change needs natural terms, which have no difference and no number below 0.",
-            Reason::BadDivisor =>
-                "A literal divisor is at least 1, and that of a whole range is a literal or one parameter.",
+        match behind(self.words().as_bytes(), words) {
+            Some(functor) => is_functor(functor),
+            None => false,
         }
     }
 
@@ -149,7 +123,7 @@ impl Reason {
         ensures { result ≡ is_told_by words.now self }
     {
         match self {
-            Reason::Redefines | Reason::Unknown => words.starts_with(self.words().as_bytes()),
+            Reason::Redefines | Reason::Unknown => self.names_functor(words),
             _ => words == self.words().as_bytes(),
         }
     }

@@ -2,7 +2,8 @@
 
 ghost use Rattle.std.specs.Prelude.{◌≡◌, option_map};
 ghost use Rattle.std.specs.Option.{option_copied};
-ghost use Rattle.clpwhere.specs.Refusals.{behind, place_in, refusal_of, seen};
+ghost use Rattle.clpwhere.specs.Numbers.{behind, place_in};
+ghost use Rattle.clpwhere.specs.Refusals.{refusal_of, seen};
 
 use crate::reason::{Reason, reason_of};
 use crate::text::before_byte;
@@ -23,7 +24,7 @@ pub(crate) struct Refusal<'a> {
 const LAST_PLACE: u64 = 16_777_216;
 
 /// The place that these bytes write in decimal.
-fn place_in(bytes: &[u8]) -> Option<u64>
+pub(crate) fn place_in(bytes: &[u8]) -> Option<u64>
     ensures { result ≡ place_in bytes.now }
 {
     let Ok(text) = std::str::from_utf8(bytes) else {
@@ -38,7 +39,7 @@ fn place_in(bytes: &[u8]) -> Option<u64>
 }
 
 /// What stands behind a front.
-fn behind<'a>(front: &[u8], bytes: &'a [u8]) -> Option<&'a [u8]>
+pub(crate) fn behind<'a>(front: &[u8], bytes: &'a [u8]) -> Option<&'a [u8]>
     ensures { option_copied result ≡ behind front.entry.now bytes.entry.now }
 {
     bytes.strip_prefix(front)

@@ -37,7 +37,8 @@ fn gives(
 
 #[test]
 fn answers_pass_through(rt: HostRuntime) -> Result<(), Fail> {
-    let input = "query 1\nX = _1(0..3)\nend\nrefused at 007: syntax\nno newline";
+    let input =
+        "query 1\nX = _1(0..3)\nend\nrefused at 007: syntax\nrefused at 3: unknown foo bar\nrefused at 3: unknown X/1\nrefused at 3: redefines nl/00\nno newline";
     gives(&rt, rt.alloc(), "", input, input, Status::Done)
 }
 
@@ -74,18 +75,111 @@ fn a_wide_character_moves_the_caret_by_two(rt: HostRuntime) -> Result<(), Fail> 
 }
 
 #[test]
-fn a_place_at_the_end_is_behind_the_last_line(rt: HostRuntime) -> Result<(), Fail> {
-    let sentence =
-        "A whole term ends just before this place, which wants an operator, a comma, a bar, a closing bracket or the full stop that fits there. Often a comma or the full stop is missing just before it.";
-    let output = format!(in rt.alloc(); "t.pl:2:1: syntax\n\n^\n{sentence}\n")?;
+fn a_place_at_the_end_is_behind_the_last_token(rt: HostRuntime) -> Result<(), Fail> {
     gives(
         &rt,
         rt.alloc(),
-        "?- X in 1..3\n",
-        "refused at 13: syntax\n",
-        output.as_str(),
+        "p(1).\n?- p(X), /* and */ q(X % none\n\n",
+        "refused at 37: syntax\n",
+        "t.pl:2:23: syntax\n?- p(X), /* and */ q(X % none\n                      ^\nThe text ends here, and its last sentence doesn't: often a closing bracket or the full stop is missing.\n",
         Status::Refused,
     )
+}
+
+/// A text, the line that `clpfd` writes for it, and words of the sentence that explains it.
+const EXPLAINED: [(&str, &str, &str); 24] = [
+    (
+        "?- X in 0..3, X #==> 1.",
+        "refused at 16: syntax",
+        "write A #=< B",
+    ),
+    (
+        "?- B #<==> X #> 5.",
+        "refused at 5: syntax",
+        "written #<=>,",
+    ),
+    (
+        "?- X #> 1 #\\/ X #< 5.",
+        "refused at 10: syntax",
+        "fd_or(A, B, 1)",
+    ),
+    ("?- X #/\\ Y.", "refused at 5: syntax", "fd_and(A, B, 1)"),
+    ("?- X = 1, #\\ X.", "refused at 13: syntax", "fd_not(A, 1)"),
+    ("?- X \\= Y.", "refused at 5: syntax", "\\+ X = Y"),
+    (
+        "?- [X,Y] ins 0..9.",
+        "refused at 9: syntax",
+        "X in R for each member",
+    ),
+    ("?- X <> Y.", "refused at 5: syntax", "written #\\= for"),
+    ("?- X!=Y.", "refused at 4: syntax", "written #\\= for"),
+    ("?- X #<= Y.", "refused at 5: syntax", "written #=<."),
+    ("?- X <= Y.", "refused at 5: syntax", "written =< between"),
+    ("?- X ==> Y.", "refused at 5: syntax", "C -> A ; B"),
+    (
+        "?- X in 1..3 \\/ 5..7.",
+        "refused at 13: syntax",
+        "written with :",
+    ),
+    (
+        "p(1).\n# the second\n",
+        "refused at 8: syntax",
+        "a comment begins with %",
+    ),
+    (
+        "// the first\n",
+        "refused at 3: syntax",
+        "a comment begins with %",
+    ),
+    ("?- X #<=> #<=> B.", "refused at 15: syntax", "wants a term"),
+    ("p :- q(1) !.", "refused at 10: syntax", "A whole term ends"),
+    (
+        "\u{feff}p(1).",
+        "refused at 0: bad character",
+        "byte order mark",
+    ),
+    (
+        "?- X in {1,2,3}.",
+        "refused at 10: not a range",
+        "{1}:{2}:{5}",
+    ),
+    (
+        "?- X in [1,2,3].",
+        "refused at 8: not a range",
+        "{1}:{2}:{5}",
+    ),
+    ("?- X in foo.", "refused at 8: not a range", "fits nowhere"),
+    (
+        "?- all_different([X]).",
+        "refused at 3: unknown all_different/1",
+        "fd_all_different(L)",
+    ),
+    (
+        "?- 'fd domain'(X).",
+        "refused at 3: unknown 'fd domain'/1",
+        "No clause of the text",
+    ),
+    (
+        "?- X / Y.",
+        "refused at 5: unknown //2",
+        "No clause of the text",
+    ),
+];
+
+#[test]
+fn what_other_systems_write_has_its_sentence(rt: HostRuntime) -> Result<(), Fail> {
+    for (text, input, words) in EXPLAINED {
+        let (status, bytes) = written(
+            rt.alloc(),
+            text.as_bytes(),
+            input.as_bytes(),
+            Vec::new(rt.alloc()),
+        )?;
+        let output = String::from_utf8_lossy(rt.alloc(), &bytes)?;
+        assert!(rt; output.as_str().contains(words), "at {text}");
+        assert_eq!(rt; status, Status::Refused);
+    }
+    Ok(())
 }
 
 /// A text that is refused as `syntax` at a place has these three lines and the sentence.
@@ -163,18 +257,21 @@ fn a_failed_read_is_told(rt: HostRuntime) -> Result<(), Fail> {
     Ok(())
 }
 
-/// What is written of the warnings of a text that lies in the file `t.pl`.
+/// What is written of the warnings of files with these names and texts.
 fn warns(
     rt: &impl Abort,
     alloc: Global,
-    text: &str,
+    texts: &[(&str, &str)],
     output: &str,
     status: Status,
 ) -> Result<(), Fail> {
-    let name = String::from_str(alloc, "t.pl")?;
-    let text = NamedText::new(name, text.as_bytes().to_vec(alloc)?);
+    let mut files = Vec::new(alloc);
+    for (name, text) in texts {
+        let name = String::from_str(alloc, name)?;
+        files.push(NamedText::new(name, text.as_bytes().to_vec(alloc)?))?;
+    }
     let mut sink = MemorySink::new(alloc, 4000, Vec::new(alloc))?;
-    let ended = warn(alloc, &text, &mut sink);
+    let ended = warn(alloc, &files, &mut sink);
     assert_eq!(rt; sink.bytes(), output.as_bytes());
     assert_eq!(rt; ended, status);
     Ok(())
@@ -195,7 +292,7 @@ fn warnings_stand_in_the_order_of_their_places(rt: HostRuntime) -> Result<(), Fa
     warns(
         &rt,
         alloc,
-        "f(X) :- g.\ng.\nf(a).\nf(b).\n",
+        &[("t.pl", "f(X) :- g.\ng.\nf(a).\nf(b).\n")],
         output.as_str(),
         Status::Warned,
     )?;
@@ -205,7 +302,7 @@ fn warnings_stand_in_the_order_of_their_places(rt: HostRuntime) -> Result<(), Fa
     warns(
         &rt,
         alloc,
-        "p.\nq :- r.\nr.\n?- \\+ (fail ; true -> p).",
+        &[("t.pl", "p.\nq :- r.\nr.\n?- \\+ (fail ; true -> p).")],
         chain.as_str(),
         Status::Warned,
     )
@@ -215,10 +312,10 @@ fn warnings_stand_in_the_order_of_their_places(rt: HostRuntime) -> Result<(), Fa
 fn what_is_no_mistake_is_no_warning(rt: HostRuntime) -> Result<(), Fail> {
     let alloc = rt.alloc();
     let names = "p(_, _A, B, B).\n?- p(X, Y, Z, Z).\np(1, 2, 3, 3).\n";
-    warns(&rt, alloc, names, "", Status::Done)?;
+    warns(&rt, alloc, &[("t.pl", names)], "", Status::Done)?;
     let reached = "p :- q, \\+ r.\nq.\nr :- p.\nl.\n?- p, fd_minimize(l, X).\n";
-    warns(&rt, alloc, reached, "", Status::Done)?;
-    warns(&rt, alloc, "", "", Status::Done)
+    warns(&rt, alloc, &[("t.pl", reached)], "", Status::Done)?;
+    warns(&rt, alloc, &[("t.pl", "")], "", Status::Done)
 }
 
 #[test]
@@ -226,15 +323,45 @@ fn an_unread_text_has_one_line(rt: HostRuntime) -> Result<(), Fail> {
     warns(
         &rt,
         rt.alloc(),
-        "p(X).\nq(.\n",
+        &[("t.pl", "p(X).\nq(.\n")],
         "t.pl:2:3: refused: syntax\n",
         Status::Refused,
     )?;
     warns(
         &rt,
         rt.alloc(),
-        "p(\"a\").\n",
+        &[("t.pl", "p(\"a\").\n")],
         "t.pl:1:3: refused: string\n",
+        Status::Refused,
+    )
+}
+
+#[test]
+fn each_place_is_told_by_its_file(rt: HostRuntime) -> Result<(), Fail> {
+    let once =
+        "This variable stands in no other place of its clause: is it spelled right? A name that begins with _ may occur once.";
+    let unreached =
+        "No query of the text calls this predicate, and no clause that a query reaches does.";
+    let alloc = rt.alloc();
+    let output = format!(in alloc;
+        "a.pl:1:3: warning: X occurs once\np(X).\n  ^\n{once}\nc.pl:3:1: warning: no query reaches r/1\nr(Y) :- q(Y, Y).\n^\n{unreached}\n"
+    )?;
+    warns(
+        &rt,
+        alloc,
+        &[
+            ("a.pl", "p(X).\nq(1,"),
+            ("b.pl", ""),
+            ("c.pl", "2).\n?- q(Y, Z), p(_).\nr(Y) :- q(Y, Y).\n"),
+        ],
+        output.as_str(),
+        Status::Warned,
+    )?;
+    warns(
+        &rt,
+        alloc,
+        &[("a.pl", "p(1).\n"), ("b.pl", "\n)"), ("c.pl", "")],
+        "b.pl:2:1: refused: syntax\n",
         Status::Refused,
     )
 }

@@ -1,7 +1,8 @@
 //! A text, and the places in it.
 
-ghost use Rattle.std.specs.Prelude.{◌≡◌, ◌≤◌, ◌==◌, take, length, count_by, string_bytes};
+ghost use Rattle.std.specs.Prelude.{◌≡◌, ◌≤◌, ◌==◌, take, drop, length, count_by, string_bytes};
 ghost use Rattle.std.specs.List.{after_last, before_first};
+ghost use Rattle.std.specs.Str.{is_utf8};
 ghost use Rattle.byte_ports.specs.Lines.{is_newline};
 ghost use Rattle.clpwhere.specs.Places.{line_number, before_place, from_place};
 
@@ -35,7 +36,7 @@ pub(crate) fn before_byte(bytes: &[u8], byte: u8) -> &[u8]
 }
 
 /// What stands behind the last byte of this value, or all where there is none.
-fn behind_byte(bytes: &[u8], byte: u8) -> &[u8]
+pub(crate) fn behind_byte(bytes: &[u8], byte: u8) -> &[u8]
     ensures { result.now ≡ after_last (λ b. b == byte) bytes.now }
 {
     match memrchr(byte, bytes) {
@@ -44,8 +45,18 @@ fn behind_byte(bytes: &[u8], byte: u8) -> &[u8]
     }
 }
 
+/// Whether bytes are UTF-8.
+pub(crate) fn is_text(bytes: &[u8]) -> bool
+    ensures { result ≡ is_utf8 bytes.now }
+{
+    match std::str::from_utf8(bytes) {
+        Ok(_) => true,
+        Err(_) => false,
+    }
+}
+
 /// How many newlines there are.
-fn newlines(bytes: &[u8]) -> usize
+pub(crate) fn newlines(bytes: &[u8]) -> usize
     ensures value { result ≡ count_by is_newline bytes.now }
     ensures bound { result ≤ length bytes.now }
 {
@@ -81,6 +92,13 @@ impl NamedText {
         &self.bytes[..place.min(self.bytes.len())]
     }
 
+    /// The bytes from a place on; a place past the end is the end.
+    pub fn behind(&self, place: usize) -> &[u8]
+        ensures { result.now ≡ drop place self.now.bytes }
+    {
+        &self.bytes[place.min(self.bytes.len())..]
+    }
+
     /// The number of the place's line.
     pub fn line(&self, place: usize) -> usize
         ensures { result ≡ line_number self.now.bytes place }
@@ -109,6 +127,6 @@ impl NamedText {
     pub fn from_place(&self, place: usize) -> &[u8]
         ensures { result.now ≡ from_place self.now.bytes place }
     {
-        before_byte(&self.bytes[place.min(self.bytes.len())..], b'\n')
+        before_byte(self.behind(place), b'\n')
     }
 }

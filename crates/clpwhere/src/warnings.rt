@@ -15,12 +15,15 @@ ghost use Rattle.text_warnings.specs.WarningViews.{concern_in, warning_in, IsCon
 ghost use Rattle.text_warnings.specs.Terms.{functor_in};
 ghost use Rattle.clpwhere.specs.declared.warnings.Unread.TheVariants as unread;
 ghost use Rattle.clpwhere.specs.Headline.{WarnEnds, WroteOutput};
-ghost use Rattle.clpwhere.specs.Places.{line_number};
+ghost use Rattle.clpwhere.specs.Cursors.{first_file, IsCursor};
+ghost use Rattle.clpwhere.specs.Files.{begins, joined};
 ghost use Rattle.clpwhere.specs.Faults.{IsGrammarFault, IsUnreadBy};
-ghost use Rattle.clpwhere.specs.WarnedLines.{concern_sentence, refused_line, warned, warned_lines, warned_words, IsReadAs, IsWarned};
+ghost use Rattle.clpwhere.specs.WarnedLines.{concern_sentence, refused_line, told_concern, warned_lines, warned_words, IsReadAs, IsWarned};
 
-use crate::explanations::{characters, place_line, told_at};
+use crate::explanations::{place_line, told_at};
+use crate::files::{Cursor, files_from, join};
 use crate::outcome::Status;
+use crate::placed_line::line_of;
 use crate::text::NamedText;
 use byte_ports::{MAX_TEXT, Sink, write_all};
 use char_tokens::{TokenCause, TokenFault};
@@ -158,9 +161,25 @@ fn words_of(alloc: Global, pool: &Pool, concern: Concern) -> Result<Vec<u8>, NoM
             put_functor(alloc, pool, functor, &mut out)?;
             out.extend_from_slice(b" don't stand together")?;
         }
+        Concern::TwoFiles(functor) => {
+            put_functor(alloc, pool, functor, &mut out)?;
+            out.extend_from_slice(b" has clauses in two files")?;
+        }
         Concern::Unreached(functor) => {
             out.extend_from_slice(b"no query reaches ")?;
             put_functor(alloc, pool, functor, &mut out)?;
+        }
+        Concern::BelowZero => out.extend_from_slice(b"a number below 0")?,
+        Concern::EmptyRange => out.extend_from_slice(b"an empty range")?,
+        Concern::Unevaluated => out.extend_from_slice(b"= doesn't compute")?,
+        Concern::OpenTest(name) => {
+            out.extend_from_slice(pool.name_of(name).as_bytes())?;
+            out.extend_from_slice(b" has only a domain here")?;
+        }
+        Concern::OpenNegation(name) => {
+            out.extend_from_slice(b"\\+ over ")?;
+            out.extend_from_slice(pool.name_of(name).as_bytes())?;
+            out.extend_from_slice(b", which has only a domain")?;
         }
     }
     Ok(out)
@@ -177,65 +196,82 @@ fn sentence_of(concern: Concern) -> &'static str
         Concern::Apart(_) => {
             "This clause belongs to those of its predicate above, and clauses of other predicates stand between them."
         }
+        Concern::TwoFiles(_) => {
+            "An earlier file has clauses of this predicate too: those of both belong to it, in the order of the files."
+        }
         Concern::Unreached(_) => {
             "No query of the text calls this predicate, and no clause that a query reaches does."
+        }
+        Concern::BelowZero => {
+            "Variables have the numbers 0 to 268435455: those below 0 are lost here, or there is no answer."
+        }
+        Concern::EmptyRange => {
+            "The first number of this range is over its last one, so it has no number at all."
+        }
+        Concern::Unevaluated => {
+            "The sign = makes both sides one term and computes nothing: of numbers write #= as a constraint, or is for a value."
+        }
+        Concern::OpenTest(_) => {
+            "An arithmetic test needs the value of the variable: write it as a constraint, as #>, or label first."
+        }
+        Concern::OpenNegation(_) => {
+            "\\+ asks whether the goal has no answer at all, and doesn't hold where some value of the variable makes it true: write the opposite constraint, as #\\=."
         }
     }
 }
 
-/// A warning in four lines; `line` is that of its place.
-fn told(
-    alloc: Global,
-    text: &NamedText,
-    pool: &Pool,
-    warning: Warning,
-    line: usize,
-) -> Result<Vec<u8>, NoMemory>
-    requires own { IsWarningWithin pool.now warning }
-    requires line { line ≡ line_number text.now.bytes warning.place }
-    ensures { IfOk result (λ out. out.items ≡ warned text.now (warning_in pool.now warning)) }
+/// A warning in four lines, at the place of a cursor.
+fn told(alloc: Global, at: &Cursor<'_>, pool: &Pool, concern: Concern) -> Result<Vec<u8>, NoMemory>
+    requires own { IsConcernWithin pool.now concern }
+    requires cursor { IsCursor at.now }
+    ensures { IfOk result (λ out. out.items ≡ told_concern (concern_in pool.now concern)
+        (first_file at.now.files.now) at.now.place) }
 {
-    let words = words_of(alloc, pool, warning.concern)?;
-    let sentence = sentence_of(warning.concern);
-    told_at(alloc, text, warning.place, line, &words, sentence)
+    let words = words_of(alloc, pool, concern)?;
+    let sentence = sentence_of(concern);
+    told_at(alloc, &at.files[0], at.place, &at.line, &words, sentence)
 }
 
 /// Appends warnings, whose places rise.
 fn put_told(
     alloc: Global,
-    text: &NamedText,
+    files: &[NamedText],
     pool: &Pool,
     warnings: &[Warning],
     out: &mut Vec<u8>,
 ) -> Result<(), NoMemory>
     requires own { All (IsWarningWithin pool.now) warnings.now }
     requires rising { IsNonDecreasingBy (λ w. w.place) warnings.now }
-    ensures { OnOk result (out.new.items ≡ out.old.items ++ warned_lines text.now
+    ensures { OnOk result (out.new.items ≡ out.old.items ++ warned_lines files.now
         (map (warning_in pool.now) warnings.now)) }
 {
-    let mut from = 0;
-    let mut line = 1;
+    if files.is_empty() {
+        return Ok(());
+    }
+    let mut at = Cursor::new(alloc, files)?;
     for warning in warnings {
-        line = text.line_behind(from, line, warning.place);
-        from = warning.place;
-        out.extend_from_slice(&told(alloc, text, pool, *warning, line)?)?;
+        at.move_to(alloc, warning.place)?;
+        let lines = told(alloc, &at, pool, warning.concern)?;
+        out.extend_from_slice(&lines)?;
     }
     Ok(())
 }
 
-/// What is written of a text that is read as these sentences, and the status.
+/// What is written of files whose text is read as these sentences, and the status.
 fn warned_text(
     alloc: Global,
-    text: &NamedText,
+    files: &[NamedText],
+    starts: &[usize],
     sentences: &Sentences,
 ) -> Result<(Vec<u8>, Status), NoMemory>
+    requires starts { starts.now ≡ begins files.now }
     requires own { AreOwn sentences.now }
-    requires read { IsReadAs text.now.bytes (sentences_of sentences.now) }
-    ensures { IfOk result (λ r. IsWarned text.now r.0.items r.1) }
+    requires read { IsReadAs (joined files.now) (sentences_of sentences.now) }
+    ensures { IfOk result (λ r. IsWarned files.now r.0.items r.1) }
 {
-    let warnings = warnings_of(alloc, sentences)?;
+    let warnings = warnings_of(alloc, sentences, starts)?;
     let mut out = Vec::new(alloc);
-    put_told(alloc, text, &sentences.pool, &warnings, &mut out)?;
+    put_told(alloc, files, &sentences.pool, &warnings, &mut out)?;
     if warnings.is_empty() {
         Ok((out, Status::Done))
     } else {
@@ -243,30 +279,34 @@ fn warned_text(
     }
 }
 
-/// The one line of a text that isn't read as sentences.
+/// The one line of files whose text isn't read as sentences.
 fn refused_line(
     alloc: Global,
-    text: &NamedText,
+    files: &[NamedText],
     place: usize,
     reason: &str,
 ) -> Result<Vec<u8>, NoMemory>
-    ensures { IfOk result (λ out. out.items ≡ refused_line text.now
+    ensures { IfOk result (λ out. out.items ≡ refused_line files.now
         (refused_at place reason.now)) }
 {
+    let (rest, begin) = files_from(files, 0, place);
+    let Some(file) = rest.first() else {
+        return Ok(Vec::new(alloc));
+    };
     let words = format!(in alloc; "refused: {reason}")?;
-    let before = characters(alloc, text.before_place(place))?;
-    let line = text.line(place);
-    place_line(alloc, text, place, line, 1 + before.len(), words.as_bytes())
+    let line = line_of(alloc, file, place - begin, file.line(place - begin))?;
+    place_line(alloc, file, place - begin, &line, words.as_bytes())
 }
 
-/// What is written of a text that is looked through, and the status.
-fn look_through(alloc: Global, text: &NamedText) -> Result<(Vec<u8>, Status), NoMemory>
-    ensures { IfOk result (λ r. IsWarned text.now r.0.items r.1) }
+/// What is written of files that are looked through, and the status.
+fn look_through(alloc: Global, files: &[NamedText]) -> Result<(Vec<u8>, Status), NoMemory>
+    ensures { IfOk result (λ r. IsWarned files.now r.0.items r.1) }
 {
-    match read_bytes(alloc, text.bytes()) {
-        Ok(sentences) => warned_text(alloc, text, &sentences),
+    let whole = join(alloc, files)?;
+    match read_bytes(alloc, &whole.bytes) {
+        Ok(sentences) => warned_text(alloc, files, &whole.begins, &sentences),
         Err(Unread::Refused { place, reason }) => {
-            Ok((refused_line(alloc, text, place, reason)?, Status::Refused))
+            Ok((refused_line(alloc, files, place, reason)?, Status::Refused))
         }
         Err(Unread::NoMemory) => Err(NoMemory),
     }
@@ -284,16 +324,17 @@ fn put_output<K: Sink>(sink: &mut K, out: &[u8], status: Status) -> Status
     }
 }
 
-/// Writes the warnings of a text, in the order of their places, or the one line of a text that isn't read as sentences.
+/// Writes the warnings of the text that files make together, in the order of their places, or the one line of a text that isn't read
+/// as sentences. Each place is told by its file.
 ///
 /// The status is `Done` where there is no warning, `Warned` where there are some, `Refused` for a text that isn't read, and tells a
 /// write fault or want of memory, which leaves the sink as it was.
-pub fn warn<K: Sink>(alloc: Global, text: &NamedText, sink: &mut K) -> Status
-    ensures { WarnEnds text.now (sink_at (K.written sink.old) (K.faults sink.old))
+pub fn warn<K: Sink>(alloc: Global, files: &[NamedText], sink: &mut K) -> Status
+    ensures { WarnEnds files.now (sink_at (K.written sink.old) (K.faults sink.old))
         (sink_at (K.written sink.new) (K.faults sink.new))
         result }
 {
-    match look_through(alloc, text) {
+    match look_through(alloc, files) {
         Ok((out, status)) => put_output(sink, &out, status),
         Err(NoMemory) => Status::NoMemory,
     }

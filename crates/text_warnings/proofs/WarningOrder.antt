@@ -54,9 +54,9 @@ filter_map_same c p (w ∷ ws) = by (w.place == p) (filter_map_same c p ws)
     by true h = ap (λ (l : List model.Warning). warning_in c w ∷ l) h
     by false h = h
 
-pub sorted : (s : Sentences) (none old new : List Warning) → none ≡ [] → AddsAll s none old → IsNonDecreasingBy (λ w. w.place) new
-    → IsStableByKey (λ w. w.place) nat_cmp old new → AreWarnings (sentences_of s) (map (warning_in s.pool) new)
-sorted s none old new empty a rising stable = record {
+pub sorted : (starts : List ℕ) (s : Sentences) (none old new : List Warning) → none ≡ [] → AddsAll starts s none old → IsNonDecreasingBy (λ w. w.place) new
+    → IsStableByKey (λ w. w.place) nat_cmp old new → AreWarnings starts (sentences_of s) (map (warning_in s.pool) new)
+sorted starts s none old new empty a rising stable = record {
   reached = a.reached;
   tells = a.tells;
   rising = λ i j d order h.
@@ -73,9 +73,9 @@ sorted s none old new empty a rising stable = record {
       ∙ stable (record { place = p; concern = Single (record { number = 0 }) })
       ∙ filter_same (ties (λ x y. is_lt (nat_cmp x.place y.place)) (record { place = p; concern = Single (record { number = 0 }) })) (at_place p) (λ w. tie p w.place) old)
       ∙ sym (filter_map_same s.pool p old)
-      ∙ ap (filter (λ w. w.place == p)) (a.adds.are ∙ ap (λ (ws : List Warning). map (warning_in s.pool) ws ++ all_warnings a.reached (sentences_of s)) empty);
+      ∙ ap (filter (λ w. w.place == p)) (a.adds.are ∙ ap (λ (ws : List Warning). map (warning_in s.pool) ws ++ all_warnings starts a.reached (sentences_of s)) empty);
 }
 
-pub sorted_within : (s : Sentences) (none old new : List Warning) → none ≡ [] → AddsAll s none old → IsPermutation old new → All (IsWarningWithin s.pool) new
-sorted_within s none old new empty a moved =
+pub sorted_within : (starts : List ℕ) (s : Sentences) (none old new : List Warning) → none ≡ [] → AddsAll starts s none old → IsPermutation old new → All (IsWarningWithin s.pool) new
+sorted_within starts s none old new empty a moved =
     All-permutation (IsWarningWithin s.pool) old new moved (a.adds.within (subst (All (IsWarningWithin s.pool)) (sym empty) (λ k d h. absurd (omega (arith, h)))))

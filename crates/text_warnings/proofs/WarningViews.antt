@@ -176,8 +176,8 @@ module _ (s : Sentences) (valid : AreOwn s) (ks : List Clause) (keys : List Func
       last = u ∙ ap (λ (l : List Clause). mid ++ map unreached_at (unreached_among keys ns l)) f
 
 -- Those of variables, and those of predicates behind them.
-pub all_put : (s : Sentences) (old mid new : List Warning) → Adds s.pool (singles (sentences_of s)) old mid → AddsPredicates s mid new → AddsAll s old new
-all_put s old mid new a p = record {
+pub all_put : (starts : List ℕ) (s : Sentences) (old mid new : List Warning) → Adds s.pool (singles (sentences_of s)) old mid → AddsPredicates s mid new → AddsAll starts s old new
+all_put starts s old mid new a p = record {
   reached = p.reached;
   tells = p.tells;
   adds = adds_then s.pool (singles (sentences_of s)) (aparts (clauses_in (sentences_of s)) ++ unreached_of p.reached (clauses_in (sentences_of s))) old mid new a p.adds;

@@ -1,5 +1,5 @@
 -- What is kept of clauses and warnings, as the definitions see it.
-use Rattle.std.specs.Prelude.{◌≡◌, ◌<◌, Bool, List, [], ◌∷◌, ◌++◌, length, map, All, Option, Some, None}
+use Rattle.std.specs.Prelude.{◌≡◌, ℕ, ◌<◌, Bool, List, [], ◌∷◌, ◌++◌, length, map, All, Option, Some, None}
 use Rattle.fd_model.specs.Refusals as refusals
 use Rattle.term_pool.specs.declared.TermId.{TermId}
 use Rattle.term_pool.specs.Contents.{Contents, atom_name}
@@ -12,7 +12,7 @@ use Rattle.text_warnings.specs.Terms.{functor_in}
 use Rattle.text_warnings.specs.declared.terms.Functor.{Functor}
 use Rattle.text_warnings.specs.declared.clauses.Clause.{Clause}
 use Rattle.text_warnings.specs.declared.Concern.{Concern}
-use Rattle.text_warnings.specs.declared.Concern.TheVariants.{Single, Apart, Unreached}
+use Rattle.text_warnings.specs.declared.Concern.TheVariants.{Single, Apart, TwoFiles, Unreached, BelowZero, EmptyRange, Unevaluated, OpenTest, OpenNegation}
 use Rattle.text_warnings.specs.declared.Warning.{Warning}
 
 -- what a body calls, where there is one
@@ -46,7 +46,13 @@ key_of k = k.functor
 abbrev pub concern_in : Contents → Concern → model.Concern
 concern_in c (Single name) = model.single (atom_name c name)
 concern_in c (Apart f) = model.apart (functor_in c f)
+concern_in c (TwoFiles f) = model.two_files (functor_in c f)
 concern_in c (Unreached f) = model.unreached (functor_in c f)
+concern_in c BelowZero = model.below_zero
+concern_in c EmptyRange = model.empty_range
+concern_in c Unevaluated = model.unevaluated
+concern_in c (OpenTest name) = model.open_test (atom_name c name)
+concern_in c (OpenNegation name) = model.open_negation (atom_name c name)
 
 abbrev pub warning_in : Contents → Warning → model.Warning
 warning_in c w = model.warning w.place (concern_in c w.concern)
@@ -55,7 +61,13 @@ warning_in c w = model.warning w.place (concern_in c w.concern)
 abbrev pub IsConcernWithin : Contents → Concern → Type 0
 IsConcernWithin c (Single name) = name.number < length c.names
 IsConcernWithin c (Apart f) = f.name.number < length c.names
+IsConcernWithin c (TwoFiles f) = f.name.number < length c.names
 IsConcernWithin c (Unreached f) = f.name.number < length c.names
+IsConcernWithin c BelowZero = Unit {0}
+IsConcernWithin c EmptyRange = Unit {0}
+IsConcernWithin c Unevaluated = Unit {0}
+IsConcernWithin c (OpenTest name) = name.number < length c.names
+IsConcernWithin c (OpenNegation name) = name.number < length c.names
 
 abbrev pub IsWarningWithin : Contents → Warning → Type 0
 IsWarningWithin c w = IsConcernWithin c w.concern
@@ -72,7 +84,7 @@ pub record AddsPredicates (s : Sentences) (old new : List Warning) : Type 0 wher
   pub adds : Adds s.pool (model.aparts (clauses_in (sentences_of s)) ++ model.unreached_of reached (clauses_in (sentences_of s))) old new
 
 -- all warnings, where they are these
-pub record AddsAll (s : Sentences) (old new : List Warning) : Type 0 where
+pub record AddsAll (starts : List ℕ) (s : Sentences) (old new : List Warning) : Type 0 where
   pub reached : refusals.Functor → Bool
   pub tells : model.TellsReached (sentences_of s) reached
-  pub adds : Adds s.pool (model.all_warnings reached (sentences_of s)) old new
+  pub adds : Adds s.pool (model.all_warnings starts reached (sentences_of s)) old new

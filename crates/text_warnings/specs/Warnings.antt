@@ -15,8 +15,20 @@ pub data Concern : Type 0 where
   single : Name → Concern
   -- the clauses of a predicate don't stand together
   apart : Functor → Concern
+  -- a predicate has clauses in two files
+  two_files : Functor → Concern
   -- no query reaches a predicate
   unreached : Functor → Concern
+  -- a number below 0 bounds a range, or a variable is compared with it
+  below_zero : Concern
+  -- a range ends below its first number
+  empty_range : Concern
+  -- a side of `=` is arithmetic
+  unevaluated : Concern
+  -- an arithmetic test needs the value of the variable of this name, which has only a domain
+  open_test : Name → Concern
+  -- `\+` stands over the variable of this name, which has only a domain
+  open_negation : Name → Concern
 
 -- a warning: the place of a byte, and what it says
 pub record Warning : Type 0 where
@@ -78,9 +90,9 @@ unreached_of reached ks =
 
 -- ---- the whole text
 
--- all warnings; at one place they come in this order
-abbrev pub all_warnings : (Functor → Bool) → List Sentence → List Warning
-all_warnings reached ss = singles ss ++ (aparts (clauses_in ss) ++ unreached_of reached (clauses_in ss))
+-- all warnings of a text whose further files begin at these places; at one place they come in this order
+abbrev pub all_warnings : List ℕ → (Functor → Bool) → List Sentence → List Warning
+all_warnings starts reached ss = singles ss ++ (aparts (clauses_in ss) ++ unreached_of reached (clauses_in ss))
 
 -- a clause of the predicate stands in the text
 abbrev pub has_clause : List Sentence → Functor → Bool
@@ -90,10 +102,10 @@ has_clause ss f = is_among (map head_of (clauses_in ss)) f
 abbrev pub TellsReached : List Sentence → (Functor → Bool) → Type 0
 TellsReached ss reached = (f : Functor) → has_clause ss f ≡ true → (reached f ≡ true) ↔ IsReached ss f
 
--- the warnings of a text, in the order of their places
-pub record AreWarnings (ss : List Sentence) (ws : List Warning) : Type 0 where
+-- the warnings of a text whose further files begin at these places, in the order of their places
+pub record AreWarnings (starts : List ℕ) (ss : List Sentence) (ws : List Warning) : Type 0 where
   pub reached : Functor → Bool
   pub tells : TellsReached ss reached
   pub rising : IsNonDecreasingBy (λ w. w.place) ws
   -- at each place stand just those that belong there
-  pub same : (p : ℕ) → filter (λ w. w.place == p) ws ≡ filter (λ w. w.place == p) (all_warnings reached ss)
+  pub same : (p : ℕ) → filter (λ w. w.place == p) ws ≡ filter (λ w. w.place == p) (all_warnings starts reached ss)

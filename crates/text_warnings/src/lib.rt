@@ -22,8 +22,20 @@ pub enum Concern {
     Single(AtomId),
     /// The clauses of this predicate don't stand together.
     Apart(Functor),
+    /// This predicate has clauses in two files.
+    TwoFiles(Functor),
     /// No query reaches this predicate.
     Unreached(Functor),
+    /// A number below 0 bounds a range, or a variable is compared with it.
+    BelowZero,
+    /// A range ends below its first number.
+    EmptyRange,
+    /// A side of `=` is arithmetic.
+    Unevaluated,
+    /// The arithmetic test needs the value of the variable of this name, which has only a domain.
+    OpenTest(AtomId),
+    /// `\+` stands over the variable of this name, which has only a domain.
+    OpenNegation(AtomId),
 }
 
 /// A warning, and its place in the text, in bytes.

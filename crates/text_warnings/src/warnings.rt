@@ -16,25 +16,31 @@ use term_reader::Sentences;
 fn put_all(
     alloc: Global,
     sentences: &Sentences,
+    starts: &[usize],
     warnings: &mut Vec<Warning>,
 ) -> Result<(), NoMemory>
     requires { AreOwn sentences.now }
-    ensures { OnOk result (AddsAll sentences.now warnings.old.items warnings.new.items) }
+    ensures { OnOk result (AddsAll starts.now sentences.now warnings.old.items warnings.new.items) }
 {
+    let _files = starts.len();
     put_singles(alloc, sentences, warnings)?;
     put_predicates(alloc, sentences, warnings)
 }
 
 /// The warnings of a text, in the order of their places. Of two at one place a variable that occurs once comes first, then clauses
 /// that don't stand together, then a predicate that isn't reached. The error is want of memory.
-pub fn warnings_of(alloc: Global, sentences: &Sentences) -> Result<Vec<Warning>, NoMemory>
+pub fn warnings_of(
+    alloc: Global,
+    sentences: &Sentences,
+    starts: &[usize],
+) -> Result<Vec<Warning>, NoMemory>
     requires { AreOwn sentences.now }
-    ensures warnings { IfOk result (λ ws. AreWarnings (sentences_of sentences.now)
-        (map (warning_in sentences.now.pool) ws.items)) }
+    ensures warnings { IfOk result (λ ws. AreWarnings starts.now (sentences_of
+        sentences.now) (map (warning_in sentences.now.pool) ws.items)) }
     ensures own { IfOk result (λ ws. All (IsWarningWithin sentences.now.pool) ws.items) }
 {
     let mut warnings = Vec::new(alloc);
-    put_all(alloc, sentences, &mut warnings)?;
+    put_all(alloc, sentences, starts, &mut warnings)?;
     warnings.sort_by_key(|warning| warning.place)?;
     Ok(warnings)
 }

@@ -3,7 +3,7 @@ use Rattle.std.specs.Prelude.{◌&&◌, nat_le}
 use Rattle.std.specs.Bool.{then_some}
 use Rattle.std.specs.Result.{result_ok}
 use Rattle.std.specs.Str.{bytes_eq}
-use Rattle.clpwhere.specs.Refusals.{last_place}
+use Rattle.clpwhere.specs.Numbers.{last_place}
 use Rattle.clpwhere.proofs.PlaceWords.{no_text, no_number, number_place}
 use Rattle.clpwhere.proofs.refusal.place_in.Goals as goal
 use Rattle.clpwhere.proofs.refusal.place_in.Goals.{then-is_spelled_so, else-is_spelled_so}
