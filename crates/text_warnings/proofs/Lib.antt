@@ -5,6 +5,9 @@ mod RunSteps
 mod Functors
 mod ClausePredicates
 mod BodyCalls
+mod Walks
+mod PartShapes
+mod LossSteps
 mod CallEdges
 mod ReachedNumbers
 mod ReachedPredicates

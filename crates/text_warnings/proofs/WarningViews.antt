@@ -17,6 +17,7 @@ use Rattle.text_warnings.specs.declared.Warning.{Warning}
 use Rattle.text_warnings.specs.Runs.{is_known, is_front, firsts_behind, resumed_behind}
 use Rattle.text_warnings.specs.Terms.{functor_in, same_numbers}
 use Rattle.text_warnings.specs.Clauses.{UserClause, clauses_in, query_calls, is_among, IsReachedFrom}
+use Rattle.text_warnings.specs.SilentLosses.{losses}
 use Rattle.text_warnings.specs.Warnings as model
 use Rattle.text_warnings.specs.Warnings.{head_of, has_clause, aparts, unreached_of, singles, all_warnings, TellsReached}
 use Rattle.text_warnings.specs.WarningViews.{key_of, clause_in, warning_in, IsOwn, IsWarningWithin, Adds, AddsPredicates, AddsAll}
@@ -175,10 +176,14 @@ module _ (s : Sentences) (valid : AreOwn s) (ks : List Clause) (keys : List Func
       last : new ≡ mid ++ map unreached_at (unreached_among keys ns (firsts ks))
       last = u ∙ ap (λ (l : List Clause). mid ++ map unreached_at (unreached_among keys ns l)) f
 
--- Those of variables, and those of predicates behind them.
-pub all_put : (starts : List ℕ) (s : Sentences) (old mid new : List Warning) → Adds s.pool (singles (sentences_of s)) old mid → AddsPredicates s mid new → AddsAll starts s old new
-all_put starts s old mid new a p = record {
-  reached = p.reached;
-  tells = p.tells;
-  adds = adds_then s.pool (singles (sentences_of s)) (aparts (clauses_in (sentences_of s)) ++ unreached_of p.reached (clauses_in (sentences_of s))) old mid new a p.adds;
-}
+-- Those of variables, those of goals behind them, and then those of predicates.
+pub all_put : (starts : List ℕ) (s : Sentences) (old mid behind new : List Warning) → Adds s.pool (singles (sentences_of s)) old mid → Adds s.pool (losses (sentences_of s)) mid behind
+    → AddsPredicates s behind new → AddsAll starts s old new
+all_put starts s old mid behind new a l p =
+    let ours = aparts (clauses_in (sentences_of s)) ++ unreached_of p.reached (clauses_in (sentences_of s)) in
+    record {
+      reached = p.reached;
+      tells = p.tells;
+      adds = adds_then s.pool (singles (sentences_of s)) (losses (sentences_of s) ++ ours) old mid new a
+          (adds_then s.pool (losses (sentences_of s)) ours mid behind new l p.adds);
+    }

@@ -1,5 +1,9 @@
 pub mod Runs
 pub mod Clauses
+pub mod Concerns
+pub mod TermParts
+pub mod SilentLosses
+pub mod PartViews
 pub mod Warnings
 pub mod Terms
 pub mod OccurrenceCounts

@@ -7,36 +7,10 @@ use Rattle.fd_language.specs.PlacedTerm.{PlacedTerm, PlacedTerms, var, int, atom
 use Rattle.fd_language.specs.Reading.{Sentence}
 use Rattle.fd_model.specs.Queries.{is_shown}
 use Rattle.fd_model.specs.Refusals.{Functor, same_functor, SentenceKind, query, form_of}
+pub use Rattle.text_warnings.specs.Concerns.{Concern, single, apart, two_files, unreached, below_zero, empty_range, unevaluated, open_test, open_negation, Warning, warning}
+use Rattle.text_warnings.specs.SilentLosses.{losses}
 use Rattle.text_warnings.specs.Runs.{firsts_behind, resumed_behind}
 use Rattle.text_warnings.specs.Clauses.{UserClause, clauses_in, is_among, IsReached}
-
-pub data Concern : Type 0 where
-  -- a variable of this name occurs once in its clause
-  single : Name → Concern
-  -- the clauses of a predicate don't stand together
-  apart : Functor → Concern
-  -- a predicate has clauses in two files
-  two_files : Functor → Concern
-  -- no query reaches a predicate
-  unreached : Functor → Concern
-  -- a number below 0 bounds a range, or a variable is compared with it
-  below_zero : Concern
-  -- a range ends below its first number
-  empty_range : Concern
-  -- a side of `=` is arithmetic
-  unevaluated : Concern
-  -- an arithmetic test needs the value of the variable of this name, which has only a domain
-  open_test : Name → Concern
-  -- `\+` stands over the variable of this name, which has only a domain
-  open_negation : Name → Concern
-
--- a warning: the place of a byte, and what it says
-pub record Warning : Type 0 where
-  pub place : ℕ
-  pub concern : Concern
-
-abbrev pub warning : ℕ → Concern → Warning
-warning p c = record { place = p; concern = c }
 
 -- ---- variables that occur once
 
@@ -92,7 +66,7 @@ unreached_of reached ks =
 
 -- all warnings of a text whose further files begin at these places; at one place they come in this order
 abbrev pub all_warnings : List ℕ → (Functor → Bool) → List Sentence → List Warning
-all_warnings starts reached ss = singles ss ++ (aparts (clauses_in ss) ++ unreached_of reached (clauses_in ss))
+all_warnings starts reached ss = singles ss ++ (losses ss ++ (aparts (clauses_in ss) ++ unreached_of reached (clauses_in ss)))
 
 -- a clause of the predicate stands in the text
 abbrev pub has_clause : List Sentence → Functor → Bool

@@ -4,7 +4,10 @@
 
 mod calls;
 mod clauses;
+mod losses;
+mod parts;
 mod predicates;
+mod ranges;
 mod reach;
 mod singleton_variables;
 mod terms;

@@ -6,6 +6,7 @@ ghost use Rattle.text_warnings.specs.WarningViews.{warning_in, AddsAll, IsWarnin
 ghost use Rattle.text_warnings.specs.Warnings.{AreWarnings};
 
 use crate::Warning;
+use crate::losses::put_losses;
 use crate::singleton_variables::put_singles;
 use crate::unreached_predicates::put_predicates;
 use fd_language::NoMemory;
@@ -24,6 +25,7 @@ fn put_all(
 {
     let _files = starts.len();
     put_singles(alloc, sentences, warnings)?;
+    put_losses(alloc, sentences, warnings)?;
     put_predicates(alloc, sentences, warnings)
 }
 
