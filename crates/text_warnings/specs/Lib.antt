@@ -1,4 +1,5 @@
 pub mod Runs
+pub mod Files
 pub mod Clauses
 pub mod Concerns
 pub mod TermParts

@@ -4,6 +4,7 @@
 
 mod calls;
 mod clauses;
+mod files;
 mod losses;
 mod parts;
 mod predicates;

@@ -18,6 +18,13 @@ pub struct Functor {
     pub arity: usize,
 }
 
+/// A predicate in one of the files that make up a text, which is told by the number of those in front of it.
+#[derive(Clone, Copy, PartialEq, Eq, Hash)]
+pub(crate) struct Filed {
+    pub file: usize,
+    pub functor: Functor,
+}
+
 /// What a sentence is.
 #[derive(Clone, Copy)]
 pub(crate) enum SentenceForm {

@@ -23,10 +23,9 @@ fn put_all(
     requires { AreOwn sentences.now }
     ensures { OnOk result (AddsAll starts.now sentences.now warnings.old.items warnings.new.items) }
 {
-    let _files = starts.len();
     put_singles(alloc, sentences, warnings)?;
     put_losses(alloc, sentences, warnings)?;
-    put_predicates(alloc, sentences, warnings)
+    put_predicates(alloc, sentences, starts, warnings)
 }
 
 /// The warnings of a text, in the order of their places. Of two at one place a variable that occurs once comes first, then clauses
