@@ -8,6 +8,7 @@ mod BodyCalls
 mod Walks
 mod PartShapes
 mod LossSteps
+mod OpenGoals
 mod CallEdges
 mod ReachedNumbers
 mod ReachedPredicates

@@ -1,5 +1,5 @@
 -- What a term's parts are, by how many it has, and what a range is by its parts.
-use Rattle.std.proofs.Common.{◌≡◌, ℕ, ◌+◌, ◌<◌, ◌≤◌, Bool, true, false, cond, List, [], ◌∷◌, ◌++◌, length, refl, sym, ap, ◌∙◌, subst, arith}
+use Rattle.std.proofs.Common.{◌≡◌, ℕ, ◌+◌, ◌<◌, ◌≤◌, Bool, true, false, cond, List, [], ◌∷◌, ◌++◌, length, refl, sym, ap, ◌∙◌, arith}
 use Rattle.fd_language.specs.Term.{Name}
 use Rattle.fd_language.specs.PlacedTerm.{PlacedTerm, var, int, atom, comp, no_parts, part, place}
 use Rattle.fd_model.specs.Forms.{is_named}
@@ -11,7 +11,6 @@ use Rattle.text_warnings.specs.Warnings as model
 use Rattle.text_warnings.specs.TermParts.{TermParts, one, two, other, parts_of}
 use Rattle.text_warnings.specs.SilentLosses.{range_losses, plain_losses, joined_ranges, shifted_ranges}
 use Rattle.text_warnings.specs.PartViews.{IsRange, two_ranges}
-use Rattle.text_warnings.specs.declared.terms.Body.{Body}
 use Rattle.text_warnings.specs.declared.terms.Body.TheVariants.{Both, Inner, Goal}
 
 other_of_three : (f : Name) (p : ℕ) (by : TermId → PlacedTerm) (ts : List TermId) → 3 ≤ length ts → parts_of (comp f p (parts_by by ts)) ≡ other
@@ -23,14 +22,6 @@ other_of_three f p by (a ∷ b ∷ d ∷ ts) h = refl
 -- three parts and more
 pub many_parts : (x : PlacedTerm) (f : Name) (p : ℕ) (by : TermId → PlacedTerm) (ts : List TermId) → x ≡ comp f p (parts_by by ts) → 3 ≤ length ts → parts_of x ≡ other
 many_parts x f p by ts e h = ap parts_of e ∙ other_of_three f p by ts h
-
-other_of_none : (f : Name) (p : ℕ) (by : TermId → PlacedTerm) (ts : List TermId) → length ts < 1 → parts_of (comp f p (parts_by by ts)) ≡ other
-other_of_none f p by [] h = refl
-other_of_none f p by (a ∷ ts) h = absurd (omega arith)
-
--- and none
-pub bare_parts : (x : PlacedTerm) (f : Name) (p : ℕ) (by : TermId → PlacedTerm) (ts : List TermId) → x ≡ comp f p (parts_by by ts) → length ts < 1 → parts_of x ≡ other
-bare_parts x f p by ts e h = ap parts_of e ∙ other_of_none f p by ts h
 
 -- ---- ranges
 

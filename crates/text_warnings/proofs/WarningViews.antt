@@ -19,6 +19,7 @@ use Rattle.text_warnings.specs.Files.{is_last, same_predicate}
 use Rattle.text_warnings.specs.Terms.{functor_in, filed_in, same_numbers, same_filed}
 use Rattle.text_warnings.specs.Clauses.{UserClause, clauses_in, query_calls, is_among, IsReachedFrom}
 use Rattle.text_warnings.specs.SilentLosses.{losses}
+use Rattle.text_warnings.specs.OpenVariables.{open_variables}
 use Rattle.text_warnings.specs.Warnings as model
 use Rattle.text_warnings.specs.Warnings.{head_of, has_clause, in_file, aparts, openings, in_two_files, unreached_of, of_predicates, singles, all_warnings, TellsReached}
 use Rattle.text_warnings.specs.WarningViews.{key_of, clause_in, warning_in, IsOwn, IsWarningWithin, Adds, AddsPredicates, AddsAll}
@@ -195,13 +196,14 @@ module _ (starts : List ℕ) (s : Sentences) (valid : AreOwn s) (ks : List Claus
       }
 
 -- Those of variables, those of goals behind them, and then those of predicates.
-pub all_put : (starts : List ℕ) (s : Sentences) (old mid behind new : List Warning) → Adds s.pool (singles (sentences_of s)) old mid → Adds s.pool (losses (sentences_of s)) mid behind
-    → AddsPredicates starts s behind new → AddsAll starts s old new
-all_put starts s old mid behind new a l p =
-    let ours = of_predicates starts p.reached (clauses_in (sentences_of s)) in
+pub all_put : (starts : List ℕ) (s : Sentences) (old one two three new : List Warning) → Adds s.pool (singles (sentences_of s)) old one
+    → Adds s.pool (losses (sentences_of s)) one two → Adds s.pool (open_variables (sentences_of s)) two three → AddsPredicates starts s three new → AddsAll starts s old new
+all_put starts s old one two three new a l o p =
+    let ss = sentences_of s in
+    let ours = of_predicates starts p.reached (clauses_in ss) in
     record {
       reached = p.reached;
       tells = p.tells;
-      adds = adds_then s.pool (singles (sentences_of s)) (losses (sentences_of s) ++ ours) old mid new a
-          (adds_then s.pool (losses (sentences_of s)) ours mid behind new l p.adds);
+      adds = adds_then s.pool (singles ss) (losses ss ++ (open_variables ss ++ ours)) old one new a
+          (adds_then s.pool (losses ss) (open_variables ss ++ ours) one two new l (adds_then s.pool (open_variables ss) ours two three new o p.adds));
     }

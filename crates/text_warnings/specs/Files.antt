@@ -1,5 +1,5 @@
 -- The files of which a text is put together, by the places at which the further ones begin.
-use Rattle.std.specs.Prelude.{◌≡◌, ℕ, ◌==◌, ◌&&◌, Bool, List, nat_le, filter, length}
+use Rattle.std.specs.Prelude.{ℕ, ◌==◌, ◌&&◌, Bool, List, nat_le, filter, length}
 use Rattle.fd_model.specs.Refusals.{Functor, same_functor}
 
 -- how many files stand in front of the one that the place is of

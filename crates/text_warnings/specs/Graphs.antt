@@ -1,11 +1,12 @@
 -- What is kept of predicates by their numbers, and what is reached among numbers.
-use Rattle.std.specs.Prelude.{◌≡◌, ◌↔◌, ℕ, ◌<◌, ◌==◌, ◌&&◌, Bool, true, false, not, nat_eq, List, [], ◌++◌, length, map, filter, All, Option, None, Some, position}
+use Rattle.std.specs.Prelude.{◌≡◌, ◌↔◌, ℕ, ◌<◌, ◌==◌, ◌&&◌, Bool, true, false, not, List, [], ◌++◌, length, map, filter, All, Option, None, Some, position}
 use Rattle.std.specs.Prelude.{slice_index_or, if◌then◌else◌}
 use Rattle.std.specs.List.{filter_map, flat_map, list_any}
 use Rattle.std.proofs.Common.{Vec, Global}
 use Rattle.fd_model.specs.Refusals as refusals
 use Rattle.term_pool.specs.Contents.{Contents}
 use Rattle.text_warnings.specs.Runs.{firsts_behind, resumed_behind, repeated_behind}
+pub use Rattle.text_warnings.specs.Numbers.{is_in}
 use Rattle.text_warnings.specs.Files.{file_of, is_last}
 use Rattle.term_reader.specs.declared.reader.Sentences.{Sentences}
 use Rattle.term_reader.specs.Sentences.{sentences_of}
@@ -83,9 +84,6 @@ pub record AddsEdges (c : Contents) (keys : List Functor) (k : Clause) (old new 
 pub record AreEdges (c : Contents) (keys : List Functor) (ks : List Clause) (edges : List (List ℕ)) : Type 0 where
   pub count : length edges ≡ length keys
   pub each : (n : ℕ) → n < length edges → leads_to edges n ≡ flat_map (edges_by c keys n) ks
-
-abbrev pub is_in : List ℕ → ℕ → Bool
-is_in ns n = list_any (nat_eq n) ns
 
 -- each number of the list is below m
 abbrev pub AreBelow : ℕ → List ℕ → Type 0

@@ -1,4 +1,7 @@
 -- What goals lose silently: numbers below 0, which no domain has; the numbers of an empty range; and sums, where `=` makes terms equal and computes nothing.
+--
+-- Only what a goal itself shows is told of: integers as they are written, and no sums of them, no parameters, and no members of lists. An integer below 0
+-- beside `=` is left out, since the variable across may be one without a domain.
 use Rattle.std.specs.Prelude.{ℕ, ℤ, pos, int_lt, Bool, false, ◌&&◌, not, is_some, List, [], ◌∷◌, ◌++◌, Option, Some, None, if◌then◌else◌, codes}
 use Rattle.std.specs.List.{flat_map}
 use Rattle.std.specs.Str.{bytes_eq}
@@ -47,7 +50,7 @@ plain_losses p (one f a) = if bytes_eq f (codes "{}") then below_zero_at a else 
 plain_losses p (two f a b) = if bytes_eq f (codes "..") then interval_losses p a b else []
 plain_losses p other = []
 
--- Only integers are looked at, and no sums of them. What a complement leaves out is no loss, so it isn't looked into.
+-- What a complement leaves out is no loss, so it isn't looked into; nor is what a range is shifted, stretched or divided by.
 abbrev pub range_losses : PlacedTerm → List Warning
 range_losses (comp f p (part a no_parts)) = plain_losses p (one f a)
 range_losses (comp f p (part a (part b no_parts))) =

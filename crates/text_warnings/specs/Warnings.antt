@@ -9,6 +9,7 @@ use Rattle.fd_model.specs.Queries.{is_shown}
 use Rattle.fd_model.specs.Refusals.{Functor, same_functor, SentenceKind, query, form_of}
 pub use Rattle.text_warnings.specs.Concerns.{Concern, single, apart, two_files, unreached, below_zero, empty_range, unevaluated, open_test, open_negation, Warning, warning}
 use Rattle.text_warnings.specs.SilentLosses.{losses}
+use Rattle.text_warnings.specs.OpenVariables.{open_variables}
 use Rattle.text_warnings.specs.Runs.{firsts_behind, resumed_behind, repeated_behind}
 use Rattle.text_warnings.specs.Files.{file_of, is_last, FilePredicate, same_predicate}
 use Rattle.text_warnings.specs.Clauses.{UserClause, clauses_in, is_among, IsReached}
@@ -85,7 +86,7 @@ of_predicates starts reached ks = aparts starts ks ++ (in_two_files starts ks ++
 
 -- all warnings of a text whose further files begin at these places; at one place they come in this order
 abbrev pub all_warnings : List ℕ → (Functor → Bool) → List Sentence → List Warning
-all_warnings starts reached ss = singles ss ++ (losses ss ++ of_predicates starts reached (clauses_in ss))
+all_warnings starts reached ss = singles ss ++ (losses ss ++ (open_variables ss ++ of_predicates starts reached (clauses_in ss)))
 
 -- a clause of the predicate stands in the text
 abbrev pub has_clause : List Sentence → Functor → Bool

@@ -96,7 +96,7 @@ pub(crate) fn sentence_form(pool: &Pool, t: TermId) -> SentenceForm
 }
 
 /// Whether goals of two arguments with this name are made of two bodies.
-fn is_joint(name: &str) -> bool
+pub(crate) fn is_joint(name: &str) -> bool
     ensures { result ≡ is_named (joining_names 2) name.now }
 {
     matches!(name, "," | ";" | "->")

@@ -7,7 +7,7 @@ use Rattle.term_pool.specs.Terms.{total_size}
 use Rattle.term_pool.specs.PlacedTerms.{placed_of}
 use Rattle.term_pool.proofs.Lemmas.{rest_is_smaller}
 use Rattle.text_warnings.proofs.BodyCalls.{both_smaller, inner_smaller}
-use Rattle.text_warnings.proofs.Walks.{walk_begun, walk_both, walk_inner, walk_leaf, walk_done}
+use Rattle.text_warnings.proofs.Walks.{walk_both, walk_inner, walk_leaf}
 use Rattle.text_warnings.proofs.losses.put_body.Goals as goal
 
 -- two parts

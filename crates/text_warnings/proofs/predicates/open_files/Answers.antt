@@ -1,5 +1,4 @@
-use Rattle.std.proofs.Common.{◌≡◌, List, None, take, get_or, ap, ◌∙◌, subst, arith, Some}
-use Rattle.std.proofs.lemmas.List.{take_all}
+use Rattle.std.proofs.Common.{List, None, take, get_or, subst, Some}
 use Rattle.text_warnings.specs.declared.clauses.Clause.{Clause}
 use Rattle.text_warnings.proofs.ClausePredicates.{HasOpened, opened_none, opened_by, take_next}
 use Rattle.text_warnings.proofs.predicates.open_files.Goals as goal

@@ -1,6 +1,6 @@
-use Rattle.std.proofs.Common.{◌≡◌, List, ap, ◌∙◌, subst}
+use Rattle.std.proofs.Common.{List, ◌∙◌, subst}
 use Rattle.text_warnings.specs.declared.clauses.Clause.{Clause}
-use Rattle.text_warnings.specs.Graphs.{AreKeys, file_firsts}
+use Rattle.text_warnings.specs.Graphs.{AreKeys}
 use Rattle.text_warnings.proofs.ClausePredicates.{opening_keys}
 use Rattle.text_warnings.proofs.WarningOrder.{on_ok}
 use Rattle.text_warnings.proofs.WarningViews.{predicates_put}
