@@ -1,9 +1,9 @@
 -- Variables that have only a domain where a goal needs more: a number in an arithmetic test, or nothing left to choose in a negation.
 --
 -- The goals of a clause are taken in the order of the text. A negation is one goal here, which gives no variable a value; the goals in it aren't looked into.
--- A constraint may leave a variable just one number, so only a clause is warned of in which no variable of the constraints in front can have got a value at
--- all, by its head or by any other goal in front: a value of one of them may give values to the others.
-use Rattle.std.specs.Prelude.{ℕ, zero, suc, Bool, true, false, ◌&&◌, not, slice_get, List, [], ◌∷◌, ◌++◌, map, Option, Some, None, if◌then◌else◌, codes}
+-- A value of one variable may give values to others by a constraint, so a clause is warned of only where no variable of the constraints in front can have got
+-- a value by its head, or by any other goal in front. That constraints alone may leave a variable just one number is seen of an equation in one variable only.
+use Rattle.std.specs.Prelude.{ℕ, zero, suc, ◌==◌, length, Bool, true, false, ◌&&◌, not, slice_get, List, [], ◌∷◌, ◌++◌, map, Option, Some, None, if◌then◌else◌, codes}
 use Rattle.std.specs.List.{list_any, flat_map}
 use Rattle.std.specs.Str.{bytes_eq}
 use Rattle.fd_language.specs.Term.{Name}
@@ -43,7 +43,7 @@ outer_goals t = t ∷ []
 abbrev pub tying_names : ℕ → List Name
 tying_names (suc zero) = codes "fd_all_different" ∷ []
 tying_names (suc (suc zero)) =
-    codes "in" ∷ codes "#=" ∷ codes "#\\=" ∷ codes "#<" ∷ codes "#=<" ∷ codes "#>" ∷ codes "#>=" ∷ codes "#<=>" ∷ codes "fd_not" ∷ []
+    codes "in" ∷ codes "#\\=" ∷ codes "#<" ∷ codes "#=<" ∷ codes "#>" ∷ codes "#>=" ∷ codes "#<=>" ∷ codes "fd_not" ∷ []
 tying_names (suc (suc (suc zero))) = codes "fd_element" ∷ codes "fd_atmost" ∷ codes "fd_and" ∷ codes "fd_or" ∷ []
 tying_names _ = []
 
@@ -55,16 +55,16 @@ is_tying (Some f) = is_named (tying_names f.arity) f.name
 abbrev pub comparing_names : List Name
 comparing_names = codes "=:=" ∷ codes "=\\=" ∷ codes "<" ∷ codes "=<" ∷ codes ">" ∷ codes ">=" ∷ []
 
--- what a goal does: it constrains its variables; it compares values; it gives its left side the value of its right one; it negates; or it may give each of its
+-- what a goal does: it constrains its variables; it is an equation; it compares values; it gives its left side the value of its right one; it negates; or it may give each of its
 -- variables a value
 pub data Role : Type 0 where
-  ties compares gives : Role
+  ties equates compares gives : Role
   evaluates : PlacedTerm → PlacedTerm → Role
   negates : PlacedTerm → Role
 
 abbrev pub role_by : TermParts → Role
 role_by (one f a) = if is_named (joining_names 1) f then negates a else gives
-role_by (two f a b) = if is_named comparing_names f then compares else if bytes_eq f (codes "is") then evaluates a b else gives
+role_by (two f a b) = if bytes_eq f (codes "#=") then equates else if is_named comparing_names f then compares else if bytes_eq f (codes "is") then evaluates a b else gives
 role_by other = gives
 
 abbrev pub role_of : PlacedTerm → Role
@@ -88,8 +88,13 @@ with_tied s t = record { tied = s.tied ++ numbers_of (occurrences t); given = s.
 abbrev pub with_given : Passed → PlacedTerm → Passed
 with_given s t = record { tied = s.tied; given = s.given ++ numbers_of (occurrences t) }
 
+-- an equation in which one variable stands, and just once, gives it a value
+abbrev pub with_equation : Passed → PlacedTerm → Passed
+with_equation s t = if length (occurrences t) == 1 then with_given s t else with_tied s t
+
 abbrev pub with_goal : Passed → PlacedTerm → Role → Passed
 with_goal s g ties = with_tied s g
+with_goal s g equates = with_equation s g
 with_goal s g compares = s
 with_goal s g gives = with_given s g
 with_goal s g (evaluates a b) = with_given s a
@@ -128,6 +133,7 @@ negation_warnings names s a = if is_negation (parts_of a) then [] else open_in n
 -- of a goal
 abbrev pub goal_warnings : List Name → Passed → PlacedTerm → Role → List Warning
 goal_warnings names s g ties = []
+goal_warnings names s g equates = []
 goal_warnings names s g compares = open_in names false s g
 goal_warnings names s g gives = []
 goal_warnings names s g (evaluates a b) = open_in names false s b

@@ -18,8 +18,8 @@ use Rattle.text_warnings.specs.WarningViews.{warning_in, Adds}
 use Rattle.text_warnings.specs.declared.occurrences.Occurrence.{Occurrence}
 use Rattle.text_warnings.specs.declared.Warning.{Warning}
 use Rattle.text_warnings.specs.declared.open_variables.Passed.{Passed}
-use Rattle.text_warnings.specs.declared.open_variables.Role.{Role}
-use Rattle.text_warnings.specs.declared.open_variables.Role.TheVariants.{Ties, Compares, Gives, Evaluates, Negates}
+use Rattle.text_warnings.specs.declared.roles.Role.{Role}
+use Rattle.text_warnings.specs.declared.roles.Role.TheVariants.{Ties, Equates, Compares, Gives, Evaluates, Negates}
 
 -- a body is made of two, which are smaller, or it is one goal
 abbrev pub IsJoined : Contents → TermId → Option (TermId × TermId) → Type 0
@@ -31,6 +31,7 @@ IsJoined c t (Some ab) =
 
 abbrev pub role_in : Contents → Role → model.Role
 role_in c Ties = model.ties
+role_in c Equates = model.equates
 role_in c Compares = model.compares
 role_in c Gives = model.gives
 role_in c (Evaluates a b) = model.evaluates (placed_of c a) (placed_of c b)
@@ -38,6 +39,7 @@ role_in c (Negates a) = model.negates (placed_of c a)
 
 abbrev pub IsRoleWithin : Contents → Role → Type 0
 IsRoleWithin c Ties = Unit {0}
+IsRoleWithin c Equates = Unit {0}
 IsRoleWithin c Compares = Unit {0}
 IsRoleWithin c Gives = Unit {0}
 IsRoleWithin c (Evaluates a b) = (a.number < length c.entries) × (b.number < length c.entries)
@@ -51,7 +53,7 @@ abbrev pub one_part_role : Name → TermId → Role
 one_part_role f a = if is_named (joining_names 1) f then Negates a else Gives
 
 abbrev pub two_parts_role : Name → TermId → TermId → Role
-two_parts_role f a b = if is_named comparing_names f then Compares else if bytes_eq f (codes "is") then Evaluates a b else Gives
+two_parts_role f a b = if bytes_eq f (codes "#=") then Equates else if is_named comparing_names f then Compares else if bytes_eq f (codes "is") then Evaluates a b else Gives
 
 -- it has just these variables, and knows whether some variable of the constraints may have got a value
 pub record IsPassed (s : model.Passed) (p : Passed) : Type 0 where

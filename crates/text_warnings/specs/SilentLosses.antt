@@ -2,7 +2,7 @@
 --
 -- Only what a goal itself shows is told of: integers as they are written, and no sums of them, no parameters, and no members of lists. An integer below 0
 -- beside `=` is left out, since the variable across may be one without a domain.
-use Rattle.std.specs.Prelude.{ℕ, ℤ, pos, int_lt, Bool, false, ◌&&◌, not, is_some, List, [], ◌∷◌, ◌++◌, Option, Some, None, if◌then◌else◌, codes}
+use Rattle.std.specs.Prelude.{ℕ, ℤ, pos, int_lt, Bool, false, ◌&&◌, is_none, List, [], ◌∷◌, ◌++◌, Option, Some, None, if◌then◌else◌, codes}
 use Rattle.std.specs.List.{flat_map}
 use Rattle.std.specs.Str.{bytes_eq}
 use Rattle.fd_language.specs.Term.{Name}
@@ -74,7 +74,7 @@ abbrev pub arithmetic_names : List Name
 arithmetic_names = codes "+" ∷ codes "-" ∷ codes "*" ∷ codes "//" ∷ codes "mod" ∷ []
 
 abbrev pub is_arithmetic : TermParts → Bool
-is_arithmetic (one f a) = bytes_eq f (codes "-") && not (is_some (integer_of a))
+is_arithmetic (one f a) = bytes_eq f (codes "-") && is_none (integer_of a)
 is_arithmetic (two f a b) = is_named arithmetic_names f
 is_arithmetic other = false
 

@@ -13,6 +13,7 @@ mod parts;
 mod predicates;
 mod ranges;
 mod reach;
+mod roles;
 mod singleton_variables;
 mod terms;
 mod unreached_predicates;

@@ -32,7 +32,7 @@ fn is_arithmetic(pool: &Pool, t: TermId) -> bool
 {
     match parts_of(pool, t) {
         Parts::One(name, inner) => {
-            pool.name_of(name) == "-" && !integer_of(pool, inner).is_some()
+            pool.name_of(name) == "-" && integer_of(pool, inner).is_none()
         }
         Parts::Two(name, _, _) => is_operation(pool.name_of(name)),
         Parts::Other => false,

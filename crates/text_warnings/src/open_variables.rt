@@ -3,41 +3,23 @@
 ghost use Rattle.std.specs.Prelude.{◌≡◌, ◌||◌, ◌&&◌, ◌<◌, ◌++◌, ℕ, not, [], length, map, All, IfOk, IfSome, OnOk};
 ghost use Rattle.std.specs.List.{list_any};
 ghost use Rattle.std.specs.Option.{option_to_list};
-ghost use Rattle.fd_model.specs.Forms.{joining_names, is_named};
-ghost use Rattle.fd_model.specs.Refusals.{form_of, functor_of as functor_of_term};
 ghost use Rattle.term_pool.specs.Contents.{atom_name, Contents};
 ghost use Rattle.term_pool.specs.PlacedTerms.{placed_of};
 ghost use Rattle.term_reader.specs.Sentences.{sentence_of, sentences_of, AreOwn, IsSentence};
 ghost use Rattle.text_warnings.specs.Numbers.{is_in};
-ghost use Rattle.text_warnings.specs.OpenVariables.{comparing_names, is_negation, is_tying, numbers_of, nothing_passed, occurrences, negation_warnings, open_in, open_in_sentence, open_variables, outer_goals, tying_names, warnings_behind, with_given, with_tied, Passed as PassedGoals};
-ghost use Rattle.text_warnings.specs.OpenViews.{one_part_role, open_all, two_parts_role, IsOpenWarning, IsPassed, IsRoleOf, PassesGoal};
-ghost use Rattle.text_warnings.specs.TermParts.{parts_of as parts_in};
+ghost use Rattle.text_warnings.specs.OpenVariables.{is_negation, negation_warnings, nothing_passed, numbers_of, occurrences, open_in, open_in_sentence, open_variables, outer_goals, warnings_behind, with_equation, with_given, with_tied, Passed as PassedGoals};
+ghost use Rattle.text_warnings.specs.OpenViews.{open_all, IsOpenWarning, IsPassed, PassesGoal};
 ghost use Rattle.text_warnings.specs.WarningViews.{warning_in, Adds, IsWarningWithin};
 
 use crate::occurrences::{Occurrence, find_goals, find_variables};
-use crate::parts::{Parts, parts_of};
-use crate::terms::{Functor, SentenceForm, functor_of, sentence_form};
+use crate::roles::{Role, is_negation, role_of};
+use crate::terms::{SentenceForm, sentence_form};
 use crate::{Concern, Warning};
 use fd_language::NoMemory;
 use indexmap::IndexSet;
 use std::alloc::Global;
 use term_pool::{AtomId, Pool, TermId};
 use term_reader::{Sentence, Sentences};
-
-/// What a goal does.
-#[derive(Clone, Copy)]
-enum Role {
-    /// It constrains its variables.
-    Ties,
-    /// It compares two values.
-    Compares,
-    /// It may give each of its variables a value.
-    Gives,
-    /// It gives the first term the value of the second one.
-    Evaluates(TermId, TermId),
-    /// It negates a goal.
-    Negates(TermId),
-}
 
 /// The variables of the goals in front.
 #[derive(Drop)]
@@ -48,89 +30,6 @@ struct Passed {
     given: IndexSet<usize>,
     /// Whether some variable is both.
     mixed: bool,
-}
-
-/// Whether a goal with this name and so many arguments only constrains its variables.
-fn is_tying_name(name: &str, arity: usize) -> bool
-    ensures { result ≡ is_named (tying_names arity) name.now }
-{
-    match arity {
-        1 => name == "fd_all_different",
-        2 => matches!(
-            name,
-            "in" | "#=" | "#\\=" | "#<" | "#=<" | "#>" | "#>=" | "#<=>" | "fd_not"
-        ),
-        3 => matches!(name, "fd_element" | "fd_atmost" | "fd_and" | "fd_or"),
-        _ => false,
-    }
-}
-
-/// Whether the goal only constrains its variables.
-fn is_tying(pool: &Pool, goal: TermId) -> bool
-    requires { goal.number < length pool.now.entries }
-    ensures { result ≡ is_tying (functor_of_term (placed_of pool.now goal)) }
-{
-    match functor_of(pool, goal) {
-        Some(Functor { name, arity }) => is_tying_name(pool.name_of(name), arity),
-        None => false,
-    }
-}
-
-/// Whether a goal of two arguments with this name compares two values.
-fn is_comparing(name: &str) -> bool
-    ensures { result ≡ is_named comparing_names name.now }
-{
-    matches!(name, "=:=" | "=\\=" | "<" | "=<" | ">" | ">=")
-}
-
-/// Whether the term is a negation.
-fn is_negation(pool: &Pool, t: TermId) -> bool
-    requires { t.number < length pool.now.entries }
-    ensures { result ≡ is_negation (parts_in (placed_of pool.now t)) }
-{
-    match parts_of(pool, t) {
-        Parts::One(name, _) => pool.name_of(name) == "\\+",
-        Parts::Two(..) | Parts::Other => false,
-    }
-}
-
-/// What a goal of two arguments with this name does, where it isn't a constraint.
-fn two_parts_role(name: &str, left: TermId, right: TermId) -> Role
-    ensures { result ≡ two_parts_role name.now left right }
-{
-    if is_comparing(name) {
-        Role::Compares
-    } else if name == "is" {
-        Role::Evaluates(left, right)
-    } else {
-        Role::Gives
-    }
-}
-
-/// What a goal of one argument with this name does, where it isn't a constraint.
-fn one_part_role(name: &str, inner: TermId) -> Role
-    ensures { result ≡ one_part_role name.now inner }
-{
-    if name == "\\+" {
-        Role::Negates(inner)
-    } else {
-        Role::Gives
-    }
-}
-
-/// What the goal does.
-fn role_of(pool: &Pool, goal: TermId) -> Role
-    requires { goal.number < length pool.now.entries }
-    ensures { IsRoleOf pool.now goal result }
-{
-    if is_tying(pool, goal) {
-        return Role::Ties;
-    }
-    match parts_of(pool, goal) {
-        Parts::One(name, inner) => one_part_role(pool.name_of(name), inner),
-        Parts::Two(name, left, right) => two_parts_role(pool.name_of(name), left, right),
-        Parts::Other => Role::Gives,
-    }
 }
 
 /// Puts the variables into a set, and tells whether the clause is mixed then: whether it was, or one of them is in the other set.
@@ -266,6 +165,20 @@ fn give(pool: &Pool, t: TermId, room: &mut Room, passed: &mut Passed) -> Result<
     Ok(())
 }
 
+/// Passes an equation.
+fn equate(pool: &Pool, t: TermId, room: &mut Room, passed: &mut Passed) -> Result<(), NoMemory>
+    requires { t.number < length pool.now.entries }
+    ensures { OnOk result ((s : PassedGoals) → IsPassed s passed.old → IsPassed
+        (with_equation s (placed_of pool.now t)) passed.new) }
+{
+    find_variables(pool, t, &mut room.ahead, &mut room.found)?;
+    if room.found.len() == 1 {
+        give(pool, t, room, passed)
+    } else {
+        tie(pool, t, room, passed)
+    }
+}
+
 /// Warns of a goal that is negated.
 fn put_negated(
     pool: &Pool,
@@ -303,6 +216,7 @@ fn put_goal(
 {
     match role_of(pool, goal) {
         Role::Ties => tie(pool, goal, room, passed),
+        Role::Equates => equate(pool, goal, room, passed),
         Role::Gives => give(pool, goal, room, passed),
         Role::Compares => put_open(pool, names, passed, false, goal, room, warnings),
         Role::Evaluates(left, right) => {
