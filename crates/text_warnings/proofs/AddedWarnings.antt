@@ -1,5 +1,5 @@
 -- Warnings behind others.
-use Rattle.std.proofs.Common.{◌≡◌, ℕ, suc, ◌+◌, ◌<◌, Bool, List, [], ◌∷◌, ◌++◌, Option, Some, None, length, map, take, get_or, refl, sym, ap, ◌∙◌, subst, arith}
+use Rattle.std.proofs.Common.{◌≡◌, ℕ, suc, ◌+◌, ◌<◌, Bool, true, cond, List, [], ◌∷◌, ◌++◌, Option, Some, None, length, map, take, get_or, refl, sym, ap, ◌∙◌, subst, arith}
 use Rattle.std.proofs.Common.{append_assoc, append-nil, length-take-le}
 use Rattle.std.specs.Prelude.{◌==◌, not, slice_index, All, IfSome}
 use Rattle.std.specs.List.{flat_map}
@@ -14,8 +14,9 @@ use Rattle.term_pool.specs.declared.AtomId.{AtomId}
 use Rattle.term_pool.specs.Contents.{Contents, atom_name}
 use Rattle.text_warnings.specs.Warnings as model
 use Rattle.text_warnings.specs.Warnings.{places_of, single_at, singles_from}
+use Rattle.text_warnings.specs.SilentLosses.{warned_if}
 use Rattle.text_warnings.specs.OccurrenceCounts.{met_at, single_met, AreMetIn}
-use Rattle.text_warnings.specs.WarningViews.{warning_in, Adds, IsWarningWithin}
+use Rattle.text_warnings.specs.WarningViews.{concern_in, warning_in, Adds, IsConcernWithin, IsWarningWithin}
 use Rattle.text_warnings.specs.declared.Warning.{Warning}
 use Rattle.text_warnings.specs.declared.singleton_variables.Met.{Met}
 use Rattle.text_warnings.specs.declared.singleton_variables.Met.TheVariants.{Never}
@@ -40,6 +41,14 @@ adds_some c ys old new (Some w) e h is = record {
   are = ap (map (warning_in c)) is ∙ map-append (warning_in c) old (w ∷ []) ∙ ap (λ l. map (warning_in c) old ++ l) e;
   within = λ all. subst (All (IsWarningWithin c)) (sym is) (All-push (IsWarningWithin c) old w all h);
 }
+
+-- one at this place, where the test holds
+pub adds_where : (c : Contents) (b : Bool) (w : Warning) (p : ℕ) (old new : List Warning) → b ≡ true → p ≡ w.place → IsConcernWithin c w.concern → new ≡ old ++ w ∷ []
+    → Adds c (warned_if b p (concern_in c w.concern)) old new
+adds_where c b w p old new holds at own e =
+    let k = concern_in c w.concern in
+    let is : warned_if b p k ≡ warning_in c w ∷ [] = ap (λ (x : Bool). cond x (model.warning p k ∷ []) []) holds ∙ ap (λ (q : ℕ). model.warning q k ∷ []) at in
+    adds_some c (warned_if b p k) old new (Some w) (sym is) own e
 
 -- A name is shown where it doesn't begin with `_`.
 pub shown_by : (name : Name) (r : Bool) → r ≡ (slice_index name 0 == 95) → is_shown name ≡ not r

@@ -1,5 +1,5 @@
 -- Functors by the numbers of their names, and their places in a list.
-use Rattle.std.proofs.Common.{◌≡◌, ◌≢◌, ℕ, suc, ◌+◌, ◌<◌, ◌⊎◌, Bool, true, false, cond, List, [], ◌∷◌, ◌++◌, Some, None, length, refl, sym, ap, ap₂}
+use Rattle.std.proofs.Common.{◌≡◌, ℕ, suc, ◌+◌, ◌<◌, Bool, true, false, cond, List, [], ◌∷◌, ◌++◌, Some, None, length, refl, sym, ap, ap₂}
 use Rattle.std.proofs.Common.{◌∙◌, arith, true≢false}
 use Rattle.std.specs.Prelude.{◌==◌, ◌&&◌, ◌||◌, not, nat_lt, position}
 use Rattle.std.specs.List.{list_any, position_or_len, AllByRecursion}
@@ -16,7 +16,9 @@ use Rattle.term_pool.specs.PoolInvariant.{IsPool}
 use Rattle.term_pool.proofs.Lemmas.{same_text}
 use Rattle.indexmap.specs.IndexSet.{insert_key}
 use Rattle.text_warnings.specs.declared.terms.Functor.{Functor}
-use Rattle.text_warnings.specs.Terms.{functor_in, same_numbers}
+use Rattle.text_warnings.specs.Terms.{functor_in, same_numbers, same_filed, filed_in}
+use Rattle.text_warnings.specs.Files.{same_predicate}
+use Rattle.text_warnings.specs.declared.terms.Filed.{Filed}
 use Rattle.text_warnings.specs.Graphs.{number_in}
 use Rattle.term_pool.proofs.Lemmas.{same_id, same_names}
 
@@ -26,6 +28,9 @@ same_in c v f g h k = ap (λ (b : Bool). b && (f.arity == g.arity)) (same_names 
 
 abbrev made : AtomId → ℕ → Functor
 made a n = record { name = a; arity = n }
+
+abbrev made_filed : ℕ → Functor → Filed
+made_filed n f = record { file = n; functor = f }
 
 pub equal : (f g : Functor) → same_numbers f g ≡ true → f ≡ g
 equal f g e =
@@ -52,25 +57,43 @@ equal_functor f g e =
 pub same_functor_itself : (f : refusals.Functor) → same_functor f f ≡ true
 same_functor_itself f = ap₂ (λ (a b : Bool). a && b) ((bytes_eq-Decides f.name f.name).1 refl) (eq-eqb f.arity f.arity refl)
 
--- What is among functors when one more is put to them.
+-- ---- predicates in files
+
+pub equal_filed : (f g : Filed) → same_filed f g ≡ true → f ≡ g
+equal_filed f g e =
+    let both = and_parts (f.file == g.file) (same_numbers f.functor g.functor) e in
+    ap₂ (λ (n : ℕ) (h : Functor). made_filed n h) (eqb-true f.file g.file both.0) (equal f.functor g.functor both.1)
+
+pub same_filed_in : (c : Contents) → IsPool c → (f g : Filed) → f.functor.name.number < length c.names → g.functor.name.number < length c.names
+    → same_filed f g ≡ same_predicate (filed_in c f) (filed_in c g)
+same_filed_in c v f g h k = ap (λ (b : Bool). (f.file == g.file) && b) (same_in c v f.functor g.functor h k)
+
+-- What is among keys when one more is put to them.
+module _ {F : Type 0} (same : F → F → Bool) (alike : (f g : F) → same f g ≡ true → f ≡ g) where
+  inserted : (heads : List F) (f g : F) → list_any (same f) (insert_key same heads g) ≡ (same f g || list_any (same f) heads)
+  inserted heads f g = pick (list_any (same g) heads) refl
+    where
+      turned : (a b : Bool) → (a || b) ≡ (b || a)
+      turned true true = refl
+      turned true false = refl
+      turned false true = refl
+      turned false false = refl
+
+      among : list_any (same g) heads ≡ true → (b : Bool) → same f g ≡ b → list_any (same f) heads ≡ (b || list_any (same f) heads)
+      among h true e = ap (λ (x : F). list_any (same x) heads) (alike f g e) ∙ h
+      among h false e = refl
+
+      pick : (b : Bool) → list_any (same g) heads ≡ b → list_any (same f) (cond b heads (heads ++ g ∷ [])) ≡ (same f g || list_any (same f) heads)
+      pick true e = among e (same f g) refl
+      pick false e =
+          list_any-append (same f) heads (g ∷ []) ∙ ap (λ (b : Bool). list_any (same f) heads || b) (or-false (same f g))
+          ∙ turned (list_any (same f) heads) (same f g)
+
 pub any_insert : (heads : List Functor) (f g : Functor) → list_any (same_numbers f) (insert_key same_numbers heads g) ≡ (same_numbers f g || list_any (same_numbers f) heads)
-any_insert heads f g = pick (list_any (same_numbers g) heads) refl
-  where
-    turned : (a b : Bool) → (a || b) ≡ (b || a)
-    turned true true = refl
-    turned true false = refl
-    turned false true = refl
-    turned false false = refl
+any_insert heads f g = inserted same_numbers equal heads f g
 
-    among : list_any (same_numbers g) heads ≡ true → (b : Bool) → same_numbers f g ≡ b → list_any (same_numbers f) heads ≡ (b || list_any (same_numbers f) heads)
-    among h true e = ap (λ (x : Functor). list_any (same_numbers x) heads) (equal f g e) ∙ h
-    among h false e = refl
-
-    pick : (b : Bool) → list_any (same_numbers g) heads ≡ b → list_any (same_numbers f) (cond b heads (heads ++ g ∷ [])) ≡ (same_numbers f g || list_any (same_numbers f) heads)
-    pick true e = among e (same_numbers f g) refl
-    pick false e =
-        list_any-append (same_numbers f) heads (g ∷ []) ∙ ap (λ (b : Bool). list_any (same_numbers f) heads || b) (or-false (same_numbers f g))
-        ∙ turned (list_any (same_numbers f) heads) (same_numbers f g)
+pub any_inserted : (heads : List Filed) (f g : Filed) → list_any (same_filed f) (insert_key same_filed heads g) ≡ (same_filed f g || list_any (same_filed f) heads)
+any_inserted heads f g = inserted same_filed equal_filed heads f g
 
 -- ---- places
 

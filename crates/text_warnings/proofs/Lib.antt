@@ -5,6 +5,10 @@ mod RunSteps
 mod Functors
 mod ClausePredicates
 mod BodyCalls
+mod Walks
+mod PartShapes
+mod LossSteps
+mod OpenGoals
 mod CallEdges
 mod ReachedNumbers
 mod ReachedPredicates

@@ -3,7 +3,7 @@ use Rattle.std.proofs.Common.{◌≡◌, Bool, true, false, cond, List, [], ◌�
 use Rattle.std.specs.Prelude.{◌&&◌, ◌||◌, not}
 use Rattle.std.specs.List.{AllByRecursion}
 use Rattle.std.proofs.lemmas.List.{map-append}
-use Rattle.text_warnings.specs.Runs.{is_known, is_front, firsts_behind, resumed_behind}
+use Rattle.text_warnings.specs.Runs.{is_known, is_front, firsts_behind, resumed_behind, repeated_behind}
 
 module _ {K F : Type 0} (same : F → F → Bool) (key : K → F) where
   -- the keys of all items before, the last one first
@@ -32,6 +32,16 @@ module _ {K F : Type 0} (same : F → F → Bool) (key : K → F) where
   resumed_more before (x ∷ xs) k =
       ap (λ (l : List K). resumed_by before x ++ l) (resumed_more (key x ∷ before) xs k)
       ∙ sym (append_assoc (resumed_by before x) (resumed_behind same key (key x ∷ before) xs) (resumed_by (behind (key x ∷ before) xs) k))
+
+  abbrev repeated_by : List F → K → List K
+  repeated_by before k = cond (is_known same key before (key k)) (k ∷ []) []
+
+  pub repeated_more : (before : List F) (xs : List K) (k : K)
+      → repeated_behind same key before (xs ++ k ∷ []) ≡ repeated_behind same key before xs ++ repeated_by (behind before xs) k
+  repeated_more before [] k = append-nil (repeated_by before k)
+  repeated_more before (x ∷ xs) k =
+      ap (λ (l : List K). repeated_by before x ++ l) (repeated_more (key x ∷ before) xs k)
+      ∙ sym (append_assoc (repeated_by before x) (repeated_behind same key (key x ∷ before) xs) (repeated_by (behind (key x ∷ before) xs) k))
 
 -- Items under other names, by which two keys are the same where they were.
 module _ {K F L G : Type 0} (same : F → F → Bool) (key : K → F) (also : G → G → Bool) (name : L → G) (g : K → L) (h : F → G) (Own : F → Type 0)
@@ -76,3 +86,39 @@ module _ {K F L G : Type 0} (same : F → F → Bool) (key : K → F) (also : G 
       resumed_named (key k ∷ before) ks (own.0, all) own.1 ∙ ap (λ (y : G). resumed_behind also name (y ∷ map h before) (map g ks)) (sym (keys k)) in
       map-append g (cond (is_known same key before (key k) && not (is_front same key before (key k))) (k ∷ []) []) (resumed_behind same key (key k ∷ before) ks)
       ∙ ap₂ (λ (a b : List L). a ++ b) (resumed_named_by (is_known same key before (key k) && not (is_front same key before (key k))) k ∙ ap (λ (b : Bool). cond b (g k ∷ []) []) both) next
+
+  pub repeated_named : (before : List F) (ks : List K) → AllByRecursion Own before → AllByRecursion (λ k. Own (key k)) ks
+      → map g (repeated_behind same key before ks) ≡ repeated_behind also name (map h before) (map g ks)
+  repeated_named before [] all own = refl
+  repeated_named before (k ∷ ks) all own =
+      let known : is_known same key before (key k) ≡ is_known also name (map h before) (name (g k)) =
+      known_named before (key k) own.0 all ∙ ap (is_known also name (map h before)) (sym (keys k)) in
+      let next : map g (repeated_behind same key (key k ∷ before) ks) ≡ repeated_behind also name (name (g k) ∷ map h before) (map g ks) =
+      repeated_named (key k ∷ before) ks (own.0, all) own.1 ∙ ap (λ (y : G). repeated_behind also name (y ∷ map h before) (map g ks)) (sym (keys k)) in
+      map-append g (cond (is_known same key before (key k)) (k ∷ []) []) (repeated_behind same key (key k ∷ before) ks)
+      ∙ ap₂ (λ (a b : List L). a ++ b) (resumed_named_by (is_known same key before (key k)) k ∙ ap (λ (b : Bool). cond b (g k ∷ []) []) known) next
+
+-- What holds of all items holds of the first ones, of those that come back, and of those that are repeated.
+module _ {K F : Type 0} (same : F → F → Bool) (key : K → F) (P : K → Type 0) where
+  kept_some : (b : Bool) (k : K) (rest : List K) → P k → AllByRecursion P rest → AllByRecursion P (cond b (k ∷ []) [] ++ rest)
+  kept_some true k rest own all = (own, all)
+  kept_some false k rest own all = all
+
+  kept_others : (b : Bool) (k : K) (rest : List K) → P k → AllByRecursion P rest → AllByRecursion P (cond b [] (k ∷ []) ++ rest)
+  kept_others true k rest own all = all
+  kept_others false k rest own all = (own, all)
+
+  pub firsts_all : (before : List F) (ks : List K) → AllByRecursion P ks → AllByRecursion P (firsts_behind same key before ks)
+  firsts_all before [] all = tt
+  firsts_all before (k ∷ ks) all =
+      kept_others (is_known same key before (key k)) k (firsts_behind same key (key k ∷ before) ks) all.0 (firsts_all (key k ∷ before) ks all.1)
+
+  pub resumed_all : (before : List F) (ks : List K) → AllByRecursion P ks → AllByRecursion P (resumed_behind same key before ks)
+  resumed_all before [] all = tt
+  resumed_all before (k ∷ ks) all =
+      kept_some (is_known same key before (key k) && not (is_front same key before (key k))) k (resumed_behind same key (key k ∷ before) ks) all.0 (resumed_all (key k ∷ before) ks all.1)
+
+  pub repeated_all : (before : List F) (ks : List K) → AllByRecursion P ks → AllByRecursion P (repeated_behind same key before ks)
+  repeated_all before [] all = tt
+  repeated_all before (k ∷ ks) all =
+      kept_some (is_known same key before (key k)) k (repeated_behind same key (key k ∷ before) ks) all.0 (repeated_all (key k ∷ before) ks all.1)

@@ -1,26 +1,40 @@
 -- What is kept of predicates by their numbers, and what is reached among numbers.
-use Rattle.std.specs.Prelude.{◌≡◌, ◌↔◌, ℕ, ◌<◌, ◌==◌, Bool, true, false, not, nat_eq, List, [], ◌++◌, length, map, filter, All, Option, None, Some, position}
+use Rattle.std.specs.Prelude.{◌≡◌, ◌↔◌, ℕ, ◌<◌, ◌==◌, ◌&&◌, Bool, true, false, not, List, [], ◌++◌, length, map, filter, All, Option, None, Some, position}
 use Rattle.std.specs.Prelude.{slice_index_or, if◌then◌else◌}
 use Rattle.std.specs.List.{filter_map, flat_map, list_any}
 use Rattle.std.proofs.Common.{Vec, Global}
 use Rattle.fd_model.specs.Refusals as refusals
 use Rattle.term_pool.specs.Contents.{Contents}
-use Rattle.text_warnings.specs.Runs.{firsts_behind, resumed_behind}
+use Rattle.text_warnings.specs.Runs.{firsts_behind, resumed_behind, repeated_behind}
+pub use Rattle.text_warnings.specs.Numbers.{is_in}
+use Rattle.text_warnings.specs.Files.{file_of, is_last}
 use Rattle.term_reader.specs.declared.reader.Sentences.{Sentences}
 use Rattle.term_reader.specs.Sentences.{sentences_of}
 use Rattle.text_warnings.specs.Clauses.{query_calls}
-use Rattle.text_warnings.specs.Terms.{functor_in, same_numbers}
+use Rattle.text_warnings.specs.Terms.{functor_in, same_numbers, same_filed}
 use Rattle.text_warnings.specs.WarningViews.{key_of, body_calls}
-use Rattle.text_warnings.specs.declared.Concern.TheVariants.{Apart, Unreached}
+use Rattle.text_warnings.specs.declared.Concern.TheVariants.{Apart, TwoFiles, Unreached}
 use Rattle.text_warnings.specs.declared.Warning.{Warning}
 use Rattle.text_warnings.specs.declared.terms.Functor.{Functor}
+use Rattle.text_warnings.specs.declared.terms.Filed.{Filed}
 use Rattle.text_warnings.specs.declared.clauses.Clause.{Clause}
 
 abbrev pub firsts : List Clause → List Clause
 firsts ks = firsts_behind same_numbers key_of [] ks
 
-abbrev pub resumed : List Clause → List Clause
-resumed ks = resumed_behind same_numbers key_of [] ks
+abbrev pub repeated : List Clause → List Clause
+repeated ks = repeated_behind same_numbers key_of [] ks
+
+-- the predicate of a clause in its file
+abbrev pub filed_at : List ℕ → Clause → Filed
+filed_at starts k = record { file = file_of starts k.place; functor = k.functor }
+
+-- the first clause of each predicate in each file
+abbrev pub file_firsts : List ℕ → List Clause → List Clause
+file_firsts starts ks = firsts_behind same_filed (filed_at starts) [] ks
+
+abbrev pub resumed : List ℕ → List Clause → List Clause
+resumed starts ks = resumed_behind same_filed (filed_at starts) [] ks
 
 -- the functors of clauses, and no others
 abbrev pub AreKeys : List Clause → List Functor → Type 0
@@ -29,6 +43,10 @@ AreKeys ks keys = (f : Functor) → list_any (same_numbers f) keys ≡ list_any 
 -- the warning of a clause that doesn't stand with those of its predicate
 abbrev pub apart_at : Clause → Warning
 apart_at k = record { place = k.place; concern = Apart k.functor }
+
+-- the warning of a clause whose predicate has clauses in an earlier file
+abbrev pub two_at : Clause → Warning
+two_at k = record { place = k.place; concern = TwoFiles k.functor }
 
 -- the number of a predicate among these
 abbrev pub number_in : Contents → List Functor → refusals.Functor → Option ℕ
@@ -67,9 +85,6 @@ pub record AreEdges (c : Contents) (keys : List Functor) (ks : List Clause) (edg
   pub count : length edges ≡ length keys
   pub each : (n : ℕ) → n < length edges → leads_to edges n ≡ flat_map (edges_by c keys n) ks
 
-abbrev pub is_in : List ℕ → ℕ → Bool
-is_in ns n = list_any (nat_eq n) ns
-
 -- each number of the list is below m
 abbrev pub AreBelow : ℕ → List ℕ → Type 0
 AreBelow m ns = (n : ℕ) → is_in ns n ≡ true → n < m
@@ -99,8 +114,12 @@ is_reached keys ns f = is_number_in ns (position (same_numbers f) keys)
 abbrev pub unreached_at : Clause → Warning
 unreached_at k = record { place = k.place; concern = Unreached k.functor }
 
-abbrev pub unreached_among : List Functor → List ℕ → List Clause → List Clause
-unreached_among keys ns ks = filter (λ k. not (is_reached keys ns k.functor)) ks
+-- the clause is of the last file, and its predicate isn't reached
+abbrev pub is_missed : List ℕ → List Functor → List ℕ → Clause → Bool
+is_missed starts keys ns k = not (is_reached keys ns k.functor) && is_last starts k.place
+
+abbrev pub unreached_among : List ℕ → List Functor → List ℕ → List Clause → List Clause
+unreached_among starts keys ns ks = filter (is_missed starts keys ns) ks
 
 abbrev pub items_of : Vec ℕ Global → List ℕ
 items_of v = v.items
@@ -110,3 +129,9 @@ pub record AreReached (s : Sentences) (keys : List Functor) (ks : List Clause) (
   pub edges : List (List ℕ)
   pub lead : AreEdges s.pool keys ks edges
   pub led : AreLed (numbers_in s.pool keys (query_calls (sentences_of s))) edges ns
+
+-- the warnings of those of the first clauses whose predicates aren't reached
+pub record AddsUnreached (starts : List ℕ) (s : Sentences) (ks : List Clause) (keys : List Functor) (first : List Clause) (old new : List Warning) : Type 0 where
+  pub numbers : List ℕ
+  pub reached : AreReached s keys ks numbers
+  pub adds : new ≡ old ++ map unreached_at (unreached_among starts keys numbers first)

@@ -1,5 +1,13 @@
 pub mod Runs
+pub mod Files
 pub mod Clauses
+pub mod Concerns
+pub mod TermParts
+pub mod SilentLosses
+pub mod Numbers
+pub mod OpenVariables
+pub mod OpenViews
+pub mod PartViews
 pub mod Warnings
 pub mod Terms
 pub mod OccurrenceCounts

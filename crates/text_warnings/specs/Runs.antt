@@ -23,3 +23,8 @@ module _ {K F : Type 0} (same : F → F → Bool) (key : K → F) where
   resumed_behind before [] = []
   resumed_behind before (k ∷ ks) =
       (if is_known before (key k) && not (is_front before (key k)) then k ∷ [] else []) ++ resumed_behind (key k ∷ before) ks
+
+  -- the items whose key an earlier item has
+  abbrev pub repeated_behind : List F → List K → List K
+  repeated_behind before [] = []
+  repeated_behind before (k ∷ ks) = (if is_known before (key k) then k ∷ [] else []) ++ repeated_behind (key k ∷ before) ks

@@ -9,8 +9,10 @@ use Rattle.term_pool.specs.declared.TermId.{TermId}
 use Rattle.term_pool.specs.Contents.{Contents, Shape, atom_name}
 use Rattle.term_pool.specs.Terms.{term_of, size}
 use Rattle.term_pool.specs.PlacedTerms.{placed_of, placed_by}
+use Rattle.text_warnings.specs.Files.{FilePredicate}
 use Rattle.text_warnings.specs.Clauses.{cost_names, goals_in}
 use Rattle.text_warnings.specs.declared.terms.Functor.{Functor}
+use Rattle.text_warnings.specs.declared.terms.Filed.{Filed}
 use Rattle.text_warnings.specs.declared.terms.SentenceForm.{SentenceForm}
 use Rattle.text_warnings.specs.declared.terms.SentenceForm.TheVariants.{Query, Clause, Directive, Fact}
 use Rattle.text_warnings.specs.declared.terms.Body.{Body}
@@ -66,7 +68,14 @@ IsBody c t (Inner a) =
     × (size (term_of c a) < size (term_of c t))
 IsBody c t Goal = goals_in (placed_of c t) ≡ placed_of c t ∷ []
 
--- the functor is that of the clause before, where there is one
-abbrev pub is_after : Option Functor → Functor → Bool
+abbrev pub filed_in : Contents → Filed → FilePredicate
+filed_in c f = record { file = f.file; functor = functor_in c f.functor }
+
+-- two predicates in files are the same
+abbrev pub same_filed : Filed → Filed → Bool
+same_filed f g = (f.file == g.file) && same_numbers f.functor g.functor
+
+-- the predicate in its file is that of the clause before, where there is one
+abbrev pub is_after : Option Filed → Filed → Bool
 is_after None f = false
-is_after (Some g) f = same_numbers f g
+is_after (Some g) f = same_filed f g

@@ -78,10 +78,10 @@ pub record Adds (c : Contents) (more : List model.Warning) (old new : List Warni
   pub within : All (IsWarningWithin c) old → All (IsWarningWithin c) new
 
 -- the warnings of clauses that don't stand together, and of predicates that aren't reached
-pub record AddsPredicates (s : Sentences) (old new : List Warning) : Type 0 where
+pub record AddsPredicates (starts : List ℕ) (s : Sentences) (old new : List Warning) : Type 0 where
   pub reached : refusals.Functor → Bool
   pub tells : model.TellsReached (sentences_of s) reached
-  pub adds : Adds s.pool (model.aparts (clauses_in (sentences_of s)) ++ model.unreached_of reached (clauses_in (sentences_of s))) old new
+  pub adds : Adds s.pool (model.of_predicates starts reached (clauses_in (sentences_of s))) old new
 
 -- all warnings, where they are these
 pub record AddsAll (starts : List ℕ) (s : Sentences) (old new : List Warning) : Type 0 where

@@ -1,5 +1,5 @@
 -- What a text is warned of.
-use Rattle.std.specs.Prelude.{◌≡◌, ◌↔◌, ℕ, suc, ◌==◌, Bool, true, not, List, [], ◌∷◌, ◌++◌, map, filter, if◌then◌else◌}
+use Rattle.std.specs.Prelude.{◌≡◌, ◌↔◌, ℕ, suc, ◌==◌, ◌&&◌, Bool, true, not, List, [], ◌∷◌, ◌++◌, map, filter, if◌then◌else◌}
 use Rattle.std.specs.List.{flat_map}
 use Rattle.std.specs.List.Sorted.{IsNonDecreasingBy}
 use Rattle.fd_language.specs.Term.{Name}
@@ -7,36 +7,12 @@ use Rattle.fd_language.specs.PlacedTerm.{PlacedTerm, PlacedTerms, var, int, atom
 use Rattle.fd_language.specs.Reading.{Sentence}
 use Rattle.fd_model.specs.Queries.{is_shown}
 use Rattle.fd_model.specs.Refusals.{Functor, same_functor, SentenceKind, query, form_of}
-use Rattle.text_warnings.specs.Runs.{firsts_behind, resumed_behind}
+pub use Rattle.text_warnings.specs.Concerns.{Concern, single, apart, two_files, unreached, below_zero, empty_range, unevaluated, open_test, open_negation, Warning, warning}
+use Rattle.text_warnings.specs.SilentLosses.{losses}
+use Rattle.text_warnings.specs.OpenVariables.{open_variables}
+use Rattle.text_warnings.specs.Runs.{firsts_behind, resumed_behind, repeated_behind}
+use Rattle.text_warnings.specs.Files.{file_of, is_last, FilePredicate, same_predicate}
 use Rattle.text_warnings.specs.Clauses.{UserClause, clauses_in, is_among, IsReached}
-
-pub data Concern : Type 0 where
-  -- a variable of this name occurs once in its clause
-  single : Name → Concern
-  -- the clauses of a predicate don't stand together
-  apart : Functor → Concern
-  -- a predicate has clauses in two files
-  two_files : Functor → Concern
-  -- no query reaches a predicate
-  unreached : Functor → Concern
-  -- a number below 0 bounds a range, or a variable is compared with it
-  below_zero : Concern
-  -- a range ends below its first number
-  empty_range : Concern
-  -- a side of `=` is arithmetic
-  unevaluated : Concern
-  -- an arithmetic test needs the value of the variable of this name, which has only a domain
-  open_test : Name → Concern
-  -- `\+` stands over the variable of this name, which has only a domain
-  open_negation : Name → Concern
-
--- a warning: the place of a byte, and what it says
-pub record Warning : Type 0 where
-  pub place : ℕ
-  pub concern : Concern
-
-abbrev pub warning : ℕ → Concern → Warning
-warning p c = record { place = p; concern = c }
 
 -- ---- variables that occur once
 
@@ -79,20 +55,38 @@ singles ss = flat_map singles_in ss
 abbrev pub head_of : UserClause → Functor
 head_of k = k.functor
 
--- the clauses of one predicate stand together: a clause of it that has an earlier one, but not right before it, is warned of. Queries between them don't count.
-abbrev pub aparts : List UserClause → List Warning
-aparts ks = map (λ k. warning k.place (apart k.functor)) (resumed_behind same_functor head_of [] ks)
+-- the predicate of a clause in its file, where the further files begin at these places
+abbrev pub in_file : List ℕ → UserClause → FilePredicate
+in_file starts k = record { file = file_of starts k.place; functor = k.functor }
 
--- the first clause of each predicate that isn't reached
-abbrev pub unreached_of : (Functor → Bool) → List UserClause → List Warning
-unreached_of reached ks =
-    map (λ k. warning k.place (unreached k.functor)) (filter (λ k. not (reached k.functor)) (firsts_behind same_functor head_of [] ks))
+-- in each file the clauses of one predicate stand together: a clause of it that has an earlier one there, but not right before it, is warned of. Queries
+-- between them don't count.
+abbrev pub aparts : List ℕ → List UserClause → List Warning
+aparts starts ks = map (λ k. warning k.place (apart k.functor)) (resumed_behind same_predicate (in_file starts) [] ks)
+
+-- the first clause of each predicate in each file
+abbrev pub openings : List ℕ → List UserClause → List UserClause
+openings starts ks = firsts_behind same_predicate (in_file starts) [] ks
+
+-- those of them whose predicate has clauses in an earlier file: such a clause isn't apart from the others
+abbrev pub in_two_files : List ℕ → List UserClause → List Warning
+in_two_files starts ks = map (λ k. warning k.place (two_files k.functor)) (repeated_behind same_functor head_of [] (openings starts ks))
+
+-- the first clause of each predicate that isn't reached, where it stands in the last file: a file in front of others may have more than they call
+abbrev pub unreached_of : List ℕ → (Functor → Bool) → List UserClause → List Warning
+unreached_of starts reached ks =
+    map (λ k. warning k.place (unreached k.functor))
+    (filter (λ k. not (reached k.functor) && is_last starts k.place) (firsts_behind same_functor head_of [] ks))
+
+-- of predicates
+abbrev pub of_predicates : List ℕ → (Functor → Bool) → List UserClause → List Warning
+of_predicates starts reached ks = aparts starts ks ++ (in_two_files starts ks ++ unreached_of starts reached ks)
 
 -- ---- the whole text
 
 -- all warnings of a text whose further files begin at these places; at one place they come in this order
 abbrev pub all_warnings : List ℕ → (Functor → Bool) → List Sentence → List Warning
-all_warnings starts reached ss = singles ss ++ (aparts (clauses_in ss) ++ unreached_of reached (clauses_in ss))
+all_warnings starts reached ss = singles ss ++ (losses ss ++ (open_variables ss ++ of_predicates starts reached (clauses_in ss)))
 
 -- a clause of the predicate stands in the text
 abbrev pub has_clause : List Sentence → Functor → Bool

@@ -1,11 +1,19 @@
-//! What a text is warned of: variables that occur once, clauses of one predicate that don't stand together, predicates that no query
-//! reaches.
+//! What a text is warned of: variables that occur once; numbers, ranges and sums that goals lose silently; tests and negations of
+//! variables that have only a domain; clauses of one predicate that don't stand together, or stand in two files; predicates that no
+//! query reaches.
 #![tactic(auto)]
 
 mod calls;
 mod clauses;
+mod files;
+mod losses;
+mod occurrences;
+mod open_variables;
+mod parts;
 mod predicates;
+mod ranges;
 mod reach;
+mod roles;
 mod singleton_variables;
 mod terms;
 mod unreached_predicates;

@@ -18,6 +18,13 @@ pub struct Functor {
     pub arity: usize,
 }
 
+/// A predicate in one of the files that make up a text, which is told by the number of those in front of it.
+#[derive(Clone, Copy, PartialEq, Eq, Hash)]
+pub(crate) struct Filed {
+    pub file: usize,
+    pub functor: Functor,
+}
+
 /// What a sentence is.
 #[derive(Clone, Copy)]
 pub(crate) enum SentenceForm {
@@ -89,7 +96,7 @@ pub(crate) fn sentence_form(pool: &Pool, t: TermId) -> SentenceForm
 }
 
 /// Whether goals of two arguments with this name are made of two bodies.
-fn is_joint(name: &str) -> bool
+pub(crate) fn is_joint(name: &str) -> bool
     ensures { result ≡ is_named (joining_names 2) name.now }
 {
     matches!(name, "," | ";" | "->")

@@ -6,6 +6,8 @@ ghost use Rattle.text_warnings.specs.WarningViews.{warning_in, AddsAll, IsWarnin
 ghost use Rattle.text_warnings.specs.Warnings.{AreWarnings};
 
 use crate::Warning;
+use crate::losses::put_losses;
+use crate::open_variables::put_open_variables;
 use crate::singleton_variables::put_singles;
 use crate::unreached_predicates::put_predicates;
 use fd_language::NoMemory;
@@ -22,13 +24,15 @@ fn put_all(
     requires { AreOwn sentences.now }
     ensures { OnOk result (AddsAll starts.now sentences.now warnings.old.items warnings.new.items) }
 {
-    let _files = starts.len();
     put_singles(alloc, sentences, warnings)?;
-    put_predicates(alloc, sentences, warnings)
+    put_losses(alloc, sentences, warnings)?;
+    put_open_variables(alloc, sentences, warnings)?;
+    put_predicates(alloc, sentences, starts, warnings)
 }
 
-/// The warnings of a text, in the order of their places. Of two at one place a variable that occurs once comes first, then clauses
-/// that don't stand together, then a predicate that isn't reached. The error is want of memory.
+/// The warnings of a text whose further files begin at these places, in the order of their places. At one place they come in this
+/// order: a variable that occurs once, what a goal loses, a variable that has only a domain, clauses that don't stand together, a
+/// predicate in two files, a predicate that isn't reached. The error is out of memory.
 pub fn warnings_of(
     alloc: Global,
     sentences: &Sentences,

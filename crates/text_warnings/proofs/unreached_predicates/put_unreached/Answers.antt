@@ -1,9 +1,8 @@
 use Rattle.std.proofs.Common.{◌∙◌, true, false, None, ap, sym, append-nil}
-use Rattle.std.specs.Prelude.{not}
 use Rattle.text_warnings.specs.declared.clauses.Clause.{Clause}
 use Rattle.text_warnings.proofs.ClausePredicates.{unreached_more}
 use Rattle.text_warnings.proofs.unreached_predicates.put_unreached.Goals as goal
-use Rattle.text_warnings.proofs.unreached_predicates.put_unreached.Goals.{then-not-is_reached+in_ok-push, else-not-is_reached}
+use Rattle.text_warnings.proofs.unreached_predicates.put_unreached.Goals.{then-is_missed+in_ok-push, else-is_missed}
 
 pub loop-clause-preserved : goal.loop-clause-preserved
 loop-clause-preserved c =
@@ -14,12 +13,12 @@ loop-clause-preserved c =
     let d : Clause = record { functor = record { name = record { number = 0 }; arity = 0 }; place = 0; body = None } in
     let old = c.args.warnings.now.items in
     let mid = c.loop-clause.warnings.items in
-    let new = c.if-not-is_reached.warnings.items in
-    elim c.if-not-is_reached.branch [
-      | then-not-is_reached+in_ok-push w ↦
-          unreached_more keys ns ks i d true old mid new c.loop-clause-test.true c.loop-clause.invariant (ap not (sym c.is_reached.ensures ∙ w.if-not-is_reached.true))
+    let new = c.if-is_missed.warnings.items in
+    elim c.if-is_missed.branch [
+      | then-is_missed+in_ok-push w ↦
+          unreached_more c.args.starts.now keys ns ks i d true old mid new c.loop-clause-test.true c.loop-clause.invariant (sym c.is_missed.ensures ∙ w.if-is_missed.true)
           (ap (λ v. v.items) w.warnings-is ∙ w.in_ok-push.ensures.items)
-      | else-not-is_reached w ↦
-          unreached_more keys ns ks i d false old mid new c.loop-clause-test.true c.loop-clause.invariant (ap not (sym c.is_reached.ensures ∙ w.if-not-is_reached.false))
+      | else-is_missed w ↦
+          unreached_more c.args.starts.now keys ns ks i d false old mid new c.loop-clause-test.true c.loop-clause.invariant (sym c.is_missed.ensures ∙ w.if-is_missed.false)
           (ap (λ v. v.items) w.warnings-is ∙ sym (append-nil mid))
     ]
