@@ -82,7 +82,7 @@ module _ (sets : List (List ℕ)) (some : (x : ℕ) → (n : ℕ) × (has (famil
       by_place (Some x) e h = record { variable = x; picked = e; here = place_at ms i x h }
 
 -- the variables of the list are the store's
-open_own : (count : ℕ) (ms : List Member) (x : ℕ) → AreOwn count ms → has (open_ones (members_of ms)) x ≡ true → x < count
+pub open_own : (count : ℕ) (ms : List Member) (x : ℕ) → AreOwn count ms → has (open_ones (members_of ms)) x ≡ true → x < count
 open_own count [] x h e = absurd (true≢false (sym e))
 open_own count (Fixed z ∷ ms) x h e = open_own count ms x (λ k d l. h (suc k) d (omega arith)) e
 open_own count (Var k ∷ ms) x h e = elim (or_cases (k == x) (has (open_ones (members_of ms)) x) e) [
@@ -102,8 +102,9 @@ still_among D (seen.Open y ∷ ms) x h = by_set (only (D y)) h (still_among D ms
         [ inl e ↦ or_left (y == x) (has (open_ones ms) x) e | inr e ↦ or_right (y == x) (has (open_ones ms) x) (later e) ]
     by_set (Some n) g later = or_right (y == x) (has (open_ones ms) x) (later g)
 
-pub picked_own : (o : Order) (D : Family) (count : ℕ) (ms : List Member) (x : ℕ) → AreOwn count ms → picked_in o D (members_of ms) ≡ Some x → x < count
-picked_own o D count ms x h e = open_own count ms x h (still_among D (members_of ms) x (among_picked o D (map (seen_in D) (members_of ms)) x e))
+-- what is picked is a member's variable
+pub picked_member : (o : Order) (D : Family) (ms : List seen.Member) (x : ℕ) → picked_in o D ms ≡ Some x → has (open_ones ms) x ≡ true
+picked_member o D ms x e = still_among D ms x (among_picked o D (map (seen_in D) ms) x e)
 
 -- and a cost that is a member is one of them
 pub cost_own : (count : ℕ) (ms : List Member) (m : Member) → AreOwn count ms → IsCostOf (members_of ms) (member_of m) → IsThere count m

@@ -9,7 +9,10 @@ use Rattle.fd_language.specs.Monotonicity.{IsMonotone}
 use Rattle.fd_model.specs.ClosedFamilies.{AllPosted}
 use Rattle.fd_model.specs.Labelling.{open_ones}
 use Rattle.fd_model.specs.Levels.{Level, Levels}
-use Rattle.fd_model.specs.PostedLeaves.{picked_in, with_value, PostedLeaves}
+use Rattle.fd_language.specs.Family.{IsInside}
+use Rattle.fd_model.specs.PostedLeaves.{AreLeft, picked_in, with_value}
+use Rattle.fd_model.proofs.Lemmas.{left_narrower}
+use Rattle.propagate_queue.specs.PropagationInvariant.{AreDomains}
 use Rattle.fd_model.specs.BestPosted.{IsCostOf, SoughtValues}
 use Rattle.fd_model.specs.BranchViews.{IsConsistent}
 use Rattle.range_code.specs.Frames.{family_of}
@@ -20,13 +23,13 @@ use Rattle.bound_search.specs.declared.search.Aim.{Aim}
 use Rattle.bound_search.specs.declared.search.Node.{Node}
 use Rattle.bound_search.specs.declared.best_leaf.SoFar.{SoFar}
 use Rattle.bound_search.specs.Members.{member_of, members_of, bound, Improves, IsNoBetter}
-use Rattle.bound_search.specs.SearchStates.{Wanted, Progress, progress, all_levels, IsNode, IsOpen, AreOpen, values_left, IsBestSoFar, IsSearching, Continues}
-use Rattle.bound_search.specs.Objectives.{AreWanted, wanted}
+use Rattle.bound_search.specs.SearchStates.{Wanted, Progress, progress, all_levels, IsNode, IsOpen, AreOpen, values_left, IsBestAmong, IsBestOf, IsSearching, Continues}
+use Rattle.bound_search.specs.Objectives.{AreWanted, IsBounded, wanted}
 use Rattle.bound_search.specs.Work.{open_count, tree_size, node_work, work}
-use Rattle.bound_search.proofs.Nodes.{node_some, node_consistent}
+use Rattle.bound_search.proofs.Nodes.{node_left, node_some, node_consistent}
 use Rattle.bound_search.proofs.PickedMembers.{none_there, some_there, IsVariableAt}
-use Rattle.bound_search.proofs.Steps.{begun, ended, opened, kept_leaf, dropped, closed_empty, closed_no_better, tried, passed}
-use Rattle.bound_search.proofs.Work.{tree_some, opened_work, child_work, passed_work}
+use Rattle.bound_search.proofs.Steps.{begun, ended, opened, kept_leaf, dropped, closed_empty, closed_no_better, bounded_open, bounded_none, tried, passed}
+use Rattle.bound_search.proofs.Work.{tree_some, opened_work, child_work, bounded_work, passed_work}
 
 pub on_ok : {X E : Type 0} (r : Result X E) (A B : Type 0) → (A → B) → OnOk r A → OnOk r B
 on_ok (Ok x) A B f h = f h
@@ -68,25 +71,25 @@ module _ (list : List Member) (aim : Aim) where
         v.picked ∙ ap Some g
 
     pub look_opens : (place variable : ℕ) (more : List Node) (best : SoFar) → IsPicked INFINITY aim.order s.current.sets list (Some place)
-        → member_at list place ≡ Var variable → more ≡ nodes ++ record { variable = variable; from = 0 } ∷ []
+        → member_at list place ≡ Var variable → more ≡ nodes ++ record { variable = variable; from = 0; bounded = best.cost } ∷ []
         → Continues w (length s.current.sets) (progress s.below nodes best) (s.current.posted ∷ []) (progress (all_levels s) more best)
     look_opens place variable more best p e f root base h =
         moved w (length s.current.sets) root base (record {
           levels = s.current ∷ s.below;
-          nodes = record { variable = variable; from = 0 } ∷ reverse nodes;
+          nodes = record { variable = variable; from = 0; bounded = best.cost } ∷ reverse nodes;
           best = best;
         }) (progress (all_levels s) more best) []
-        (same_progress (s.current ∷ s.below) (s.current ∷ s.below) (record { variable = variable; from = 0 } ∷ reverse nodes) (reverse more) best refl
-        (sym (newest_first nodes more (record { variable = variable; from = 0 }) f)))
+        (same_progress (s.current ∷ s.below) (s.current ∷ s.below) (record { variable = variable; from = 0; bounded = best.cost } ∷ reverse nodes) (reverse more) best refl
+        (sym (newest_first nodes more (record { variable = variable; from = 0; bounded = best.cost }) f)))
         (opened w ok.member (length s.current.sets) root base s.current node s.below (reverse nodes) best variable (picked_at place variable p e) h)
 
-    pub look_opens_work : (place variable : ℕ) (more : List Node) → IsPicked INFINITY aim.order s.current.sets list (Some place)
-        → member_at list place ≡ Var variable → more ≡ nodes ++ record { variable = variable; from = 0 } ∷ []
+    pub look_opens_work : (place variable : ℕ) (more : List Node) (best : SoFar) → IsPicked INFINITY aim.order s.current.sets list (Some place)
+        → member_at list place ≡ Var variable → more ≡ nodes ++ record { variable = variable; from = 0; bounded = best.cost } ∷ []
         → work (members_of list) (reverse more) (all_levels s) < work (members_of list) (reverse nodes) s.below + tree_size (open_count (members_of list) s.current)
-    look_opens_work place variable more p e f =
+    look_opens_work place variable more best p e f =
         subst (λ (ns : List Node). work (members_of list) ns (all_levels s) < work (members_of list) (reverse nodes) s.below + tree_size
-        (open_count (members_of list) s.current)) (sym (newest_first nodes more (record { variable = variable; from = 0 }) f))
-        (opened_work w (length s.current.sets) s.current s.below (reverse nodes) variable node (picked_at place variable p e))
+        (open_count (members_of list) s.current)) (sym (newest_first nodes more (record { variable = variable; from = 0; bounded = best.cost }) f))
+        (opened_work w (length s.current.sets) s.current s.below (reverse nodes) variable best.cost node (picked_at place variable p e))
 
     module _ (t : Levels) (given : s.below ≡ t.current ∷ t.below) where
       back : (best : SoFar) → ◌≡◌ {A = Progress} (record { levels = s.below; nodes = reverse nodes; best = best }) (progress (all_levels t) nodes best)
@@ -131,12 +134,12 @@ module _ (list : List Member) (aim : Aim) where
         ])
 
     module _ (value : ℕ) (step : values_left s.current n ≡ value ∷ values_left s.current (record n { from = value + 1 })) (more : List Node)
-        (pushed : more ≡ nodes ++ record { variable = n.variable; from = value + 1 } ∷ [])
+        (pushed : more ≡ nodes ++ record { variable = n.variable; from = value + 1; bounded = best.cost } ∷ [])
         (marked : Levels) (mark : marked ≡ record s { below = s.current ∷ s.below })
         (t : Levels) (posted : t.current.posted ≡ with_value marked.current.posted n.variable value) (below : t.below ≡ marked.below)
       where
         next : Node
-        next = record { variable = n.variable; from = value + 1 }
+        next = record { variable = n.variable; from = value + 1; bounded = best.cost }
 
         levels_now : t.below ≡ s.current ∷ s.below
         levels_now = below ∙ ap (λ (l : Levels). l.below) mark
@@ -144,8 +147,8 @@ module _ (list : List Member) (aim : Aim) where
         posted_now : t.current.posted ≡ with_value s.current.posted n.variable value
         posted_now = posted ∙ ap (λ (l : Levels). with_value l.current.posted n.variable value) mark
 
-        nodes_now : reverse more ≡ record { variable = n.variable; from = value + 1 } ∷ reverse nodes
-        nodes_now = newest_first nodes more (record { variable = n.variable; from = value + 1 }) pushed
+        nodes_now : reverse more ≡ record { variable = n.variable; from = value + 1; bounded = best.cost } ∷ reverse nodes
+        nodes_now = newest_first nodes more (record { variable = n.variable; from = value + 1; bounded = best.cost }) pushed
 
         pub advance_tries : (q : Progress) → IsNode (length marked.current.sets) t.current → Continues w (length t.current.sets) (progress t.below more best) (t.current.posted ∷ []) q
             → Continues w (length s.current.sets) (progress (all_levels s) (nodes ++ n ∷ []) best) [] q
@@ -154,13 +157,13 @@ module _ (list : List Member) (aim : Aim) where
             let ok : IsConsistent INFINITY INFINITY [] (with_value s.current.posted n.variable value) = subst (IsConsistent INFINITY INFINITY []) posted_now
             (node_consistent t.current.posted t.current.sets node.domains) in
             let here = tried w cost (length s.current.sets) root base s.current s.below n (reverse nodes) best
-            (record { variable = n.variable; from = value + 1 }) value refl step ok (before root base h) in
+            (record { variable = n.variable; from = value + 1; bounded = best.cost }) value refl step ok (before root base h) in
             let as_given : IsSearching w (length s.current.sets) root base (progress t.below more best) (t.current.posted ∷ []) =
             subst (λ (ps : List Indexical). IsSearching w (length s.current.sets) root base (progress t.below more best) (ps ∷ [])) (sym posted_now)
             (moved w (length s.current.sets) root base
-            (record { levels = s.current ∷ s.below; nodes = record { variable = n.variable; from = value + 1 } ∷ reverse nodes; best = best })
+            (record { levels = s.current ∷ s.below; nodes = record { variable = n.variable; from = value + 1; bounded = best.cost } ∷ reverse nodes; best = best })
             (progress t.below more best) (with_value s.current.posted n.variable value ∷ [])
-            (same_progress (s.current ∷ s.below) t.below (record { variable = n.variable; from = value + 1 } ∷ reverse nodes) (reverse more) best (sym levels_now) (sym nodes_now)) here) in
+            (same_progress (s.current ∷ s.below) t.below (record { variable = n.variable; from = value + 1; bounded = best.cost } ∷ reverse nodes) (reverse more) best (sym levels_now) (sym nodes_now)) here) in
             subst (λ k. IsSearching w k root base q []) sets (go root base (subst (λ k. IsSearching w k root base (progress t.below more best) (t.current.posted ∷ [])) (sym sets) as_given))
 
         pub advance_tries_work : (x : ℕ) → IsOpen w (length s.current.sets) s.current n → IsNode (length marked.current.sets) t.current
@@ -168,12 +171,12 @@ module _ (list : List Member) (aim : Aim) where
             → x < node_work (members_of list) n s.current + work (members_of list) (reverse nodes) s.below
         advance_tries_work x o node l =
             let sets : length marked.current.sets ≡ length s.current.sets = ap (λ (l : Levels). length l.current.sets) mark in
-            let c = child_work w (length s.current.sets) s.current s.below (reverse nodes) n (record { variable = n.variable; from = value + 1 }) value
-            t.current o (subst (λ k. IsNode k t.current) sets node) posted_now step in
-            let e : work (members_of list) (reverse more) t.below ≡ node_work (members_of list) (record { variable = n.variable; from = value + 1 })
+            let c = child_work w (length s.current.sets) s.current s.below (reverse nodes) n (record { variable = n.variable; from = value + 1; bounded = best.cost }) value
+            t.current o (subst (λ k. IsNode k t.current) sets node) posted_now refl step in
+            let e : work (members_of list) (reverse more) t.below ≡ node_work (members_of list) (record { variable = n.variable; from = value + 1; bounded = best.cost })
             s.current + work (members_of list) (reverse nodes) s.below =
             ap (λ (ns : List Node). work (members_of list) ns t.below) nodes_now
-            ∙ ap (λ (ls : List Level). work (members_of list) (record { variable = n.variable; from = value + 1 } ∷ reverse nodes) ls) levels_now in
+            ∙ ap (λ (ls : List Level). work (members_of list) (record { variable = n.variable; from = value + 1; bounded = best.cost } ∷ reverse nodes) ls) levels_now in
             omega arith
 
         module _ (u : Levels) (given : t.below ≡ u.current ∷ u.below) where
@@ -181,20 +184,20 @@ module _ (list : List Member) (aim : Aim) where
               → Continues w (length s.current.sets) (progress (all_levels s) (nodes ++ n ∷ []) best) [] (progress (all_levels u) more best)
           advance_passes none root base h =
               moved w (length s.current.sets) root base
-              (record { levels = s.current ∷ s.below; nodes = record { variable = n.variable; from = value + 1 } ∷ reverse nodes; best = best })
+              (record { levels = s.current ∷ s.below; nodes = record { variable = n.variable; from = value + 1; bounded = best.cost } ∷ reverse nodes; best = best })
               (progress (all_levels u) more best) []
-              (same_progress (s.current ∷ s.below) (u.current ∷ u.below) (record { variable = n.variable; from = value + 1 } ∷ reverse nodes) (reverse more)
+              (same_progress (s.current ∷ s.below) (u.current ∷ u.below) (record { variable = n.variable; from = value + 1; bounded = best.cost } ∷ reverse nodes) (reverse more)
               best (sym levels_now ∙ given) (sym nodes_now))
-              (passed w cost (length s.current.sets) root base s.current s.below n (reverse nodes) best (record { variable = n.variable; from = value + 1 })
+              (passed w cost (length s.current.sets) root base s.current s.below n (reverse nodes) best (record { variable = n.variable; from = value + 1; bounded = best.cost })
               value refl step (subst (λ (ps : List Indexical). IsConsistent INFINITY INFINITY [] ps → ⊥) posted_now none) (before root base h))
 
           pub advance_passes_work : work (members_of list) (reverse more) (all_levels u) < node_work (members_of list) n s.current + work (members_of list) (reverse nodes) s.below
           advance_passes_work =
-              let c = passed_work w (length s.current.sets) s.current s.below (reverse nodes) n (record { variable = n.variable; from = value + 1 }) value step in
+              let c = passed_work w (length s.current.sets) s.current s.below (reverse nodes) n (record { variable = n.variable; from = value + 1; bounded = best.cost }) value refl step in
               let e : work (members_of list) (reverse more) (u.current ∷ u.below) ≡ node_work (members_of list)
-              (record { variable = n.variable; from = value + 1 }) s.current + work (members_of list) (reverse nodes) s.below =
+              (record { variable = n.variable; from = value + 1; bounded = best.cost }) s.current + work (members_of list) (reverse nodes) s.below =
               ap (λ (ns : List Node). work (members_of list) ns (u.current ∷ u.below)) nodes_now
-              ∙ ap (λ (ls : List Level). work (members_of list) (record { variable = n.variable; from = value + 1 } ∷ reverse nodes) ls)
+              ∙ ap (λ (ls : List Level). work (members_of list) (record { variable = n.variable; from = value + 1; bounded = best.cost } ∷ reverse nodes) ls)
               (sym given ∙ levels_now) in
               omega arith
 
@@ -246,11 +249,62 @@ module _ (list : List Member) (aim : Aim) where
     pub goes_down : (x : ℕ) → x < node_work (members_of list) n t.current + work (members_of list) (reverse older) t.below → x < work (members_of list) (reverse nodes) (all_levels t)
     goes_down x l = subst (λ (ns : List Node). x < work (members_of list) ns (t.current ∷ t.below)) (sym (newest_first older nodes n items)) l
 
+    -- The level of the newest node may get a bound,
+    module _ (cost : IsCostOf (members_of list) (member_of aim.cost)) (u : Levels) (below : u.below ≡ t.below) (b : IsBounded aim best.cost t.current u.current)
+      where
+        first : IsSearching w (length s.current.sets) s.current.posted (all_levels s) (record { levels = t.current ∷ t.below; nodes = n ∷ reverse older; best = best }) []
+        first = moved w (length s.current.sets) s.current.posted (all_levels s) (progress (all_levels t) nodes best) (record { levels = t.current ∷ t.below; nodes = n ∷ reverse older; best = best }) []
+            (same_progress (t.current ∷ t.below) (t.current ∷ t.below) (reverse nodes) (n ∷ reverse older) best refl (newest_first older nodes n items)) search
+
+        given : (l : Level) → ◌≡◌ {A = Progress} (record { levels = l ∷ t.below; nodes = n ∷ reverse older; best = best }) (progress (l ∷ u.below) nodes best)
+        given l = same_progress (l ∷ t.below) (l ∷ u.below) (n ∷ reverse older) (reverse nodes) best (ap (λ (ls : List Level). l ∷ ls) (sym below)) (sym (newest_first older nodes n items))
+
+        pub newest_bounded : IsNode (length t.current.sets) u.current → IsSearching w (length s.current.sets) s.current.posted (all_levels s) (progress (all_levels u) nodes best) []
+        newest_bounded node = moved w (length s.current.sets) s.current.posted (all_levels s) (record { levels = u.current ∷ t.below; nodes = n ∷ reverse older; best = best })
+            (progress (all_levels u) nodes best) [] (given u.current) (elim b [
+              | inl e ↦ subst (λ l. IsSearching w (length s.current.sets) s.current.posted (all_levels s) (record { levels = l ∷ t.below; nodes = n ∷ reverse older; best = best }) []) (sym e) first
+              | inr e ↦ bounded_open w cost (length s.current.sets) s.current.posted (all_levels s) t.current t.below n (reverse older) best e.0 e.1 u.current e.2 (ap member_of e.3) e.4 e.5
+                  (subst (λ k. IsNode k u.current) same_sets node) first
+            ])
+
+        pub bounded_wanted : IsNode (length t.current.sets) u.current → AreWanted (length s.current.sets) list aim → AreWanted (length u.current.sets) list aim
+        bounded_wanted node ok = subst (λ k. AreWanted k list aim) (sym (node.vars ∙ same_sets)) ok
+
+        pub bounded_newest : IsNode (length t.current.sets) u.current → IsOpen w (length u.current.sets) u.current n
+        bounded_newest node = record { node = subst (λ k. IsNode k u.current) (sym node.vars) node; member = as_newest.0.member }
+
+        pub bounded_below : 0 < length u.below
+        bounded_below = subst (λ (ls : List Level). 0 < length ls) (sym below) levels_below
+
+        -- or it is closed, where that isn't consistent.
+        pub newest_closed : (v : Levels) → u.below ≡ v.current ∷ v.below → (IsConsistent INFINITY INFINITY [] u.current.posted → ⊥)
+            → IsSearching w (length s.current.sets) s.current.posted (all_levels s) (progress (all_levels v) older best) []
+        newest_closed v back none = moved w (length s.current.sets) s.current.posted (all_levels s) (record { levels = t.below; nodes = reverse older; best = best })
+            (progress (all_levels v) older best) [] (same_progress t.below (v.current ∷ v.below) (reverse older) (reverse older) best (sym below ∙ back) refl) (elim b [
+              | inl e ↦ absurd (none (subst (λ (l : Level). IsConsistent INFINITY INFINITY [] l.posted) (sym e) (node_consistent t.current.posted t.current.sets as_newest.0.node.domains)))
+              | inr e ↦ bounded_none w cost (length s.current.sets) s.current.posted (all_levels s) t.current t.below n (reverse older) best e.0 e.1 u.current e.2 (ap member_of e.3) e.4 e.5 none first
+            ])
+
+        inside : (l : Level) → IsBounded aim best.cost t.current l → AreDomains l.posted l.sets → IsInside (family_of l.sets) (family_of t.current.sets)
+        inside l (inl e) d = subst (λ (m : Level). IsInside (family_of m.sets) (family_of t.current.sets)) (sym e) (record { at = λ x. record { each = λ k h. h } })
+        inside l (inr e) d = left_narrower INFINITY t.current.posted _ (family_of t.current.sets) (family_of l.sets) (node_left t.current.posted t.current.sets as_newest.0.node.domains)
+            (subst (λ (ps : List Indexical). AreLeft INFINITY ps (family_of l.sets)) e.5 (node_left l.posted l.sets d))
+
+        -- In both cases the work that is left falls, or stays as it is.
+        pub bounded_down : (x : ℕ) → IsNode (length t.current.sets) u.current → x < node_work (members_of list) n u.current + work (members_of list) (reverse older) u.below
+            → x < work (members_of list) (reverse nodes) (all_levels t)
+        bounded_down x node l =
+            let f = bounded_work w (length t.current.sets) t.current u.current n as_newest.0.node.domains node.domains (inside u.current b node.domains) in
+            goes_down x (let e : work (members_of list) (reverse older) u.below ≡ work (members_of list) (reverse older) t.below = ap (λ (ls : List Level). work (members_of list) (reverse older) ls) below in omega arith)
+
+        pub closed_down : (v : Levels) → u.below ≡ v.current ∷ v.below → work (members_of list) (reverse older) (all_levels v) < work (members_of list) (reverse nodes) (all_levels t)
+        closed_down v back = goes_down _ (let e : work (members_of list) (reverse older) (v.current ∷ v.below) ≡ work (members_of list) (reverse older) t.below =
+            ap (λ (ls : List Level). work (members_of list) (reverse older) ls) (sym back ∙ below) in omega arith)
+
   module _ (s t : Levels) (nodes : List Node) (best : SoFar) (cost : IsCostOf (members_of list) (member_of aim.cost)) (empty : nodes ≡ [])
       (search : IsSearching w (length s.current.sets) s.current.posted (all_levels s) (progress (all_levels t) nodes best) []) where
     last : (t.current ∷ t.below ≡ s.current ∷ s.below)
-        × ((leaves : List (List Indexical)) × PostedLeaves INFINITY aim.order (members_of list) (s.current.posted ∷ []) leaves
-        × IsBestSoFar w leaves best.cost best.values.items)
+        × IsBestOf w s.current.posted best.cost best.values.items
     last = ended w cost (length s.current.sets) s.current.posted (all_levels s) (t.current ∷ t.below) best
         (subst (λ (ns : List Node). IsSearching w (length s.current.sets) s.current.posted (all_levels s) (record { levels = t.current ∷ t.below; nodes = reverse ns; best = best }) []) empty search)
 
@@ -267,12 +321,12 @@ module _ (list : List Member) (aim : Aim) where
 
     pub found_none : best.cost ≡ None → SoughtValues INFINITY aim.order (members_of list) (member_of aim.cost) aim.least s.current.posted None
     found_none e =
-        let none : IsBestSoFar w last.1.0 None best.values.items = subst (λ o. IsBestSoFar w last.1.0 o best.values.items) e last.1.2 in
+        let none : IsBestAmong w last.1.0 None best.values.items = subst (λ o. IsBestAmong w last.1.0 o best.values.items) e last.1.2 in
         record { leaves = last.1.0; all = last.1.1; best = none }
 
     pub found_some : (z : ℤ) → best.cost ≡ Some z → SoughtValues INFINITY aim.order (members_of list) (member_of aim.cost) aim.least s.current.posted (Some best.values.items)
     found_some z e =
-        let some : IsBestSoFar w last.1.0 (Some z) best.values.items = subst (λ o. IsBestSoFar w last.1.0 o best.values.items) e last.1.2 in
+        let some : IsBestAmong w last.1.0 (Some z) best.values.items = subst (λ o. IsBestAmong w last.1.0 o best.values.items) e last.1.2 in
         record { leaves = last.1.0; all = last.1.1; best = (some.0, z, some.1, some.2) }
 
 -- nothing is taken from no list

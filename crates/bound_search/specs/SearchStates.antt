@@ -1,5 +1,6 @@
 -- A search under way: the open nodes, what of them is still to be tried, and the best leaf so far.
-use Rattle.std.specs.Prelude.{◌≡◌, ℕ, Bool, false, nat_le, ℤ, List, [], ◌∷◌, ◌++◌, map, filter, length, reverse, Option, Some, None}
+use Rattle.std.specs.Prelude.{◌≡◌, ℕ, Bool, false, nat_le, ℤ, IsTrue, List, [], ◌∷◌, ◌++◌, map, filter, length, reverse, Option, Some, None, ◌⊎◌}
+use Rattle.fd_language.specs.Family.{has}
 use Rattle.fd_language.specs.declared.TheConstants.{INFINITY}
 use Rattle.fd_language.specs.Range.{Indexical}
 use Rattle.fd_language.specs.Monotonicity.{IsMonotone}
@@ -8,12 +9,13 @@ use Rattle.fd_model.specs.ClosedFamilies.{AllPosted}
 use Rattle.fd_model.specs.Labelling.{open_ones}
 use Rattle.fd_model.specs.Levels.{Level, Levels}
 use Rattle.fd_model.specs.Members as seen
-use Rattle.fd_model.specs.PostedLeaves.{picked_in, with_value, KeptLists, PostedLeaves}
-use Rattle.fd_model.specs.BestPosted.{IsBestPosted, HaveValues}
+use Rattle.fd_model.specs.PostedLeaves.{with_value, KeptLists, PostedLeaves}
+use Rattle.fd_model.specs.BestPosted.{Costs, IsBestPosted, HaveValues}
 use Rattle.range_code.specs.Frames.{family_of}
 use Rattle.propagate_queue.specs.PropagationInvariant.{AreDomains}
 use Rattle.bound_search.specs.declared.search.Node.{Node}
 use Rattle.bound_search.specs.declared.best_leaf.SoFar.{SoFar}
+use Rattle.bound_search.specs.Members.{Improves, IsNoBetter}
 
 -- the order of the labelling, its members, the cost, and whether the least is wanted
 pub record Wanted : Type 0 where
@@ -47,9 +49,10 @@ abbrev pub values_left : Level → Node → List ℕ
 values_left l n = filter (λ k. nat_le n.from k) (family_of l.sets n.variable)
 
 module _ (w : Wanted) where
+  -- an open node: the values of one of the members are tried
   pub record IsOpen (count : ℕ) (l : Level) (n : Node) : Type 0 where
     pub node : IsNode count l
-    pub picked : picked_in w.order (family_of l.sets) w.members ≡ Some n.variable
+    pub member : IsTrue (has (open_ones w.members) n.variable)
 
   -- Open nodes, the newest first, each with a level of its own, on those of the base; cs are the posted lists that are still to be tried.
   abbrev pub AreOpen : ℕ → List Level → List Node → List Level → List (List Indexical) → Type 0
@@ -60,23 +63,30 @@ module _ (w : Wanted) where
       × ((ks : List (List Indexical)) × (ds : List (List Indexical)) × (cs ≡ ks ++ ds)
       × KeptLists INFINITY (map (with_value l.posted n.variable) (values_left l n)) ks × AreOpen count base ns ls ds)
 
-  -- the best leaf so far among those that were met: its cost and its values
-  abbrev pub IsBestSoFar : List (List Indexical) → Option ℤ → List ℕ → Type 0
-  IsBestSoFar met None values = met ≡ []
-  IsBestSoFar met (Some z) values = (l : List Indexical) × IsBestPosted INFINITY w.least w.cost met l z × HaveValues INFINITY (open_ones w.members) l values
+  -- the best leaf among these: its cost and its values
+  abbrev pub IsBestAmong : List (List Indexical) → Option ℤ → List ℕ → Type 0
+  IsBestAmong ls None values = ls ≡ []
+  IsBestAmong ls (Some z) values = (l : List Indexical) × IsBestPosted INFINITY w.least w.cost ls l z × HaveValues INFINITY (open_ones w.members) l values
 
-  -- A search from the posted list root on, where the new posted lists stand in front of those that are still to be tried: its leaves are those that were met,
-  -- and those that are still to come.
+  -- What becomes of the best so far by leaves, one after the other: each that is better takes its place.
+  abbrev pub Becomes : Option ℤ → List ℕ → List (List Indexical) → Option ℤ → List ℕ → Type 0
+  Becomes c ns [] d ks = (c ≡ d) × (ns ≡ ks)
+  Becomes c ns (l ∷ ls) d ks =
+      (z : ℤ) × Costs INFINITY w.cost l z
+      × ((Improves w.least z c × ((vs : List ℕ) × HaveValues INFINITY (open_ones w.members) l vs × Becomes (Some z) vs ls d ks)) ⊎ (IsNoBetter w.least z c × Becomes c ns ls d ks))
+
+  -- the best leaf of the labelling of a posted list
+  abbrev pub IsBestOf : List Indexical → Option ℤ → List ℕ → Type 0
+  IsBestOf root cost values = (ls : List (List Indexical)) × PostedLeaves INFINITY w.order w.members (root ∷ []) ls × IsBestAmong ls cost values
+
+  -- A search from the posted list root on, where the new posted lists stand in front of those that are still to be tried. What becomes of the best so far by
+  -- their leaves is the best leaf of the root. Those lists may have a bound on the cost: the leaves without it that they don't have are no better.
   pub record IsSearching (count : ℕ) (root : List Indexical) (base : List Level) (p : Progress) (new : List (List Indexical)) : Type 0 where
-    pub leaves : List (List Indexical)
-    pub all : PostedLeaves INFINITY w.order w.members (root ∷ []) leaves
-    pub met : List (List Indexical)
-    pub rest : List (List Indexical)
-    pub parts : leaves ≡ met ++ rest
     pub untried : List (List Indexical)
     pub nodes : AreOpen count base p.nodes p.levels untried
+    pub rest : List (List Indexical)
     pub to_come : PostedLeaves INFINITY w.order w.members (new ++ untried) rest
-    pub best : IsBestSoFar met p.best.cost p.best.values.items
+    pub sought : (cost : Option ℤ) (values : List ℕ) → Becomes p.best.cost p.best.values.items rest cost values → IsBestOf root cost values
 
   -- from wherever the search begins, it goes on
   abbrev pub Continues : ℕ → Progress → List (List Indexical) → Progress → Type 0

@@ -25,12 +25,12 @@ use std::rc::Rc;
 /// the store are then as before. After `NoMemory` the store answers `NoMemory` from then on.
 ///
 /// The store hasn't failed, and `exact` is the code of `P..P`. The members are integers and variables of the store, and the cost is an integer
-/// or one of them. `n` goes up
-/// by the activations that the search takes.
+/// or one of them. `n` goes up by the activations that the search takes.
 ///
-/// A node is dropped where the best value that its own domains leave to the cost is no better than the best cost so far. The bound isn't
-/// posted, since that would change what `FirstFail` picks. The search takes one mark and one small entry for each member that it has
-/// given a value; no list of values is made, and no domain is copied.
+/// A node is dropped where the best value that its own domains leave to the cost is no better than the best cost so far. By `Leftmost` the
+/// level of an open node also gets the bound that the cost is better, before its next value is tried; by `FirstFail` it doesn't, since that
+/// would change what is picked. The search takes one mark and one small entry for each member that it has given a value; no list of values
+/// is made, and no domain is copied.
 pub fn best<A: Agenda + Drop>(
     alloc: Global,
     store: &mut Store<A>,

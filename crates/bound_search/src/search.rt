@@ -6,10 +6,11 @@ ghost use Rattle.fd_model.specs.BestPosted.{SoughtValues};
 ghost use Rattle.label_search.specs.Picks.{IsThere, member_at};
 ghost use Rattle.range_code.specs.Frames.{family_of};
 ghost use Rattle.bound_search.specs.Members.{IsNoBetter, bound, member_of, members_of};
-ghost use Rattle.bound_search.specs.Posting.{exact_range};
+ghost use Rattle.bound_search.specs.Posting.{IsEnd, better_high, better_low, between_range, exact_range};
+ghost use Rattle.fd_model.specs.BranchViews.{IsConsistent};
 
 use crate::best_leaf::{SoFar, bound_of, improves, keep_leaf};
-use crate::posting::post_value;
+use crate::posting::{between_code, post_between, post_value};
 use fd_language::{INFINITY, NoMemory};
 use fd_model::kinds::Order;
 use label_search::{Member, pick};
@@ -34,10 +35,12 @@ pub struct Aim {
 pub(crate) struct Node {
     pub(crate) variable: usize,
     pub(crate) from: u32,
+    /// The cost by which the node's level is bounded, where it is.
+    pub(crate) bounded: Option<i64>,
 }
 
 ghost use Rattle.bound_search.specs.SearchStates.{Continues, IsNode, IsOpen, all_levels, progress, values_left};
-ghost use Rattle.bound_search.specs.Objectives.{AreWanted, wanted};
+ghost use Rattle.bound_search.specs.Objectives.{AreWanted, IsBounded, wanted};
 ghost use Rattle.bound_search.specs.Work.{node_work, open_count, tree_size, work};
 
 /// The variable at a place of the list.
@@ -78,7 +81,11 @@ fn look<A: Agenda + Drop>(
         match pick(aim.order, list, store, INFINITY) {
             Some(place) => {
                 let variable = variable_at(list, place);
-                return Ok(nodes.push(Node { variable, from: 0 })?);
+                return Ok(nodes.push(Node {
+                    variable,
+                    from: 0,
+                    bounded: best.cost,
+                })?);
             }
             None => keep_leaf(store, list, bound, best)?,
         }
@@ -103,6 +110,54 @@ fn next_value<A: Agenda + Drop>(store: &Store<A>, aim: Aim, node: Node, best: &S
         return None;
     }
     store.domain(node.variable).next_from(node.from)
+}
+
+/// The numbers that are better than a cost, as the ends of an interval. `None` where no variable can have that cost.
+fn better_ends(cost: i64, least: bool) -> Option<(i64, i64)>
+    ensures low { IfSome result (λ ends. ends.0 ≡ better_low least cost) }
+    ensures high { IfSome result (λ ends. ends.1 ≡ better_high least cost) }
+    ensures fits { IfSome result (λ ends. IsEnd ends.0 × IsEnd ends.1) }
+{
+    let reached = i64::from(u32::try_from(cost).ok()?);
+    if least {
+        Some((0, reached - 1))
+    } else {
+        Some((reached + 1, i64::from(INFINITY)))
+    }
+}
+
+/// Bounds the cost on the level of an open node by the best so far, where the labelling goes by the order of the list, and where the level
+/// hasn't got that bound. Whether no domain is empty then.
+fn bound_level<A: Agenda + Drop>(
+    between: &Rc<RangeCode>,
+    store: &mut Store<A>,
+    aim: Aim,
+    node: Node,
+    best: &SoFar,
+    n: &mut Activations,
+) -> Result<bool, NoMemory>
+    requires between { between.now.value ≡ between_range }
+    requires cost { IsThere (length store.old.current.sets) aim.cost }
+    requires node { IsNode (length store.old.current.sets) store.old.current }
+    ensures bounded { OnOk result (IsBounded aim best.now.cost
+        store.old.current store.new.current) }
+    ensures kept { IfOk result (λ kept. kept ≡ true
+        → IsNode (length store.old.current.sets) store.new.current) }
+    ensures failed { IfOk result (λ kept. kept ≡ false
+        → IsConsistent INFINITY INFINITY [] store.new.current.posted → ⊥) }
+    ensures below { store.new.below ≡ store.old.below }
+    ensures unspent { OnOk result (store.old.spent ≡ false → store.new.spent ≡ false) }
+{
+    if node.bounded == best.cost {
+        return Ok(true);
+    }
+    match (aim.order, aim.cost, best.cost) {
+        (Order::Leftmost, Member::Var(k), Some(cost)) => match better_ends(cost, aim.least) {
+            Some(ends) => post_between(between, store, k, ends, n),
+            None => Ok(true),
+        },
+        _ => Ok(true),
+    }
 }
 
 /// Tries the next value of the newest open node, which was taken from the others, or closes it where there is none.
@@ -140,6 +195,7 @@ fn advance<A: Agenda + Drop>(
             nodes.push(Node {
                 variable,
                 from: value + 1,
+                bounded: best.cost,
             })?;
             store.push_mark()?;
             if post_value(exact, store, variable, value, n)? {
@@ -172,6 +228,7 @@ pub(crate) fn search<A: Agenda + Drop>(
     ensures levels { OnOk result (store.new ≡ store.old) }
     ensures unspent { OnOk result (store.old.spent ≡ false) }
 {
+    let between = between_code(alloc)?;
     let mut nodes = Vec::new(alloc);
     let mut best = SoFar {
         cost: None,
@@ -181,7 +238,11 @@ pub(crate) fn search<A: Agenda + Drop>(
     store.known();
     look(store, list, aim, &mut nodes, &mut best)?;
     'trying: while let Some(node) = nodes.pop() {
-        advance(exact, store, list, aim, node, &mut nodes, &mut best, n)?;
+        if bound_level(&between, store, aim, node, &best, n)? {
+            advance(exact, store, list, aim, node, &mut nodes, &mut best, n)?;
+        } else {
+            store.pop_mark();
+        }
     }
     match best.cost {
         None => Ok(None),

@@ -1,22 +1,49 @@
 -- What is picked, as a list is walked.
-use Rattle.std.proofs.Common.{◌≡◌, ℕ, zero, suc, ◌<◌, ◌≤◌, Bool, true, false, cond, ltb, pos, List, [], ◌∷◌, length, get_or, drop, refl, ap, sym, ◌∙◌, subst}
+use Rattle.std.proofs.Common.{◌≡◌, ℕ, zero, suc, ◌<◌, ◌≤◌, Bool, true, false, cond, not, ◌==◌, eqb-true, ltb, pos, List, [], ◌∷◌, length, get_or, drop, refl, ap, sym, ◌∙◌, subst}
 use Rattle.std.proofs.Common.{arith, inl, inr, ◌⊎◌}
 use Rattle.std.proofs.lemmas.Bool.{ltb-true, ltb-false, lt-ltb, le-ltb}
-use Rattle.std.specs.Prelude.{Option, Some, None, slice_get}
+use Rattle.std.specs.Prelude.{Option, Some, None, slice_get, slice_index_or}
 use Rattle.std.proofs.lemmas.List.{get_or_default}
 use Rattle.domain_ranges.proofs.Lemmas.{length_up}
-use Rattle.fd_language.specs.Family.{universe}
+use Rattle.fd_language.specs.Family.{universe, IsRising}
+use Rattle.fd_language.specs.Range.{least, greatest}
+use Rattle.fd_language.specs.declared.TheConstants.{INFINITY}
+use Rattle.fd_language.proofs.Lemmas.{first_member, greatest_high}
 use Rattle.fd_model.specs.declared.kinds.Order.TheVariants.{Leftmost, FirstFail}
 use Rattle.fd_model.specs.Members as seen
 use Rattle.fd_model.specs.Labelling.{first_open, fewest, unless_fewer}
 use Rattle.label_search.specs.declared.Member.{Member}
-use Rattle.label_search.specs.declared.Member.TheVariants.{Fixed}
+use Rattle.label_search.specs.declared.Member.TheVariants.{Fixed, Var, Free}
 use Rattle.label_search.specs.Picks.{value_count, member_at, IsSeenAs, AreSeenAs, IsPlaceOf, IsPicked, HasSeveral}
 
 -- U has one number more than the greatest one says
 pub length-universe : (M : ℕ) → length (universe M) ≡ suc M
 unfolding universe
 length-universe M = length_up 0 (suc M)
+
+-- where the ends are equal there is at most one number, and where they differ there are several
+pub ends_equal : (low : ℕ) (xs : List ℕ) → IsRising low INFINITY xs → least xs ≡ greatest xs → length xs ≤ 1
+ends_equal low [] r e = omega arith
+ends_equal low (x ∷ []) r e = omega arith
+ends_equal low (x ∷ y ∷ ys) r e = absurd (let h = greatest_high (suc x) INFINITY y (y ∷ ys) r.2 (first_member y ys) in let l = r.2.0 in omega arith)
+
+pub ends_differ : (xs : List ℕ) → (least xs ≡ greatest xs → ⊥) → 1 < length xs
+ends_differ [] d = absurd (d refl)
+ends_differ (x ∷ []) d = absurd (d refl)
+ends_differ (x ∷ y ∷ ys) d = omega arith
+
+-- a variable whose least and greatest values are equal has one
+pub one_by_ends : (N k a b : ℕ) (sets : List (List ℕ)) (m : Member) (xs : List ℕ) → m ≡ Var k → xs ≡ slice_index_or sets k (universe INFINITY) → a ≡ least xs → b ≡ greatest xs
+    → IsRising 0 INFINITY xs → not (a == b) ≡ false → value_count N sets m ≤ 1
+one_by_ends N k a b sets m xs e f g h r d = subst (λ v. value_count N sets v ≤ 1) (sym e) (subst (λ (l : List ℕ). length l ≤ 1) f (ends_equal 0 xs r (sym g ∙ eqb-true a b (by_test (a == b) d) ∙ h)))
+  where
+    by_test : (t : Bool) → not t ≡ false → t ≡ true
+    by_test true i = refl
+    by_test false i = sym i
+
+-- one that the store doesn't have has all values
+pub free_count : (N : ℕ) (sets : List (List ℕ)) (m : Member) → m ≡ Free → value_count N sets m ≡ suc N
+free_count N sets m e = ap (value_count N sets) e ∙ length-universe N
 
 place_further : (s : seen.Member) (ss : List seen.Member) (o : Option ℕ) (i : ℕ) → IsPlaceOf ss o (Some i) → IsPlaceOf (s ∷ ss) o (Some (suc i))
 place_further s ss None i p = p

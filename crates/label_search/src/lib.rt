@@ -1,7 +1,7 @@
 //! Which member of a list a labelling takes next.
 #![tactic(auto)]
 
-ghost use Rattle.std.specs.Prelude.{◌≡◌, ◌≤◌, length};
+ghost use Rattle.std.specs.Prelude.{◌≡◌, ◌<◌, ◌≤◌, true, false, length};
 ghost use Rattle.fd_language.specs.declared.TheConstants.{INFINITY as TOP};
 ghost use Rattle.fd_model.specs.declared.kinds.Order.TheVariants as order;
 ghost use Rattle.label_search.specs.Picks.{value_count, IsThere, AreThere, IsPicked, HasSeveral};
@@ -34,6 +34,24 @@ fn value_count_of<V: View>(member: Member, view: &V, infinity: u32) -> u32
     }
 }
 
+/// Whether a member has more than one value.
+#[inline]
+fn has_several<V: View>(member: Member, view: &V, infinity: u32) -> bool
+    requires most { infinity ≤ TOP }
+    requires there { IsThere (length (V.sets view.now)) member }
+    ensures yes { result ≡ true → 1 < value_count infinity (V.sets view.now) member }
+    ensures no { result ≡ false → value_count infinity (V.sets view.now) member ≤ 1 }
+{
+    match member {
+        Member::Fixed(_) => false,
+        Member::Var(k) => {
+            let domain = view.domain(k);
+            domain.least() != domain.greatest()
+        }
+        Member::Free => infinity > 0,
+    }
+}
+
 /// The place of the first member with more than one value.
 fn first_several<V: View>(list: &[Member], view: &V, infinity: u32) -> Option<usize>
     requires most { infinity ≤ TOP }
@@ -42,7 +60,7 @@ fn first_several<V: View>(list: &[Member], view: &V, infinity: u32) -> Option<us
     ensures several { HasSeveral infinity (V.sets view.now) list.now result }
 {
     for (i, member) in list.iter().enumerate() {
-        if value_count_of(*member, view, infinity) > 1 {
+        if has_several(*member, view, infinity) {
             return Some(i);
         }
     }

@@ -1,18 +1,16 @@
 use Rattle.std.proofs.Common.{◌<◌, length, sym, subst}
 use Rattle.fd_model.specs.Levels.{Levels}
-use Rattle.range_code.specs.Frames.{family_of}
-use Rattle.bound_search.proofs.PickedMembers.{picked_own}
+use Rattle.bound_search.proofs.PickedMembers.{open_own}
 use Rattle.bound_search.proofs.SearchSteps.{on_ok, advance_closes, advance_tries, advance_tries_work, advance_passes, advance_passes_work}
 use Rattle.bound_search.proofs.search.advance.Goals as goal
 
 pub next_value-requires-clause-variable : goal.next_value-requires-clause-variable
-next_value-requires-clause-variable g c = picked_own c.args.aim.order (family_of c.args.store.now.current.sets) (length c.args.store.now.current.sets)
-    c.args.list.now c.args.node.variable c.requires.wanted.list c.requires.node.picked
+next_value-requires-clause-variable g c = open_own (length c.args.store.now.current.sets) c.args.list.now c.args.node.variable c.requires.wanted.list c.requires.node.member
 
 pub post_value-requires-clause-variable : goal.post_value-requires-clause-variable
 post_value-requires-clause-variable g c =
     subst (λ (s : Levels). c.args.node.variable < length s.current.sets) (sym c.in_ok-push_mark-in-Some.ensures.marked)
-    (picked_own c.args.aim.order (family_of c.args.store.now.current.sets) (length c.args.store.now.current.sets) c.args.list.now c.args.node.variable c.requires.wanted.list c.requires.node.picked)
+    (open_own (length c.args.store.now.current.sets) c.args.list.now c.args.node.variable c.requires.wanted.list c.requires.node.member)
 
 pub returns-in-None-clause-continues : goal.returns-in-None-clause-continues
 returns-in-None-clause-continues g c =

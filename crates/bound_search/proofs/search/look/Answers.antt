@@ -16,7 +16,7 @@ returns-in-Some-clause-continues g c =
 pub returns-in-Some-clause-work : goal.returns-in-Some-clause-work
 returns-in-Some-clause-work g c =
     look_opens_work c.args.list.now c.args.aim c.args.store.now c.args.nodes.now.items c.requires.wanted c.requires.node c.in-Some.place
-    c.variable_at-variable.result c.push.new.self.items c.in-Some.ensures.picked c.variable_at-variable.ensures c.in_ok-push-in-Some.ensures.items
+    c.variable_at-variable.result c.push.new.self.items c.args.best.now c.in-Some.ensures.picked c.variable_at-variable.ensures c.in_ok-push-in-Some.ensures.items
 
 pub returns-clause-continues : goal.returns-clause-continues
 returns-clause-continues g c =
