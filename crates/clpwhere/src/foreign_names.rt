@@ -80,7 +80,7 @@ impl ForeignName {
             ForeignName::AllDistinct =>
                 "Nothing here is as strong: fd_all_different(L) takes a number from the others once one member has it.",
             ForeignName::Sum =>
-                "It isn't built in: a clause makes the term of the sum, as sum in examples/lists.pl, and S #= 10 bounds it.",
+                "It isn't built in: library/sums.pl, put in front of the text, has it as fdl_sum(L, S).",
             ForeignName::TuplesIn =>
                 "Nothing here does this for a table: fd_element(I, L, X) takes a list of integers.",
             ForeignName::Findall =>
@@ -89,9 +89,9 @@ impl ForeignName {
             | ForeignName::Append
             | ForeignName::Member
             | ForeignName::Between =>
-                "It isn't built in: examples/lists.pl has clauses for it, which may stand in front of the text.",
+                "It isn't built in: library/lists.pl, put in front of the text, has it under a name that begins with fdl_.",
             ForeignName::Nth1 =>
-                "It isn't built in: examples/lists.pl has nth(I, L, X), and fd_element(I, L, X) is a constraint.",
+                "It isn't built in: library/lists.pl has fdl_nth(I, L, X), and fd_element(I, L, X) is a constraint.",
             ForeignName::Maplist =>
                 "There are no goals in variables: write a clause that goes over the list.",
             ForeignName::Format => "There is no format: write(T) and nl write terms and newlines.",

@@ -12,7 +12,7 @@ use thiserror::Error;
 /// How a run ended.
 #[derive(Clone, Copy, Debug, PartialEq, Eq)]
 pub enum Status {
-    /// Every line passed through, or the text has no warning.
+    /// Every line passed through, the text has no warning, or the lines that were asked for were written.
     Done,
     /// The text has warnings, which were written.
     Warned,

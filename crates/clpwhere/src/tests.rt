@@ -257,7 +257,18 @@ fn a_failed_read_is_told(rt: HostRuntime) -> Result<(), Fail> {
     Ok(())
 }
 
-/// What is written of the warnings of files with these names and texts.
+/// The status of a run that looks for warnings in files with these names and texts, and the bytes that it wrote.
+fn warned(alloc: Global, texts: &[(&str, &str)]) -> Result<(Status, Vec<u8>), Fail> {
+    let mut files = Vec::new(alloc);
+    for (name, text) in texts {
+        let name = String::from_str(alloc, name)?;
+        files.push(NamedText::new(name, text.as_bytes().to_vec(alloc)?))?;
+    }
+    let mut sink = MemorySink::new(alloc, 4000, Vec::new(alloc))?;
+    let status = warn(alloc, &files, &mut sink);
+    Ok((status, sink.bytes().to_vec(alloc)?))
+}
+
 fn warns(
     rt: &impl Abort,
     alloc: Global,
@@ -265,15 +276,55 @@ fn warns(
     output: &str,
     status: Status,
 ) -> Result<(), Fail> {
-    let mut files = Vec::new(alloc);
-    for (name, text) in texts {
-        let name = String::from_str(alloc, name)?;
-        files.push(NamedText::new(name, text.as_bytes().to_vec(alloc)?))?;
-    }
-    let mut sink = MemorySink::new(alloc, 4000, Vec::new(alloc))?;
-    let ended = warn(alloc, &files, &mut sink);
-    assert_eq!(rt; sink.bytes(), output.as_bytes());
+    let (ended, bytes) = warned(alloc, texts)?;
+    assert_eq!(rt; bytes.as_slice(), output.as_bytes());
     assert_eq!(rt; ended, status);
+    Ok(())
+}
+
+/// A text in a file `t.pl`, the first line that is written of its warning, and words of the sentence that explains it.
+const WARNED: [(&str, &str, &str); 6] = [
+    (
+        "?- X in -3..5.",
+        "t.pl:1:9: warning: a number below 0\n",
+        "are lost here",
+    ),
+    (
+        "?- X in 0..9, X #= -2.",
+        "t.pl:1:20: warning: a number below 0\n",
+        "no answer",
+    ),
+    (
+        "?- X in 5..3.",
+        "t.pl:1:10: warning: an empty range\n",
+        "no number at all",
+    ),
+    (
+        "?- X + Y = 10.",
+        "t.pl:1:6: warning: = doesn't compute\n",
+        "computes nothing",
+    ),
+    (
+        "?- X in 0..9, X > 3.",
+        "t.pl:1:15: warning: X has only a domain here\n",
+        "or label first",
+    ),
+    (
+        "?- X in 0..9, \\+ X in 10..12.",
+        "t.pl:1:18: warning: \\+ over X, which has only a domain\n",
+        "opposite constraint",
+    ),
+];
+
+#[test]
+fn what_is_lost_silently_is_warned_of(rt: HostRuntime) -> Result<(), Fail> {
+    for (text, line, words) in WARNED {
+        let (status, bytes) = warned(rt.alloc(), &[("t.pl", text)])?;
+        let output = String::from_utf8_lossy(rt.alloc(), &bytes)?;
+        assert!(rt; output.as_str().starts_with(line), "at {text}");
+        assert!(rt; output.as_str().contains(words), "at {text}");
+        assert_eq!(rt; status, Status::Warned);
+    }
     Ok(())
 }
 
@@ -355,6 +406,13 @@ fn each_place_is_told_by_its_file(rt: HostRuntime) -> Result<(), Fail> {
             ("c.pl", "2).\n?- q(Y, Z), p(_).\nr(Y) :- q(Y, Y).\n"),
         ],
         output.as_str(),
+        Status::Warned,
+    )?;
+    warns(
+        &rt,
+        alloc,
+        &[("a.pl", "p(1).\n"), ("b.pl", "p(2).\n?- p(X).\n")],
+        "b.pl:1:1: warning: p/1 has clauses in two files\np(2).\n^\nAn earlier file has clauses of this predicate too: those of both belong to it, in the order of the files.\n",
         Status::Warned,
     )?;
     warns(
