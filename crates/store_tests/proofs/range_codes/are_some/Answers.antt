@@ -1,5 +1,5 @@
 use Rattle.store_tests.proofs.Domains.{all_some}
-use Rattle.store_tests.proofs.range_codes.+are_some.Goals as goal
+use Rattle.store_tests.proofs.range_codes.are_some.Goals as goal
 
 pub returns-clause-some : goal.returns-clause-some
 returns-clause-some c = λ _ k. (all_some c.args.domains.now c.loop-domain.domain-index c.loop-domain-test.false c.loop-domain.invariant k).0
