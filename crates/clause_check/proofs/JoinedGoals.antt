@@ -114,7 +114,7 @@ module _ (c : Contents) (ranges : List Range) where
   two_ways_own n ((flat.Best o least t u) ∷ g ∷ gs) left right h l r = (l, r)
   two_ways_own n ((flat.If a b None) ∷ g ∷ gs) left right h l r = (l, r)
 
-  part_own : (goals : List FlatGoal) (a : Part) → AreGoals c (length ranges) goals → AllByRecursion (IsGoal c (length ranges) (length goals)) (flat_part goals a)
+  pub part_own : (goals : List FlatGoal) (a : Part) → AreGoals c (length ranges) goals → AllByRecursion (IsGoal c (length ranges) (length goals)) (flat_part goals a)
   part_own goals a h =
       let Mine : FlatGoal → Type 0 = IsGoal c (length ranges) (length goals) in
       let all = All-from_get_or Mine goals flat.True (λ i l. goal_later c (length ranges) (length ranges) i (length goals) (get_or goals i flat.True) (omega arith) (omega (arith, l)) (h i l)) in

@@ -51,14 +51,14 @@ queries_append N (y ∷ ys) x = by_form (form_of y.term) (queries_append N ys x)
 -- ---- more goals
 
 module _ (c : Contents) (n m : ℕ) (l : n ≤ m) where
-  clause_later : (k : FlatClause) → IsClause c n k → IsClause c m k
+  pub clause_later : (k : FlatClause) → IsClause c n k → IsClause c m k
   clause_later k h = record { head = h.head; named = h.named; body = part_later c n m k.body l h.body }
 
   query_later : (q : FlatQuery) → IsQueryWithin c n q → IsQueryWithin c m q
   query_later q h = record { names = h.names; goals = part_later c n m q.goals l h.goals }
 
 module _ (c : Contents) (goals more : List model.Goal) (n : ℕ) (l : n ≤ length goals) where
-  clauses_same : (ks : List FlatClause) → AllByRecursion (IsClause c n) ks → map (clause_by c (goals ++ more)) ks ≡ map (clause_by c goals) ks
+  pub clauses_same : (ks : List FlatClause) → AllByRecursion (IsClause c n) ks → map (clause_by c (goals ++ more)) ks ≡ map (clause_by c goals) ks
   clauses_same [] h = refl
   clauses_same (k ∷ ks) h =
       two (λ (x : model.Clause) (xs : List model.Clause). x ∷ xs)
@@ -66,7 +66,7 @@ module _ (c : Contents) (goals more : List model.Goal) (n : ℕ) (l : n ≤ leng
       x) (part_more goals more k.body.from k.body.to (let u = h.0.body.within in omega (arith, u, l))))
       (clauses_same ks h.1)
 
-  queries_same : (qs : List FlatQuery) → AllByRecursion (IsQueryWithin c n) qs → map (query_by c (goals ++ more)) qs ≡ map (query_by c goals) qs
+  pub queries_same : (qs : List FlatQuery) → AllByRecursion (IsQueryWithin c n) qs → map (query_by c (goals ++ more)) qs ≡ map (query_by c goals) qs
   queries_same [] h = refl
   queries_same (q ∷ qs) h =
       two (λ (x : model.Query) (xs : List model.Query). x ∷ xs)

@@ -18,3 +18,4 @@ mod Tasks
 mod TermShapes
 mod WidePlaces
 mod Codable
+mod FewerGoals

@@ -53,7 +53,7 @@ module _ (c : Contents) (ranges : List Range) (goals pending : List FlatGoal) (s
       ∙ sym (take-map (tree_of c ranges base) start pending)
 
 -- the last goals as a part
-part_last : (c : Contents) (ranges : List Range) (goals all : List FlatGoal) (more : List model.Goal) (a : Part)
+pub part_last : (c : Contents) (ranges : List Range) (goals all : List FlatGoal) (more : List model.Goal) (a : Part)
     → trees c ranges all ≡ trees c ranges goals ++ more → a.from ≡ length goals → a.to ≡ length all
     → part_of (trees c ranges all) a ≡ more
 part_last c ranges goals all more a e from to =

@@ -8,3 +8,4 @@ pub mod GoalStores
 pub mod Parts
 pub mod PartVerdicts
 pub mod Codable
+pub mod FewerGoals

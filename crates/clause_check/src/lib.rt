@@ -17,6 +17,7 @@ mod faults;
 mod forms;
 mod goals;
 mod heads;
+mod kept_goals;
 mod program;
 mod ranges;
 mod terms;

@@ -1,10 +1,12 @@
 //! The program of a text: its goals, clauses and queries over one pool of terms.
 
-ghost use Rattle.std.specs.Prelude.{◌≡◌, ◌<◌, length, All, IsTrue};
+ghost use Rattle.std.specs.Prelude.{◌≡◌, ◌<◌, length, map, All, IsTrue, OnOk, OnErr};
 ghost use Rattle.fd_language.specs.RangeVerdict.{is_accepted};
-ghost use Rattle.clause_check.specs.Programs.{clause_at, goal_at, program_of_parts, query_at, range_at, IsGoal, IsPart, IsProgram};
+ghost use Rattle.clause_check.specs.Programs.{clause_at, goal_at, goals_in, program_in, program_of_parts, query_at, range_at, IsGoal, IsPart, IsProgram};
+ghost use Rattle.clause_check.specs.FewerGoals.{keeping_of};
 
-use fd_language::INFINITY;
+use crate::kept_goals::put_kept;
+use fd_language::{INFINITY, NoMemory};
 use fd_model::kinds::{BuiltinKind, ConstraintKind, Order};
 use monotone_check::Checked;
 use std::marker::Model;
@@ -119,6 +121,33 @@ impl Program {
         ensures { IsProgram self.now }
     {
         let _count = self.queries.len();
+    }
+
+    /// Leaves to the query q those of its goals that are kept, with a labelling in place of each search for its best leaf. The kept
+    /// goals get new numbers, behind all others. For want of memory the program stays as it was.
+    pub fn keep_goals(&mut self, q: usize, kept: &[bool]) -> Result<(), NoMemory>
+        requires query { q < length self.old.queries }
+        requires each { length kept.now ≡ length (goals_in self.old (query_at self.old q).goals) }
+        ensures kept { OnOk result
+            (program_in self.new ≡ keeping_of q kept.now (program_in self.old)) }
+        ensures names { OnOk result (map (λ x. x.names) self.new.queries
+            ≡ map (λ x. x.names) self.old.queries) }
+        ensures pool { OnOk result (self.new.pool ≡ self.old.pool) }
+        ensures no_memory { OnErr result (self.new ≡ self.old) }
+    {
+        let part = self.queries[q].goals;
+        let from = self.goals.len();
+        match put_kept(&mut self.goals, part, kept) {
+            Ok(()) => {
+                let to = self.goals.len();
+                self.queries[q].goals = Part { from, to };
+                Ok(())
+            }
+            Err(NoMemory) => {
+                self.goals.truncate(from);
+                Err(NoMemory)
+            }
+        }
     }
 
     /// How many goals there are, in all clauses and queries.
