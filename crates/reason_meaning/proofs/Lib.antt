@@ -1,0 +1,6 @@
+mod FlatOutcomes
+mod SameClauses
+mod FlatTold
+mod KeptPrograms
+mod LookedAt
+mod OneGoalEach

@@ -1,0 +1,10 @@
+pub mod FewerGoals
+pub mod Outcomes
+pub mod Reasons
+pub mod Staying
+pub mod Words
+pub mod TextQueries
+pub mod Told
+pub mod Output
+pub mod Laws
+pub mod ToldLaws
