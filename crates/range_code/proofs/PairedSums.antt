@@ -15,7 +15,7 @@ use Rattle.range_code.specs.declared.form.Bound.{Bound}
 use Rattle.range_code.specs.declared.form.Division.TheVariants.{Whole}
 use Rattle.range_code.specs.declared.told_forms.Pairing.{Pairing}
 use Rattle.range_code.specs.Frames.{slot_set, family_of}
-use Rattle.range_code.specs.Forms.{end_of, other_end, sum_of, product_value, AreSeen, AreNarrow}
+use Rattle.range_code.specs.Forms.{end_of, sum_of, product_value, AreSeen, AreNarrow}
 use Rattle.range_code.specs.QuickForms.{IsLessOf}
 use Rattle.range_code.specs.SpelledRanges.{disjunction_range}
 use Rattle.range_code.specs.Work.{filled_set}
@@ -23,17 +23,8 @@ use Rattle.range_code.specs.Choices.{is_in}
 use Rattle.domain_ranges.specs.Narrowing.{between}
 use Rattle.std.proofs.lemmas.List.Elements.{filter_agree}
 use Rattle.range_code.proofs.EndQuotients.{up_quotient}
-use Rattle.range_code.specs.PairedSums.{end_toward, extreme, extreme_sum, width_of_pairing, IsPairingOf}
+use Rattle.range_code.specs.PairedSums.{extreme, extreme_sum, width_of_pairing, IsPairingOf}
 use Rattle.range_code.proofs.Forms.{plus_none, whole_value, product_small, fits_small}
-
--- the end toward which a product is read, by the sign of its weight
-pub toward_below : (e : End) (w : ℤ) → w <ℤ pos 0 → end_toward e w ≡ other_end e
-toward_below e (pos n) h = absurd (let z : ⊥ = omega (arith, ints, h) in z)
-toward_below e (negsuc n) h = refl
-
-pub toward_above : (e : End) (w : ℤ) → pos 0 ≤ℤ w → end_toward e w ≡ e
-toward_above e (pos n) h = refl
-toward_above e (negsuc n) h = absurd (let z : ⊥ = omega (arith, ints, h) in z)
 
 -- the quotient of a sum and a number beyond it
 pub down_one : (u : ℤ) (n : ℕ) → pos 0 ≤ℤ u → nat_abs u ≤ n → div_down INFINITY (u +ℤ pos (suc n)) (pos (suc n)) ≡ pos 1
@@ -44,7 +35,7 @@ down_one (negsuc k) n h l = absurd (let z : ⊥ = omega (arith, ints, h) in z)
 pub down_none : (u : ℤ) (n : ℕ) → u <ℤ pos 0 → nat_abs u ≤ n → div_down INFINITY (u +ℤ pos (suc n)) (pos (suc n)) ≡ pos 0
 down_none (pos k) n h l = absurd (let z : ⊥ = omega (arith, ints, h) in z)
 down_none (negsuc k) n h l =
-    let k_low : suc k ≤ n = l in
+    let low : suc k ≤ n = l in
     let e : negsuc k +ℤ pos (suc n) ≡ pos (n - k) = grind (arith, ints) in
     let s : n - k < suc n = omega arith in
     ap (λ z. div_down INFINITY z (pos (suc n))) e ∙ ap pos (div-eq_of_lt s)
@@ -63,12 +54,6 @@ up_none (negsuc (suc j)) n h l =
     let e : negsuc (suc j) +ℤ pos 1 ≡ negsuc j = grind (arith, ints) in
     let s : suc j < suc n = omega (arith, l) in
     ap (λ z. div_up INFINITY z (pos (suc n))) e ∙ ap (λ x. neg_ℤ (pos x)) (div-eq_of_lt s)
-
--- a number less an end: the only product
-only_one : (ms : List Product) (d : Product) → length ms ≡ 1 → ms ≡ get_or ms 0 d ∷ []
-only_one [] d e = absurd (let k : ⊥ = omega (arith, e) in k)
-only_one (m ∷ []) d e = refl
-only_one (m ∷ k ∷ ms) d e = absurd (let z : ⊥ = omega (arith, e) in z)
 
 -- the sum of the products by the pairing
 pub sum_of_pairing : (sets : List (List ℕ)) (ms : List Product) (c : ℤ) (toward : End) (args : List Arg) (p : Pairing) → IsPairingOf ms c toward args p
@@ -97,6 +82,11 @@ disjunction_is S p x y = let l = least (S x) + least (S y) in let g = greatest (
     (universe INFINITY)
 
 -- a number less an end
+only_one : (ms : List Product) (d : Product) → length ms ≡ 1 → ms ≡ get_or ms 0 d ∷ []
+only_one [] d e = absurd (let k : ⊥ = omega (arith, e) in k)
+only_one (m ∷ []) d e = refl
+only_one (m ∷ k ∷ ms) d e = absurd (let z : ⊥ = omega (arith, e) in z)
+
 pub less_once : (a : ℤ) (n : ℕ) → a +ℤ negsuc 0 *ℤ pos n ≡ a -ℤ pos n
 less_once a n = grind (arith, ints)
 
