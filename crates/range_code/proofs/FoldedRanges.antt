@@ -31,10 +31,10 @@ use Rattle.domain_ranges.specs.Narrowing.{between}
 use Rattle.range_code.specs.Work.{IsLimited, operated, filled_value, filled_set, Fits, RangeFits}
 use Rattle.range_code.specs.declared.form.Evaluation.{Evaluation}
 use Rattle.range_code.specs.declared.form.Shift.{Shift}
-use Rattle.range_code.specs.declared.form.Evaluation.TheVariants.{Nodes, Differs, Above, Below, Between, Row, Without, Except, Chosen, Counter, Counted, Products, Quotients}
+use Rattle.range_code.specs.declared.form.Evaluation.TheVariants.{Nodes, Differs, Above, Below, Between, Row, Without, Except, Chosen, Counter, Counted, Products, Quotients, Disjunction}
 use Rattle.range_code.specs.declared.form.Bound.{Bound}
 use Rattle.range_code.specs.Forms.{IsShiftUsable, IsUsable, IsInterval, IsEvaluation}
-use Rattle.range_code.specs.SpelledRanges.{counter_range, counted_range, products_range, quotients_range, MeansSame}
+use Rattle.range_code.specs.SpelledRanges.{counter_range, counted_range, products_range, quotients_range, disjunction_range, MeansSame}
 use Rattle.range_code.proofs.Tables.{one_is, union_is, inter_is, outside_is, plus_is, minus_is, times_is, over_is}
 
 -- the last piece of a list is the first one of the list turned round
@@ -304,6 +304,7 @@ form_folded r (Counter v slot) h = same_folded r (counter_range v slot) h
 form_folded r (Counted v slot) h = (same_folded r (counted_range v slot) h.0, h.1)
 form_folded r (Products x y) h = same_folded r (products_range x y) h
 form_folded r (Quotients x y) h = same_folded r (quotients_range x y) h
+form_folded r (Disjunction x y) h = same_folded r (disjunction_range x y) h
 
 -- The walk over the nodes, with the last piece first.
 abbrev pub walked : List Piece → List RangeNode → List Piece

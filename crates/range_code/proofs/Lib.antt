@@ -22,6 +22,7 @@ mod RangeTests
 mod RangeRuns
 mod CounterSets
 mod EndQuotients
+mod PairedSums
 mod QuickSets
 mod Forms
 mod Choices

@@ -1,9 +1,8 @@
 -- Quick forms reach the sets of their ranges.
-use Rattle.std.proofs.Common.{◌≡◌, ℕ, ◌+◌, ◌*◌, ◌-◌, ◌^◌, ◌<◌, ◌≤◌, ℤ, pos, negsuc, nat_abs, ◌+ℤ◌, ◌-ℤ◌, ◌*ℤ◌, Bool, true, false, cond, List, [], ◌∷◌, length}
+use Rattle.std.proofs.Common.{◌≡◌, ℕ, ◌+◌, ◌*◌, ◌-◌, ◌/◌, ◌^◌, ◌<◌, ◌≤◌, min, ℤ, pos, negsuc, nat_abs, ◌+ℤ◌, ◌-ℤ◌, ◌*ℤ◌, Bool, true, false, cond, List, [], ◌∷◌, length}
 use Rattle.std.proofs.Common.{get_or, refl, sym, ◌∙◌, ap, subst, arith}
 use Rattle.std.proofs.Math.Bool.{or-false}
 use Rattle.std.proofs.Math.IntN.{+ℤ_assoc, +ℤ_comm, +ℤ_idl}
-use Rattle.std.proofs.lemmas.Int.{ints}
 use Rattle.std.specs.List.{All, list_any}
 use Rattle.fd_language.specs.declared.TheConstants.{INFINITY}
 use Rattle.fd_language.specs.declared.range_node.RangeNode.{RangeNode}
@@ -22,9 +21,10 @@ use Rattle.range_code.specs.declared.form.End.TheVariants.{Least, Greatest}
 use Rattle.range_code.specs.declared.form.Bound.{Bound}
 use Rattle.range_code.specs.declared.form.Product.{Product}
 use Rattle.range_code.specs.declared.form.Shift.{Shift}
-use Rattle.range_code.specs.declared.form.Division.TheVariants.{Whole}
-use Rattle.range_code.specs.declared.quick_forms.Quick.TheVariants.{Within, Differs, Above, Below, Moved, Plus, Minus, Counter, Counted, Products, Quotients}
+use Rattle.range_code.specs.declared.form.Division.TheVariants.{Whole, Down, Up}
+use Rattle.range_code.specs.declared.quick_forms.Quick.TheVariants.{Within, Differs, Above, Below, Moved, Plus, Minus, Counter, Counted, Products, Quotients, UpTo, From, MayBe, MustBe, Turned, Conjunct, Disjunct, Disjunction}
 use Rattle.range_code.specs.declared.quick_forms.Pair.{Pair}
+use Rattle.range_code.specs.declared.told_forms.Pairing.{Pairing}
 use Rattle.range_code.specs.declared.Reach.TheVariants as reach
 use Rattle.range_code.specs.Frames.{IsArgumentFrame, posted, family_of, slot_set, slot_integer, slot_variable}
 use Rattle.range_code.specs.Nodes.{IsSeen, IsReadable}
@@ -32,11 +32,13 @@ use Rattle.range_code.specs.ValSlots.{val_slots}
 use Rattle.range_code.specs.Slots.{in_slots}
 use Rattle.range_code.specs.Steps.{outside}
 use Rattle.range_code.specs.Work.{filled_set}
-use Rattle.range_code.specs.Forms.{end_of, sum_of, product_value, bound_value, AreNarrow, AreSeen, IsInterval, IsException, IsAbove, IsBelow, IsShiftOf}
+use Rattle.range_code.specs.Forms.{end_of, sum_of, product_value, divided, bound_value, AreNarrow, AreSeen, IsInterval, IsException, IsAbove, IsBelow, IsShiftOf}
 use Rattle.range_code.specs.Forms.{all_but_val, IsNumber}
-use Rattle.range_code.specs.SpelledRanges.{counter_range, counted_range, products_range, quotients_range, MeansSame}
+use Rattle.range_code.specs.SpelledRanges.{counter_range, counted_range, products_range, quotients_range, disjunction_range, MeansSame}
 use Rattle.range_code.specs.SetReaches.{IsReach}
-use Rattle.range_code.specs.QuickForms.{between_parameters, counter_least, counter_greatest, counted_reach, IsQuick, IsSmall, IsPairOf}
+use Rattle.range_code.specs.QuickForms.{between_parameters, counter_least, counter_greatest, counted_reach, IsQuick, IsSmall, IsPairOf, IsLessOf}
+use Rattle.range_code.specs.PairedSums.{extreme_sum, far_of, width_of_pairing, IsPairingOf}
+use Rattle.range_code.proofs.PairedSums.{sum_of_pairing, far_from, disjunction_is, less_once}
 use Rattle.range_code.proofs.Forms.{whole_value, plus_none, once_is, but_val_set, except_one}
 use Rattle.range_code.proofs.CounterSets.{counter_is, counted_is}
 use Rattle.range_code.proofs.Frames.{all_readable}
@@ -99,9 +101,6 @@ pub one_alone : (ys : List ℕ) (n : ℕ) → length ys ≡ 1 → get_or ys 0 0 
 one_alone [] n l e = absurd (let k : ⊥ = omega (arith, l) in k)
 one_alone (y ∷ []) n l e = ap (λ k. k ∷ []) e
 one_alone (y ∷ z ∷ ys) n l e = absurd (let k : ⊥ = omega (arith, l) in k)
-
-less_once : (a : ℤ) (n : ℕ) → a +ℤ negsuc 0 *ℤ pos n ≡ a -ℤ pos n
-less_once a n = grind (arith, ints)
 
 module _ (r : Range) (args : List Arg) (accepted : is_accepted INFINITY r ≡ true) where
   nodes : (count : ℕ) → IsArgumentFrame count r args → All (IsReadable count args) (nodes_of (in_slots r))
@@ -217,6 +216,16 @@ module _ (r : Range) (args : List Arg) (accepted : is_accepted INFINITY r ≡ tr
             (div_down INFINITY (pos (greatest (family_of sets v))) (pos (least (family_of sets w))))) e f;
       }
 
+      pub disjunction_quick : MeansSame (in_slots r) (disjunction_range x y) → IsQuick r args (Disjunction k j)
+      disjunction_quick m = record {
+        within = λ count fit. let all = there_all (disjunction_range x y) m count fit in (
+          there count x k e (all 0 node.One (omega arith)),
+          there count y j f (all 1 node.One (omega arith)),
+        );
+        reach = λ sets fit some. same_set (disjunction_range x y) m sets fit some ∙ (disjunction_is (slot_set sets args) (slot_integer args) x y
+            ∙ two (λ v w. between (pos ((least (family_of sets v) + least (family_of sets w) + 1) / 2)) (pos (min 1 (greatest (family_of sets v) + greatest (family_of sets w))))) e f);
+      }
+
     module _ (a b : Bound) (h : IsInterval (in_slots r) a b) where
       row : (sets : List (List ℕ)) → IsArgumentFrame (length sets) r args → ((x : ℕ) → is_none_left (family_of sets x) ≡ false) → (y z : ℤ)
           → bound_value (slot_set sets args) a ≡ y → bound_value (slot_set sets args) b ≡ z → set sets ≡ between y z
@@ -254,4 +263,80 @@ module _ (r : Range) (args : List Arg) (accepted : is_accepted INFINITY r ≡ tr
               ∙ two (λ v w. (p.constant +ℤ pos (least (family_of sets v))) -ℤ pos (greatest (family_of sets w))) e f))
               (n.value (slot_set sets args) ∙ (less_once (p.constant +ℤ pos (greatest (slot_set sets args p.first))) (least (slot_set sets args p.second))
               ∙ two (λ v w. (p.constant +ℤ pos (greatest (family_of sets v))) -ℤ pos (least (family_of sets w))) e f));
+        }
+
+      -- a bound that is a sum of one product or two
+      high_seen : (count : ℕ) → IsArgumentFrame count r args → AreSeen count args b.products.items
+      high_seen count fit = h.high.seen count args (nodes count fit)
+
+      module _ (ms : List Product) (p : Pairing) where
+        pub up_to_quick : (z : ℤ) (w : ℕ) → ((S : Family) → bound_value S a ≡ z) → z ≡ pos 0 → b.division ≡ Whole → ms ≡ b.products.items → IsPairingOf ms b.constant Greatest args p
+            → w ≡ width_of_pairing p → w ≤ 2 ^ 63 - 1 → IsQuick r args (UpTo p)
+        up_to_quick z w none is_none whole e m width narrow = record {
+          within = λ count fit. let k = m.within count (subst (AreSeen count args) (sym e) (high_seen count fit)) in record { one = k.0; other = k.1; width = subst (λ n. n ≤ 2 ^ 63 - 1) width narrow };
+          reach = λ sets fit some. row sets fit some _ _ (none (slot_set sets args) ∙ is_none)
+              (whole_value (slot_set sets args) b whole ∙ (ap (λ xs. b.constant +ℤ sum_of (slot_set sets args) xs) (sym e) ∙ sum_of_pairing sets ms b.constant Greatest args p m));
+        }
+
+        pub from_quick : (z : ℤ) (w : ℕ) → ((S : Family) → bound_value S b ≡ z) → z ≡ pos INFINITY → a.division ≡ Whole → ms ≡ a.products.items → IsPairingOf ms a.constant Least args p
+            → w ≡ width_of_pairing p → w ≤ 2 ^ 63 - 1 → IsQuick r args (From p)
+        from_quick z w all is_all whole e m width narrow = record {
+          within = λ count fit. let k = m.within count (subst (AreSeen count args) (sym e) (low_seen count fit)) in record { one = k.0; other = k.1; width = subst (λ n. n ≤ 2 ^ 63 - 1) width narrow };
+          reach = λ sets fit some. row sets fit some _ _
+              (whole_value (slot_set sets args) a whole ∙ (ap (λ xs. a.constant +ℤ sum_of (slot_set sets args) xs) (sym e) ∙ sum_of_pairing sets ms a.constant Least args p m))
+              (all (slot_set sets args) ∙ is_all);
+        }
+
+        pub may_be_quick : (z d c : ℤ) → ((S : Family) → bound_value S a ≡ z) → z ≡ pos 0 → b.division ≡ Down d → c ≡ b.constant -ℤ d → ms ≡ b.products.items
+            → IsPairingOf ms c Greatest args p → d ≡ far_of p → width_of_pairing p ≤ 2 ^ 63 - 1 → IsQuick r args (MayBe p)
+        may_be_quick z d c none is_none down k e m far narrow = record {
+          within = λ count fit. let w = m.within count (subst (AreSeen count args) (sym e) (high_seen count fit)) in record { one = w.0; other = w.1; width = narrow };
+          reach = λ sets fit some. row sets fit some _ _ (none (slot_set sets args) ∙ is_none)
+              (two (λ v x. divided v (b.constant +ℤ sum_of (slot_set sets args) x)) down (sym e)
+              ∙ two (λ z x. div_down INFINITY z x) (far_from sets ms b.constant d c Greatest args p m k ∙ ap (λ x. extreme_sum (family_of sets) Greatest p +ℤ x) far) far);
+        }
+
+        pub must_be_quick : (z d c : ℤ) → ((S : Family) → bound_value S b ≡ z) → z ≡ pos INFINITY → a.division ≡ Up d → c ≡ a.constant -ℤ pos 1 → ms ≡ a.products.items
+            → IsPairingOf ms c Least args p → d ≡ far_of p → width_of_pairing p ≤ 2 ^ 63 - 1 → IsQuick r args (MustBe p)
+        must_be_quick z d c all is_all up k e m far narrow = record {
+          within = λ count fit. let w = m.within count (subst (AreSeen count args) (sym e) (low_seen count fit)) in record { one = w.0; other = w.1; width = narrow };
+          reach = λ sets fit some. row sets fit some _ _
+              (two (λ v x. divided v (a.constant +ℤ sum_of (slot_set sets args) x)) up (sym e)
+              ∙ two (λ z x. div_up INFINITY z x) (far_from sets ms a.constant (pos 1) c Least args p m k) far)
+              (all (slot_set sets args) ∙ is_all);
+        }
+
+      -- the ranges of gates
+      pub turned_quick : (s t : Shift) (k : ℕ) → slot_variable args s.slot ≡ k → s.slot ≡ t.slot → s.constant ≡ t.constant → IsLessOf a Greatest t
+          → IsLessOf b Least s → IsQuick r args (Turned k s.constant)
+      turned_quick s t k e i j n m = record {
+        within = λ count fit. (there count s.slot k e (m.seen count args (high_seen count fit)), m.width h.high.width);
+        reach = λ sets fit some. row sets fit some _ _
+            (n.value (slot_set sets args) ∙ two (λ x y. x -ℤ pos (greatest (slot_set sets args y))) (sym j) (sym i) ∙ ap (λ v. s.constant -ℤ pos (greatest (family_of sets v))) e)
+            (m.value (slot_set sets args) ∙ ap (λ v. s.constant -ℤ pos (least (family_of sets v))) e);
+      }
+
+      module _ (s : Shift) (p : Pair) (x y : ℕ) (e : slot_variable args p.first ≡ x) (f : slot_variable args p.second ≡ y) (same : s.slot ≡ p.first) (none : s.constant ≡ pos 0) where
+        moved_none : (z : ℤ) → s.constant +ℤ z ≡ z
+        moved_none z = ap (λ c. c +ℤ z) none ∙ +ℤ_idl z
+
+        pub conjunct_quick : p.constant ≡ pos 1 → IsShiftOf a Least s → IsPairOf b Greatest (negsuc 0) Least p → IsQuick r args (Conjunct x y)
+        conjunct_quick one n m = record {
+          within = λ count fit. let k = m.seen count args (high_seen count fit) in (there count p.first x e k.0, there count p.second y f k.1);
+          reach = λ sets fit some. row sets fit some _ _
+              (n.value (slot_set sets args) ∙ (moved_none (pos (least (slot_set sets args s.slot))) ∙ ap (λ v. pos (least (family_of sets v))) (ap (slot_variable args) same ∙ e)))
+              (m.value (slot_set sets args) ∙ (less_once (p.constant +ℤ pos (greatest (slot_set sets args p.first))) (least (slot_set sets args p.second))
+              ∙ (ap (λ c. (c +ℤ pos (greatest (slot_set sets args p.first))) -ℤ pos (least (slot_set sets args p.second))) one
+              ∙ two (λ v w. (pos 1 +ℤ pos (greatest (family_of sets v))) -ℤ pos (least (family_of sets w))) e f)));
+        }
+
+        pub disjunct_quick : p.constant ≡ pos 0 → IsPairOf a Least (negsuc 0) Greatest p → IsShiftOf b Greatest s → IsQuick r args (Disjunct x y)
+        disjunct_quick zero m n = record {
+          within = λ count fit. let k = m.seen count args (low_seen count fit) in (there count p.first x e k.0, there count p.second y f k.1);
+          reach = λ sets fit some. row sets fit some _ _
+              (m.value (slot_set sets args) ∙ (less_once (p.constant +ℤ pos (least (slot_set sets args p.first))) (greatest (slot_set sets args p.second))
+              ∙ (ap (λ c. (c +ℤ pos (least (slot_set sets args p.first))) -ℤ pos (greatest (slot_set sets args p.second))) zero
+              ∙ (ap (λ c. c -ℤ pos (greatest (slot_set sets args p.second))) (+ℤ_idl (pos (least (slot_set sets args p.first))))
+              ∙ two (λ v w. pos (least (family_of sets v)) -ℤ pos (greatest (family_of sets w))) e f))))
+              (n.value (slot_set sets args) ∙ (moved_none (pos (greatest (slot_set sets args s.slot))) ∙ ap (λ v. pos (greatest (family_of sets v))) (ap (slot_variable args) same ∙ e)));
         }

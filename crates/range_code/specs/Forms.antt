@@ -16,7 +16,7 @@ use Rattle.range_code.specs.declared.form.Division.{Division}
 use Rattle.range_code.specs.declared.form.Division.TheVariants.{Whole, Down, Up}
 use Rattle.range_code.specs.declared.form.Bound.{Bound}
 use Rattle.range_code.specs.declared.form.Evaluation.{Evaluation}
-use Rattle.range_code.specs.declared.form.Evaluation.TheVariants.{Nodes, Differs, Above, Below, Between, Row, Without, Except, Chosen, Counter, Counted, Products, Quotients}
+use Rattle.range_code.specs.declared.form.Evaluation.TheVariants.{Nodes, Differs, Above, Below, Between, Row, Without, Except, Chosen, Counter, Counted, Products, Quotients, Disjunction}
 use Rattle.range_code.specs.declared.form.Leaf.{Leaf}
 use Rattle.range_code.specs.declared.form.Leaf.TheVariants.{Number, Read}
 use Rattle.range_code.specs.declared.form.Addend.{Addend}
@@ -24,7 +24,7 @@ use Rattle.range_code.specs.Nodes.{IsSeen, IsReadable}
 use Rattle.range_code.specs.Choices.{IsChoice}
 use Rattle.range_code.specs.Work.{filled_value, filled_set}
 use Rattle.range_code.specs.Steps.{outside}
-use Rattle.range_code.specs.SpelledRanges.{counter_range, counted_range, products_range, quotients_range, MeansSame}
+use Rattle.range_code.specs.SpelledRanges.{counter_range, counted_range, products_range, quotients_range, disjunction_range, MeansSame}
 
 -- one end of a set
 abbrev pub end_of : List ℕ → End → ℕ
@@ -151,6 +151,7 @@ IsEvaluation r (Counter v slot) = MeansSame r (counter_range v slot)
 IsEvaluation r (Counted v slot) = MeansSame r (counted_range v slot) × IsNumber v
 IsEvaluation r (Products x y) = MeansSame r (products_range x y)
 IsEvaluation r (Quotients x y) = MeansSame r (quotients_range x y)
+IsEvaluation r (Disjunction x y) = MeansSame r (disjunction_range x y)
 
 -- the form reads one end of one domain
 abbrev pub IsShifted : Evaluation → Type 0

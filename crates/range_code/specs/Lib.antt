@@ -17,4 +17,5 @@ pub mod Choices
 pub mod SpelledRanges
 pub mod Forms
 pub mod SetReaches
+pub mod PairedSums
 pub mod QuickForms

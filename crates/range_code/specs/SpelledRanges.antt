@@ -32,6 +32,10 @@ products_range x y = Span (Mul (Min x) (Min y)) (Mul (Max x) (Max y))
 abbrev pub quotients_range : ℕ → ℕ → Range
 quotients_range x y = Span (DivUp (Min x) (Max y)) (DivDown (Max x) (Min y))
 
+-- In 0 to 1, from half the sum of the least members of two slots, rounded up, to the sum of the greatest.
+abbrev pub disjunction_range : ℕ → ℕ → Range
+disjunction_range x y = Inter (Span (DivUp (Add (Min x) (Min y)) (Number (pos 2))) (Add (Max x) (Max y))) (Span (Number (pos 0)) (Number (pos 1)))
+
 -- The range has the numbers of the other one, and the other one may be read wherever it may be.
 pub record MeansSame (r q : Range) : Type 0 where
   pub set : (S : Family) (p : ℕ → ℤ) → filled_set S p r ≡ filled_set S p q

@@ -73,6 +73,7 @@ pub(crate) enum Evaluation {
     Counted(i64, usize),
     Products(usize, usize),
     Quotients(usize, usize),
+    Disjunction(usize, usize),
 }
 
 /// A term without operators.
@@ -630,7 +631,7 @@ pub(crate) fn is_whole(division: Division) -> bool
 }
 
 /// The number that a bound is, where it reads nothing and isn't divided.
-fn number_of(bound: &Bound) -> Option<i64>
+pub(crate) fn number_of(bound: &Bound) -> Option<i64>
     ensures { IfSome result (λ z. (S : Family) → bound_value S bound.now ≡ z) }
 {
     if !is_whole(bound.division) {

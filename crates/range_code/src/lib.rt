@@ -31,6 +31,7 @@ mod instr;
 mod quick_forms;
 mod renamed_ranges;
 mod spelled_forms;
+mod told_forms;
 mod work;
 
 use crate::compile::{copy_range, height_of, needs_of_slots, put_in_slots, reads_of};

@@ -1,6 +1,6 @@
 //! Ranges whose set one look at a variable or two tells, with the variables in hand.
 
-ghost use Rattle.std.specs.Prelude.{◌≡◌, ◌<◌, ◌≤◌, ◌^◌, ◌+◌, ◌-◌, pos, ◌+ℤ◌, ◌-ℤ◌, ◌*ℤ◌, nat_abs, List, [], ◌∷◌, ℕ, length, IfSome, IsTrue};
+ghost use Rattle.std.specs.Prelude.{◌≡◌, ◌<◌, ◌≤◌, ◌^◌, ◌+◌, ◌-◌, pos, ◌+ℤ◌, ◌-ℤ◌, ◌*ℤ◌, ◌/◌, min, nat_abs, List, [], ◌∷◌, ℕ, length, IfSome, IsTrue};
 ghost use Rattle.fd_language.specs.Range.{Range, div_down, div_up, greatest, least};
 ghost use Rattle.fd_language.specs.PostfixRanges.{nodes_of};
 ghost use Rattle.fd_language.specs.RangeVerdict.{is_accepted};
@@ -8,12 +8,14 @@ ghost use Rattle.range_code.specs.Frames.{slot_variable, slot_integer};
 ghost use Rattle.range_code.specs.Forms.{IsEvaluation, IsException, IsInterval, IsNumber};
 ghost use Rattle.range_code.specs.ValSlots.{val_slots};
 ghost use Rattle.range_code.specs.Slots.{in_slots};
-ghost use Rattle.range_code.specs.QuickForms.{IsPairOf, IsQuick, IsWithin, between_parameters, counted_reach as counted_in, counter_greatest, counter_least, reached};
+ghost use Rattle.range_code.specs.QuickForms.{IsLessOf, IsPairOf, IsQuick, IsSmall, IsWithin, between_parameters, counted_reach as counted_in, counter_greatest, counter_least, reached};
 
 use crate::form::{
-    Bound, End, Evaluation, Product, add_end, end_of, is_same_end, is_span, is_whole, shift_of,
+    Bound, End, Evaluation, Product, Shift, add_end, end_of, is_same_end, is_span, is_whole,
+    shift_of,
 };
 use crate::frame::{Arg, is_open};
+use crate::told_forms::{Pairing, from, may_be, must_be, up_to};
 use crate::{RangeCode, Reach};
 use domain_ranges::{Domain, Membership, View};
 use fd_language::{INFINITY, RangeNode};
@@ -45,6 +47,22 @@ pub enum Quick {
     Products(usize, usize),
     /// All numbers whose product with a member of the second variable may be one of the first.
     Quotients(usize, usize),
+    /// From 0 to the greatest that the sum may be.
+    UpTo(Pairing),
+    /// From the least that the sum may be.
+    From(Pairing),
+    /// From 0, to 1 where the sum may be 0 or more, and else to 0.
+    MayBe(Pairing),
+    /// From 1 where the sum is always 0 or more, and else from 0.
+    MustBe(Pairing),
+    /// From the number less the greatest member of the variable to the number less the least.
+    Turned(usize, i64),
+    /// From the least member of the first variable to its greatest and 1, less the least of the second.
+    Conjunct(usize, usize),
+    /// From the least member of the first variable less the greatest of the second to the greatest of the first.
+    Disjunct(usize, usize),
+    /// In 0 to 1, from half the sum of the least members, rounded up, to the sum of the greatest.
+    Disjunction(usize, usize),
 }
 
 /// The sum of a constant and an end of the domain in a slot, and another end in a second slot.
@@ -56,7 +74,7 @@ pub(crate) struct Pair {
 }
 
 /// The variable in the slot, if there is one.
-fn variable_at(args: &[Arg], slot: usize) -> Option<usize>
+pub(crate) fn variable_at(args: &[Arg], slot: usize) -> Option<usize>
     ensures { IfSome result (λ k. slot_variable args.now slot ≡ k) }
 {
     match args.get(slot) {
@@ -144,6 +162,25 @@ fn pair_of(bound: &Bound, end: End, weight: i64, other: End) -> Option<Pair>
     None
 }
 
+/// The number and the slot of a bound that is a number less an end in the slot, and isn't divided.
+fn less_of(bound: &Bound, end: End) -> Option<Shift>
+    ensures { IfSome result (IsLessOf bound.now end) }
+{
+    if !is_whole(bound.division) {
+        return None;
+    }
+    let [only] = bound.products.as_slice() else {
+        return None;
+    };
+    if !is_product(*only, -1, end) {
+        return None;
+    }
+    Some(Shift {
+        constant: bound.constant,
+        slot: only.slot,
+    })
+}
+
 fn is_same_pair(a: Pair, b: Pair) -> bool
     ensures { IsTrue result → a ≡ b }
 {
@@ -209,7 +246,81 @@ fn quick_row(low: &Bound, high: &Bound, args: &[Arg]) -> Option<Quick>
     if let Some(quick) = plus(low, high, args) {
         return Some(quick);
     }
-    minus(low, high, args)
+    if let Some(quick) = minus(low, high, args) {
+        return Some(quick);
+    }
+    turned(low, high, args)
+}
+
+/// The interval between two bounds that are a number less the ends of one variable.
+fn turned(low: &Bound, high: &Bound, args: &[Arg]) -> Option<Quick>
+    ensures { IfSome result (λ quick. (r : Range) → IsTrue (is_accepted INFINITY r)
+        → val_slots r ≡ [] → IsInterval (in_slots r) low.now high.now
+        → IsQuick r args.now quick) }
+{
+    let greatest = less_of(low, End::Greatest)?;
+    let least = less_of(high, End::Least)?;
+    if least.slot != greatest.slot || least.constant != greatest.constant {
+        return None;
+    }
+    let variable = variable_at(args, least.slot)?;
+    Some(Quick::Turned(variable, least.constant))
+}
+
+/// The interval of a side of a conjunction.
+fn conjunct(low: &Bound, high: &Bound, args: &[Arg]) -> Option<Quick>
+    ensures { IfSome result (λ quick. (r : Range) → IsTrue (is_accepted INFINITY r)
+        → val_slots r ≡ [] → IsInterval (in_slots r) low.now high.now
+        → IsQuick r args.now quick) }
+{
+    let least = shift_of(low, End::Least)?;
+    let rest = pair_of(high, End::Greatest, -1, End::Least)?;
+    if least.constant != 0 || rest.constant != 1 || least.slot != rest.first {
+        return None;
+    }
+    let one = variable_at(args, rest.first)?;
+    let other = variable_at(args, rest.second)?;
+    Some(Quick::Conjunct(one, other))
+}
+
+/// The interval of a side of a disjunction.
+fn disjunct(low: &Bound, high: &Bound, args: &[Arg]) -> Option<Quick>
+    ensures { IfSome result (λ quick. (r : Range) → IsTrue (is_accepted INFINITY r)
+        → val_slots r ≡ [] → IsInterval (in_slots r) low.now high.now
+        → IsQuick r args.now quick) }
+{
+    let greatest = shift_of(high, End::Greatest)?;
+    let rest = pair_of(low, End::Least, -1, End::Greatest)?;
+    if greatest.constant != 0 || rest.constant != 0 || greatest.slot != rest.first {
+        return None;
+    }
+    let one = variable_at(args, rest.first)?;
+    let other = variable_at(args, rest.second)?;
+    Some(Quick::Disjunct(one, other))
+}
+
+/// The interval between two bounds of a comparison that a variable tells, or of a gate.
+fn quick_between(low: &Bound, high: &Bound, args: &[Arg]) -> Option<Quick>
+    ensures { IfSome result (λ quick. (r : Range) → IsTrue (is_accepted INFINITY r)
+        → val_slots r ≡ [] → IsInterval (in_slots r) low.now high.now
+        → IsQuick r args.now quick) }
+{
+    if let Some(sum) = may_be(low, high, args) {
+        return Some(Quick::MayBe(sum));
+    }
+    if let Some(sum) = must_be(low, high, args) {
+        return Some(Quick::MustBe(sum));
+    }
+    if let Some(sum) = up_to(low, high, args) {
+        return Some(Quick::UpTo(sum));
+    }
+    if let Some(sum) = from(low, high, args) {
+        return Some(Quick::From(sum));
+    }
+    if let Some(quick) = conjunct(low, high, args) {
+        return Some(quick);
+    }
+    disjunct(low, high, args)
 }
 
 /// All numbers but one, where that is a variable's value plus a constant.
@@ -237,6 +348,12 @@ fn quick_without_val(form: &Evaluation, args: &[Arg]) -> Option<Quick>
 {
     match form {
         Evaluation::Row(low, high) => quick_row(low, high, args),
+        Evaluation::Between(low, high) => quick_between(low, high, args),
+        Evaluation::Disjunction(one, other) => {
+            let one = variable_at(args, *one)?;
+            let other = variable_at(args, *other)?;
+            Some(Quick::Disjunction(one, other))
+        }
         Evaluation::Counter(value, slot) => {
             let variable = variable_at(args, *slot)?;
             Some(Quick::Counter(variable, *value))
@@ -443,6 +560,51 @@ fn quotients_between(one: &Domain, other: &Domain) -> Reach
     Reach::Between(low, high)
 }
 
+/// From the number less the greatest member of the domain to the number less the least.
+#[inline(always)]
+fn turned_between(constant: i64, domain: &Domain) -> Reach
+    requires { IsSmall constant }
+    ensures { result ≡ Reach.Between (constant -ℤ pos (greatest domain.now))
+        (constant -ℤ pos (least domain.now)) }
+{
+    let low = constant - end_of(domain, End::Greatest) as i64;
+    let high = constant - end_of(domain, End::Least) as i64;
+    Reach::Between(low, high)
+}
+
+/// From the least member of a domain to its greatest and 1, less the least of another.
+#[inline(always)]
+fn conjunct_between(one: &Domain, other: &Domain) -> Reach
+    ensures { result ≡ Reach.Between (pos (least one.now))
+        ((pos 1 +ℤ pos (greatest one.now)) -ℤ pos (least other.now)) }
+{
+    let high = less_end(1, end_of(one, End::Greatest), end_of(other, End::Least));
+    Reach::Between(end_of(one, End::Least) as i64, high)
+}
+
+/// From the least member of a domain less the greatest of another to its greatest.
+#[inline(always)]
+fn disjunct_between(one: &Domain, other: &Domain) -> Reach
+    ensures { result ≡ Reach.Between (pos (least one.now) -ℤ pos (greatest other.now))
+        (pos (greatest one.now)) }
+{
+    let low = less_end(0, end_of(one, End::Least), end_of(other, End::Greatest));
+    Reach::Between(low, end_of(one, End::Greatest) as i64)
+}
+
+/// In 0 to 1, from half the sum of the least members, rounded up, to the sum of the greatest.
+#[inline(always)]
+fn disjunction_between(one: &Domain, other: &Domain) -> Reach
+    ensures { result ≡ Reach.Between
+        (pos ((least one.now + least other.now + 1) / 2))
+        (pos (min 1 (greatest one.now + greatest other.now))) }
+{
+    let least = end_of(one, End::Least) + end_of(other, End::Least);
+    let greatest = end_of(one, End::Greatest) + end_of(other, End::Greatest);
+    let high = if greatest > 1 { 1 } else { greatest };
+    Reach::Between(((least + 1) / 2) as i64, high as i64)
+}
+
 /// The set that the quick form tells over the domains of a view. `quick_of` says of which range that is the set.
 #[inline(always)]
 pub fn quick_reach<V: View>(quick: Quick, view: &V) -> Reach
@@ -487,5 +649,13 @@ pub fn quick_reach<V: View>(quick: Quick, view: &V) -> Reach
         Quick::Counted(variable, value) => counted_reach(view.domain(variable), value),
         Quick::Products(one, other) => products_between(view.domain(one), view.domain(other)),
         Quick::Quotients(one, other) => quotients_between(view.domain(one), view.domain(other)),
+        Quick::UpTo(sum) => Reach::Between(0, sum.extreme(End::Greatest, view)),
+        Quick::From(sum) => Reach::Between(sum.extreme(End::Least, view), INFINITY as i64),
+        Quick::MayBe(sum) => Reach::Between(0, sum.quotient_down(view)),
+        Quick::MustBe(sum) => Reach::Between(sum.quotient_up(view), INFINITY as i64),
+        Quick::Turned(variable, constant) => turned_between(constant, view.domain(variable)),
+        Quick::Conjunct(one, other) => conjunct_between(view.domain(one), view.domain(other)),
+        Quick::Disjunct(one, other) => disjunct_between(view.domain(one), view.domain(other)),
+        Quick::Disjunction(one, other) => disjunction_between(view.domain(one), view.domain(other)),
     }
 }

@@ -5,7 +5,7 @@ ghost use Rattle.std.specs.Prelude.{◌≡◌, IfSome};
 ghost use Rattle.fd_language.specs.PostfixRanges.{nodes_of};
 ghost use Rattle.fd_language.specs.Range.{Range};
 ghost use Rattle.range_code.specs.Forms.{IsEvaluation, IsShifted};
-ghost use Rattle.range_code.specs.SpelledRanges.{counter_range, counted_range, products_range, quotients_range};
+ghost use Rattle.range_code.specs.SpelledRanges.{counter_range, counted_range, products_range, quotients_range, disjunction_range};
 
 use crate::form::Evaluation;
 use crate::renamed_ranges::are_same_nodes;
@@ -191,6 +191,49 @@ fn quotients_form(nodes: &[RangeNode]) -> Option<Evaluation>
     Some(Evaluation::Quotients(one as usize, other as usize))
 }
 
+/// The nodes of what tells of the disjunction of two slots.
+fn disjunction_nodes(one: u64, other: u64) -> [RangeNode; 13]
+    ensures { result ≡ nodes_of (disjunction_range one other) }
+{
+    use RangeNode::*;
+    [
+        Min(one),
+        Min(other),
+        Add,
+        Int(2),
+        DivUp,
+        Max(one),
+        Max(other),
+        Add,
+        Span,
+        Int(0),
+        Int(1),
+        Span,
+        Inter,
+    ]
+}
+
+/// The form of the range that tells of the disjunction of two variables.
+fn disjunction_form(nodes: &[RangeNode]) -> Option<Evaluation>
+    ensures form { IfSome result
+        (λ form. (r : Range) → nodes.now ≡ nodes_of r → IsEvaluation r form) }
+    ensures unshifted { IfSome result (λ form. IsShifted form → ⊥) }
+{
+    let [first, second, ..] = nodes else {
+        return None;
+    };
+    let RangeNode::Min(one) = *first else {
+        return None;
+    };
+    let RangeNode::Min(other) = *second else {
+        return None;
+    };
+    if !are_same_nodes(nodes, &disjunction_nodes(one, other)) {
+        return None;
+    }
+    Some(Evaluation::Disjunction(one as usize, other as usize))
+}
+
 /// The form of a range that all its nodes tell.
 pub(crate) fn spelled_form(nodes: &[RangeNode]) -> Option<Evaluation>
     ensures form { IfSome result
@@ -206,5 +249,8 @@ pub(crate) fn spelled_form(nodes: &[RangeNode]) -> Option<Evaluation>
     if let Some(form) = products_form(nodes) {
         return Some(form);
     }
-    quotients_form(nodes)
+    if let Some(form) = quotients_form(nodes) {
+        return Some(form);
+    }
+    disjunction_form(nodes)
 }

@@ -1,6 +1,6 @@
 use Rattle.std.proofs.Common.{rules, SFits, to_z-of_z}
 use mir.Syntax.{w64}
-use Rattle.range_code.proofs.QuickSets.{counter_quick, counted_quick, products_quick, quotients_quick}
+use Rattle.range_code.proofs.QuickSets.{counter_quick, counted_quick, products_quick, quotients_quick, disjunction_quick}
 use Rattle.range_code.proofs.quick_forms.quick_without_val.Goals as goal
 
 pub returns-in_ok-variable-in-Counter : goal.returns-in_ok-variable-in-Counter
@@ -26,3 +26,9 @@ returns-in_ok-other-in-Quotients c r a v h =
     let k = rw (c.in-Quotients.is) at h in
     quotients_quick r c.args.args.now a v c.in-Quotients.one c.in-Quotients.other c.in_ok-one-in-Quotients.one c.in_ok-other-in-Quotients.other
     c.in_ok-one-in-Quotients.ensures c.in_ok-other-in-Quotients.ensures k
+
+pub returns-in_ok-other-in-Disjunction : goal.returns-in_ok-other-in-Disjunction
+returns-in_ok-other-in-Disjunction c r a v h =
+    let k = rw (c.in-Disjunction.is) at h in
+    disjunction_quick r c.args.args.now a v c.in-Disjunction.one c.in-Disjunction.other c.in_ok-one-in-Disjunction.one c.in_ok-other-in-Disjunction.other
+    c.in_ok-one-in-Disjunction.ensures c.in_ok-other-in-Disjunction.ensures k
