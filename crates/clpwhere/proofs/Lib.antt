@@ -12,4 +12,6 @@ mod FileNames
 mod LineParts
 mod FilePlaces
 mod WarnedText
+mod QueriedLines
+mod QueryPlaces
 mod Runs

@@ -1,14 +1,15 @@
 -- Lines that are read piece by piece.
-use Rattle.std.proofs.Common.{◌≡◌, ℕ, ◌<◌, Bool, false, cond, List, [], ◌∷◌, ◌++◌, length, refl, sym, ap, ◌∙◌, subst, arith, append_assoc, append-nil}
+use Rattle.std.proofs.Common.{◌≡◌, ℕ, ◌<◌, Bool, false, cond, List, [], ◌∷◌, ◌++◌, length, Option, refl, sym, ap, ◌∙◌, subst, arith, append_assoc, append-nil}
 use Rattle.std.specs.Prelude.{◌||◌}
-use Rattle.std.specs.List.{flat_map, list_any, onto_first}
+use Rattle.std.specs.List.{list_any, onto_first}
 use Rattle.std.proofs.lemmas.List.Folds.{list_any-append}
 use Rattle.std.proofs.lemmas.Bool.{or_parts}
 use Rattle.std.proofs.Math.Bool.{or-false, or_assoc}
 use Rattle.clpwhere.specs.declared.outcome.Fault.{Fault}
-use Rattle.clpwhere.specs.Parts.{TextParts}
+use Rattle.clpwhere.specs.Parts.{QueriedParts}
 use Rattle.byte_ports.specs.Lines.{is_newline, lines_of}
-use Rattle.clpwhere.specs.MarkedLines.{is_refusal, is_refused, marked, marked_line}
+use Rattle.clpwhere.specs.MarkedLines.{is_explained, marked_line}
+use Rattle.clpwhere.specs.QueriedLines.{marked_from, marked_lines, query_after, tells_from, tells_lines}
 use Rattle.byte_ports.specs.Ends.{SinkState, WroteAll, WrotePart}
 use Rattle.clpwhere.specs.Endings.{CutBy, IsOpen, GaveAll}
 use Rattle.byte_ports.proofs.Lemmas.{wrote_nothing, all_then, all_front}
@@ -33,19 +34,21 @@ lines-open b (d ∷ ds) o =
     let parts = or_parts (is_newline b) (list_any is_newline (d ∷ ds)) o in
     other_byte b (d ∷ ds) ((d ∷ ds) ∷ []) parts.0 (lines-open d ds parts.1)
 
-pub marked-whole : (text : TextParts) (line rest : List ℕ) → IsOpen line → marked text ((line ++ 10 ∷ []) ++ rest) ≡ marked_line text (line ++ 10 ∷ []) ++ marked text rest
-marked-whole text line rest o = ap (flat_map (marked_line text)) (lines-whole line rest o)
+pub marked-whole : (t : QueriedParts) (q : Option ℕ) (line rest : List ℕ) → IsOpen line
+    → marked_from t q ((line ++ 10 ∷ []) ++ rest) ≡ marked_line t q (line ++ 10 ∷ []) ++ marked_from t (query_after q (line ++ 10 ∷ [])) rest
+marked-whole t q line rest o = ap (marked_lines t q) (lines-whole line rest o)
 
-pub refused-whole : (line rest : List ℕ) → IsOpen line → is_refused ((line ++ 10 ∷ []) ++ rest) ≡ (is_refusal (line ++ 10 ∷ []) || is_refused rest)
-refused-whole line rest o = ap (list_any is_refusal) (lines-whole line rest o)
+pub tells-whole : (t : QueriedParts) (q : Option ℕ) (line rest : List ℕ) → IsOpen line
+    → tells_from t q ((line ++ 10 ∷ []) ++ rest) ≡ (is_explained t q (line ++ 10 ∷ []) || tells_from t (query_after q (line ++ 10 ∷ [])) rest)
+tells-whole t q line rest o = ap (tells_lines t q) (lines-whole line rest o)
 
-pub marked-open : (text : TextParts) (line : List ℕ) → IsOpen line → 0 < length line → marked text line ≡ marked_line text line
-marked-open text [] o l = absurd (omega arith)
-marked-open text (b ∷ bs) o l = ap (flat_map (marked_line text)) (lines-open b bs o) ∙ append-nil (marked_line text (b ∷ bs))
+pub marked-open : (t : QueriedParts) (q : Option ℕ) (line : List ℕ) → IsOpen line → 0 < length line → marked_from t q line ≡ marked_line t q line
+marked-open t q [] o l = absurd (omega arith)
+marked-open t q (b ∷ bs) o l = ap (marked_lines t q) (lines-open b bs o) ∙ append-nil (marked_line t q (b ∷ bs))
 
-pub refused-open : (line : List ℕ) → IsOpen line → 0 < length line → is_refused line ≡ is_refusal line
-refused-open [] o l = absurd (omega arith)
-refused-open (b ∷ bs) o l = ap (list_any is_refusal) (lines-open b bs o) ∙ or-false (is_refusal (b ∷ bs))
+pub tells-open : (t : QueriedParts) (q : Option ℕ) (line : List ℕ) → IsOpen line → 0 < length line → tells_from t q line ≡ is_explained t q line
+tells-open t q [] o l = absurd (omega arith)
+tells-open t q (b ∷ bs) o l = ap (tells_lines t q) (lines-open b bs o) ∙ or-false (is_explained t q (b ∷ bs))
 
 -- ---- one byte
 
@@ -56,75 +59,83 @@ byte_open line b o n = list_any-append is_newline line (b ∷ []) ∙ ap (λ t. 
     not_ten : (b : ℕ) → (b ≡ 10 → ⊥) → is_newline b ≡ false
     not_ten b n = grind arith
 
-pub gave_none : (text : TextParts) (a : SinkState) (line : List ℕ) → IsOpen line → GaveAll text a a line line false
-gave_none text a line o = record {
+pub gave_none : (t : QueriedParts) (a : SinkState) (q : Option ℕ) (line : List ℕ) → IsOpen line → GaveAll t a a q line q line false
+gave_none t a q line o = record {
   out = [];
   gave = record { output = λ rest. refl; tells = λ rest. refl };
   wrote = wrote_nothing a;
   rest = o;
 }
 
-pub gave_line : (text : TextParts) (a b : SinkState) (line : List ℕ) (told : Bool) → IsOpen line → told ≡ is_refusal (line ++ 10 ∷ [])
-    → WroteAll a b (marked_line text (line ++ 10 ∷ [])) → GaveAll text a b (line ++ 10 ∷ []) [] told
-gave_line text a b line told o e w = record {
-  out = marked_line text (line ++ 10 ∷ []);
+pub gave_line : (t : QueriedParts) (a b : SinkState) (q : Option ℕ) (line : List ℕ) (told : Bool) → IsOpen line → told ≡ is_explained t q (line ++ 10 ∷ [])
+    → WroteAll a b (marked_line t q (line ++ 10 ∷ [])) → GaveAll t a b q (line ++ 10 ∷ []) (query_after q (line ++ 10 ∷ [])) [] told
+gave_line t a b q line told o e w = record {
+  out = marked_line t q (line ++ 10 ∷ []);
   gave = record {
-    output = λ rest. marked-whole text line rest o;
-    tells = λ rest. refused-whole line rest o ∙ ap (λ t. t || is_refused rest) (sym e);
+    output = λ rest. marked-whole t q line rest o;
+    tells = λ rest. tells-whole t q line rest o ∙ ap (λ d. d || tells_from t (query_after q (line ++ 10 ∷ [])) rest) (sym e);
   };
   wrote = w;
   rest = refl;
 }
 
-pub cut_line : (text : TextParts) (a b : SinkState) (line : List ℕ) (e : Fault) → IsOpen line → CutBy a b e (marked_line text (line ++ 10 ∷ []))
-    → (rest : List ℕ) → CutBy a b e (marked text ((line ++ 10 ∷ []) ++ rest))
-cut_line text a b line e o h rest = subst (CutBy a b e) (sym (marked-whole text line rest o)) (cut_longer a b (marked_line text (line ++ 10 ∷ [])) (marked text rest) e h)
+pub cut_line : (t : QueriedParts) (a b : SinkState) (q : Option ℕ) (line : List ℕ) (e : Fault) → IsOpen line → CutBy a b e (marked_line t q (line ++ 10 ∷ []))
+    → (rest : List ℕ) → CutBy a b e (marked_from t q ((line ++ 10 ∷ []) ++ rest))
+cut_line t a b q line e o h rest =
+    let whole = line ++ 10 ∷ [] in
+    subst (CutBy a b e) (sym (marked-whole t q line rest o)) (cut_longer a b (marked_line t q whole) (marked_from t (query_after q whole) rest) e h)
 
 -- ---- more bytes
 
-pub gave_then : (text : TextParts) (a b c : SinkState) (bytes line more next : List ℕ) (f g : Bool) → GaveAll text a b bytes line f
-    → GaveAll text b c (line ++ more) next g → GaveAll text a c (bytes ++ more) next (f || g)
-gave_then text a b c bytes line more next f g h k = record {
+pub gave_then : (t : QueriedParts) (a b c : SinkState) (q : Option ℕ) (bytes : List ℕ) (r : Option ℕ) (line more : List ℕ) (s : Option ℕ) (next : List ℕ) (f g : Bool)
+    → GaveAll t a b q bytes r line f → GaveAll t b c r (line ++ more) s next g → GaveAll t a c q (bytes ++ more) s next (f || g)
+gave_then t a b c q bytes r line more s next f g h k = record {
   out = h.out ++ k.out;
   gave = record {
-    output = λ rest. ap (marked text) (append_assoc bytes more rest) ∙ h.gave.output (more ++ rest)
-        ∙ ap (λ l. h.out ++ marked text l) (sym (append_assoc line more rest)) ∙ ap (λ l. h.out ++ l) (k.gave.output rest)
-        ∙ sym (append_assoc h.out k.out (marked text (next ++ rest)));
-    tells = λ rest. ap is_refused (append_assoc bytes more rest) ∙ h.gave.tells (more ++ rest) ∙ ap (λ l. f || is_refused l) (sym (append_assoc line more rest))
-        ∙ ap (λ t. f || t) (k.gave.tells rest) ∙ sym (or_assoc f g (is_refused (next ++ rest)));
+    output = λ rest. ap (marked_from t q) (append_assoc bytes more rest) ∙ h.gave.output (more ++ rest)
+        ∙ ap (λ l. h.out ++ marked_from t r l) (sym (append_assoc line more rest)) ∙ ap (λ l. h.out ++ l) (k.gave.output rest)
+        ∙ sym (append_assoc h.out k.out (marked_from t s (next ++ rest)));
+    tells = λ rest. ap (tells_from t q) (append_assoc bytes more rest) ∙ h.gave.tells (more ++ rest) ∙ ap (λ l. f || tells_from t r l) (sym (append_assoc line more rest))
+        ∙ ap (λ d. f || d) (k.gave.tells rest) ∙ sym (or_assoc f g (tells_from t s (next ++ rest)));
   };
   wrote = all_then a b c h.out k.out h.wrote k.wrote;
   rest = k.rest;
 }
 
-pub gave_cut : (text : TextParts) (a b c : SinkState) (bytes line more : List ℕ) (f : Bool) (e : Fault) → GaveAll text a b bytes line f
-    → ((rest : List ℕ) → CutBy b c e (marked text ((line ++ more) ++ rest))) → (rest : List ℕ) → CutBy a c e (marked text ((bytes ++ more) ++ rest))
-gave_cut text a b c bytes line more f e h k rest =
-    let same : marked text ((bytes ++ more) ++ rest) ≡ h.out ++ marked text ((line ++ more) ++ rest) = ap (marked text) (append_assoc bytes more rest)
-    ∙ h.gave.output (more ++ rest) ∙ ap (λ l. h.out ++ marked text l) (sym (append_assoc line more rest)) in
-    subst (CutBy a c e) (sym same) (cut_then a b c h.out (marked text ((line ++ more) ++ rest)) e h.wrote (k rest))
+pub gave_cut : (t : QueriedParts) (a b c : SinkState) (q : Option ℕ) (bytes : List ℕ) (r : Option ℕ) (line more : List ℕ) (f : Bool) (e : Fault)
+    → GaveAll t a b q bytes r line f → ((rest : List ℕ) → CutBy b c e (marked_from t r ((line ++ more) ++ rest)))
+    → (rest : List ℕ) → CutBy a c e (marked_from t q ((bytes ++ more) ++ rest))
+gave_cut t a b c q bytes r line more f e h k rest =
+    let same : marked_from t q ((bytes ++ more) ++ rest) ≡ h.out ++ marked_from t r ((line ++ more) ++ rest) = ap (marked_from t q) (append_assoc bytes more rest)
+    ∙ h.gave.output (more ++ rest) ∙ ap (λ l. h.out ++ marked_from t r l) (sym (append_assoc line more rest)) in
+    subst (CutBy a c e) (sym same) (cut_then a b c h.out (marked_from t r ((line ++ more) ++ rest)) e h.wrote (k rest))
 
 -- what was written of a front is a front of what is written of the whole
-pub gave_front : (text : TextParts) (a b : SinkState) (bytes line : List ℕ) (f : Bool) → GaveAll text a b bytes line f → (rest : List ℕ) → WrotePart a b (marked text (bytes ++ rest))
-gave_front text a b bytes line f h rest = subst (WrotePart a b) (sym (h.gave.output rest)) (all_front a b h.out (marked text (line ++ rest)) h.wrote)
+pub gave_front : (t : QueriedParts) (a b : SinkState) (q : Option ℕ) (bytes : List ℕ) (r : Option ℕ) (line : List ℕ) (f : Bool) → GaveAll t a b q bytes r line f
+    → (rest : List ℕ) → WrotePart a b (marked_from t q (bytes ++ rest))
+gave_front t a b q bytes r line f h rest = subst (WrotePart a b) (sym (h.gave.output rest)) (all_front a b h.out (marked_from t r (line ++ rest)) h.wrote)
 
 -- a cut of some bytes is a cut of more
-pub cut_more : (text : TextParts) (a b : SinkState) (bytes more : List ℕ) (e : Fault) → ((rest : List ℕ) → CutBy a b e (marked text (bytes ++ rest)))
-    → (rest : List ℕ) → CutBy a b e (marked text ((bytes ++ more) ++ rest))
-cut_more text a b bytes more e h rest = subst (λ l. CutBy a b e (marked text l)) (sym (append_assoc bytes more rest)) (h (more ++ rest))
+pub cut_more : (t : QueriedParts) (a b : SinkState) (q : Option ℕ) (bytes more : List ℕ) (e : Fault) → ((rest : List ℕ) → CutBy a b e (marked_from t q (bytes ++ rest)))
+    → (rest : List ℕ) → CutBy a b e (marked_from t q ((bytes ++ more) ++ rest))
+cut_more t a b q bytes more e h rest = subst (λ l. CutBy a b e (marked_from t q l)) (sym (append_assoc bytes more rest)) (h (more ++ rest))
 
 -- ---- the end
 
 -- the last line was written behind the others
-pub gave_last : (text : TextParts) (a b c : SinkState) (bytes line : List ℕ) (f g : Bool) → GaveAll text a b bytes line f → WroteAll b c (marked text line)
-    → g ≡ is_refused line → WroteAll a c (marked text bytes) × ((f || g) ≡ is_refused bytes)
-gave_last text a b c bytes line f g h w e =
-    let output : marked text bytes ≡ h.out ++ marked text line = ap (marked text) (sym (append-nil bytes)) ∙ h.gave.output [] ∙ ap (λ l. h.out ++ marked text l) (append-nil line) in
-    let tells : is_refused bytes ≡ (f || is_refused line) = ap is_refused (sym (append-nil bytes)) ∙ h.gave.tells [] ∙ ap (λ l. f || is_refused l) (append-nil line) in
-    (subst (WroteAll a c) (sym output) (all_then a b c h.out (marked text line) h.wrote w), ap (λ t. f || t) e ∙ sym tells)
+pub gave_last : (t : QueriedParts) (a b c : SinkState) (q : Option ℕ) (bytes : List ℕ) (r : Option ℕ) (line : List ℕ) (f g : Bool) → GaveAll t a b q bytes r line f
+    → WroteAll b c (marked_from t r line) → g ≡ tells_from t r line → WroteAll a c (marked_from t q bytes) × ((f || g) ≡ tells_from t q bytes)
+gave_last t a b c q bytes r line f g h w e =
+    let output : marked_from t q bytes ≡ h.out ++ marked_from t r line = ap (marked_from t q) (sym (append-nil bytes)) ∙ h.gave.output []
+    ∙ ap (λ l. h.out ++ marked_from t r l) (append-nil line) in
+    let tells : tells_from t q bytes ≡ (f || tells_from t r line) = ap (tells_from t q) (sym (append-nil bytes)) ∙ h.gave.tells []
+    ∙ ap (λ l. f || tells_from t r l) (append-nil line) in
+    (subst (WroteAll a c) (sym output) (all_then a b c h.out (marked_from t r line) h.wrote w), ap (λ d. f || d) e ∙ sym tells)
 
 -- or a front of it
-pub cut_last : (text : TextParts) (a b c : SinkState) (bytes line : List ℕ) (f : Bool) (e : Fault) → GaveAll text a b bytes line f → CutBy b c e (marked text line) → CutBy a c e (marked text bytes)
-cut_last text a b c bytes line f e h k =
-    let output : marked text bytes ≡ h.out ++ marked text line = ap (marked text) (sym (append-nil bytes)) ∙ h.gave.output [] ∙ ap (λ l. h.out ++ marked text l) (append-nil line) in
-    subst (CutBy a c e) (sym output) (cut_then a b c h.out (marked text line) e h.wrote k)
+pub cut_last : (t : QueriedParts) (a b c : SinkState) (q : Option ℕ) (bytes : List ℕ) (r : Option ℕ) (line : List ℕ) (f : Bool) (e : Fault) → GaveAll t a b q bytes r line f
+    → CutBy b c e (marked_from t r line) → CutBy a c e (marked_from t q bytes)
+cut_last t a b c q bytes r line f e h k =
+    let output : marked_from t q bytes ≡ h.out ++ marked_from t r line = ap (marked_from t q) (sym (append-nil bytes)) ∙ h.gave.output []
+    ∙ ap (λ l. h.out ++ marked_from t r l) (append-nil line) in
+    subst (CutBy a c e) (sym output) (cut_then a b c h.out (marked_from t r line) e h.wrote k)

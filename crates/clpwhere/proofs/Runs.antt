@@ -9,24 +9,26 @@ use Rattle.clpwhere.specs.declared.outcome.Fault.TheVariants as fault
 use Rattle.clpwhere.specs.declared.outcome.Status.{Status}
 use Rattle.clpwhere.specs.declared.command.Asked.{Asked}
 use Rattle.clpwhere.specs.declared.command.Asked.TheVariants as asked
-use Rattle.clpwhere.specs.Parts.{TextParts}
-use Rattle.clpwhere.specs.MarkedLines.{is_refused, marked}
+use Rattle.clpwhere.specs.Parts.{QueriedParts}
+use Rattle.clpwhere.specs.MarkedLines.{is_told, marked}
+use Rattle.clpwhere.specs.QueriedLines.{marked_from, tells_from}
 use Rattle.byte_ports.specs.Ends.{Ends, sink_of, WroteAll}
 use Rattle.clpwhere.specs.Endings.{CutBy, GaveAll, Copied, CutShort, CopyEnds, Counted, Ending}
-use Rattle.clpwhere.specs.Headline.{Headline, IsDecided, IsInput, NeedsNoInput, output, output_status, refused_status}
+use Rattle.clpwhere.specs.Headline.{Headline, IsDecided, IsInput, NeedsNoInput, output, output_status, told_status}
 use Rattle.clpwhere.proofs.Pieces.{cut_part}
+use Rattle.clpwhere.proofs.QueriedLines.{marked_whole, tells_whole}
 use Rattle.clpwhere.proofs.LineSteps.{gave_none, gave_then, gave_cut, gave_front, gave_last, cut_last}
 
 -- ---- the input so far
 
-pub record HasCopied (text : TextParts) (old now : Ends) (line : List ℕ) (told : Bool) : Type 0 where
+pub record HasCopied (t : QueriedParts) (old now : Ends) (query : Option ℕ) (line : List ℕ) (told : Bool) : Type 0 where
   pub front : List ℕ
   pub took : Took old.left now.left front
   pub faults : now.source_faults ≡ old.source_faults
-  pub gave : GaveAll text (sink_of old) (sink_of now) front line told
+  pub gave : GaveAll t (sink_of old) (sink_of now) None front query line told
 
-pub none_read : (text : TextParts) (e : Ends) → HasCopied text e e [] false
-none_read text e = record { front = []; took = took_none e.left; faults = refl; gave = gave_none text (sink_of e) [] refl }
+pub none_read : (t : QueriedParts) (e : Ends) → HasCopied t e e None [] false
+none_read t e = record { front = []; took = took_none e.left; faults = refl; gave = gave_none t (sink_of e) None [] refl }
 
 -- an input that begins with what was read
 pub record Whole (old new : Option (List ℕ)) (front : List ℕ) : Type 0 where
@@ -37,20 +39,24 @@ pub whole_of : (old new : Option (List ℕ)) (front : List ℕ) → Took old new
 whole_of old None front t = record { after = []; is = λ s. absurd (cc (s)) }
 whole_of old (Some after) front t = record { after = after; is = λ s. t }
 
+-- what was written is a part of the whole output
+part_whole : (t : QueriedParts) (old new : Ends) (input : List ℕ) → PutPart old.written new.written (marked_from t None input) → PutPart old.written new.written (marked t input)
+part_whole t old new input p = subst (λ out. PutPart old.written new.written out) (sym (marked_whole t input)) p
+
 -- ---- a copy
 
-pub copied : (text : TextParts) (old now new : Ends) (line piece : List ℕ) (f g : Bool) → HasCopied text old now line f
+pub copied : (t : QueriedParts) (old now new : Ends) (query : Option ℕ) (line piece : List ℕ) (f g : Bool) → HasCopied t old now query line f
     → Took now.left new.left piece → piece ≡ [] → IsAtEnd new.left → new.source_faults ≡ now.source_faults
-    → WroteAll (sink_of now) (sink_of new) (marked text line) → g ≡ is_refused line → Copied text old new (f || g)
-copied text old now new line piece f g r t none end same w e =
-    let last = gave_last text (sink_of old) (sink_of now) (sink_of new) r.front line f g r.gave w e in
+    → WroteAll (sink_of now) (sink_of new) (marked_from t query line) → g ≡ tells_from t query line → Copied t old new (f || g)
+copied t old now new query line piece f g r took none end same w e =
+    let last = gave_last t (sink_of old) (sink_of now) (sink_of new) None r.front query line f g r.gave w e in
     record {
       input = r.front;
-      took = subst (Took old.left new.left) (ap (λ p. r.front ++ p) none ∙ append-nil r.front) (took_more old.left now.left new.left r.front piece r.took t);
+      took = subst (Took old.left new.left) (ap (λ p. r.front ++ p) none ∙ append-nil r.front) (took_more old.left now.left new.left r.front piece r.took took);
       end = end;
       source_faults = same ∙ r.faults;
-      wrote = last.0;
-      tells = last.1;
+      wrote = subst (WroteAll (sink_of old) (sink_of new)) (sym (marked_whole t r.front)) last.0;
+      tells = last.1 ∙ sym (tells_whole t r.front);
     }
 
 -- the counts of a sink that was written to
@@ -60,19 +66,19 @@ sink_counted a b fault.WriteFault p s c = (s, c.rose, c.later)
 sink_counted a b fault.NoMemory p s c = (s, c.faults)
 
 -- a write failed, or memory was wanting, in the last line
-pub last_cut : (text : TextParts) (old now new : Ends) (line piece : List ℕ) (f : Bool) (e : Fault) → HasCopied text old now line f
+pub last_cut : (t : QueriedParts) (old now new : Ends) (query : Option ℕ) (line piece : List ℕ) (f : Bool) (e : Fault) → HasCopied t old now query line f
     → Took now.left new.left piece → piece ≡ [] → IsAtEnd new.left → new.source_faults ≡ now.source_faults
-    → CutBy (sink_of now) (sink_of new) e (marked text line) → CutShort text old new e
-last_cut text old now new line piece f e r t none end same c =
-    let cut = cut_last text (sink_of old) (sink_of now) (sink_of new) r.front line f e r.gave c in
-    let took = subst (Took old.left new.left) (ap (λ p. r.front ++ p) none ∙ append-nil r.front) (took_more old.left now.left new.left r.front piece r.took t) in
+    → CutBy (sink_of now) (sink_of new) e (marked_from t query line) → CutShort t old new e
+last_cut t old now new query line piece f e r more none end same c =
+    let cut = cut_last t (sink_of old) (sink_of now) (sink_of new) None r.front query line f e r.gave c in
+    let took = subst (Took old.left new.left) (ap (λ p. r.front ++ p) none ∙ append-nil r.front) (took_more old.left now.left new.left r.front piece r.took more) in
     record {
       input = r.front;
       whole = at_end old.left new.left r.front took end;
-      wrote = cut_part (sink_of old) (sink_of new) e (marked text r.front) cut;
+      wrote = part_whole t old new r.front (cut_part (sink_of old) (sink_of new) e (marked_from t None r.front) cut);
       front = r.front;
       took = took;
-      counted = sink_counted old new e (marked text r.front) (same ∙ r.faults) cut;
+      counted = sink_counted old new e (marked_from t None r.front) (same ∙ r.faults) cut;
     }
   where
     at_end : (a b : Option (List ℕ)) (front : List ℕ) → Took a b front → IsAtEnd b → IsSome b → a ≡ Some front
@@ -80,67 +86,72 @@ last_cut text old now new line piece f e r t none end same c =
     at_end a (Some after) front t end s = t ∙ ap (λ l. Some (front ++ l)) end ∙ ap Some (append-nil front)
 
 -- the lines of one more piece
-pub more_read : (text : TextParts) (old now new : Ends) (line next piece : List ℕ) (f g : Bool) → HasCopied text old now line f
-    → Took now.left new.left piece → new.source_faults ≡ now.source_faults → GaveAll text (sink_of now) (sink_of new) (line ++ piece) next g → HasCopied text old new next (f || g)
-more_read text old now new line next piece f g r t same h = record {
+pub more_read : (t : QueriedParts) (old now new : Ends) (query : Option ℕ) (line : List ℕ) (behind : Option ℕ) (next piece : List ℕ) (f g : Bool) → HasCopied t old now query line f
+    → Took now.left new.left piece → new.source_faults ≡ now.source_faults → GaveAll t (sink_of now) (sink_of new) query (line ++ piece) behind next g
+    → HasCopied t old new behind next (f || g)
+more_read t old now new query line behind next piece f g r took same h = record {
   front = r.front ++ piece;
-  took = took_more old.left now.left new.left r.front piece r.took t;
+  took = took_more old.left now.left new.left r.front piece r.took took;
   faults = same ∙ r.faults;
-  gave = gave_then text (sink_of old) (sink_of now) (sink_of new) r.front line piece next f g r.gave h;
+  gave = gave_then t (sink_of old) (sink_of now) (sink_of new) None r.front query line piece behind next f g r.gave h;
 }
 
 -- or a fault in them
-pub more_cut : (text : TextParts) (old now new : Ends) (line piece : List ℕ) (f : Bool) (e : Fault) → HasCopied text old now line f
-    → Took now.left new.left piece → new.source_faults ≡ now.source_faults → ((rest : List ℕ) → CutBy (sink_of now) (sink_of new) e (marked text ((line ++ piece) ++ rest))) → CutShort text old new e
-more_cut text old now new line piece f e r t same c =
-    let took = took_more old.left now.left new.left r.front piece r.took t in
+pub more_cut : (t : QueriedParts) (old now new : Ends) (query : Option ℕ) (line piece : List ℕ) (f : Bool) (e : Fault) → HasCopied t old now query line f
+    → Took now.left new.left piece → new.source_faults ≡ now.source_faults
+    → ((rest : List ℕ) → CutBy (sink_of now) (sink_of new) e (marked_from t query ((line ++ piece) ++ rest))) → CutShort t old new e
+more_cut t old now new query line piece f e r more same c =
+    let took = took_more old.left now.left new.left r.front piece r.took more in
     let whole = whole_of old.left new.left (r.front ++ piece) took in
-    let cut = gave_cut text (sink_of old) (sink_of now) (sink_of new) r.front line piece f e r.gave c whole.after in
+    let input = (r.front ++ piece) ++ whole.after in
+    let cut = gave_cut t (sink_of old) (sink_of now) (sink_of new) None r.front query line piece f e r.gave c whole.after in
     record {
-      input = (r.front ++ piece) ++ whole.after;
+      input = input;
       whole = whole.is;
-      wrote = cut_part (sink_of old) (sink_of new) e (marked text ((r.front ++ piece) ++ whole.after)) cut;
+      wrote = part_whole t old new input (cut_part (sink_of old) (sink_of new) e (marked_from t None input) cut);
       front = r.front ++ piece;
       took = took;
-      counted = sink_counted old new e (marked text ((r.front ++ piece) ++ whole.after)) (same ∙ r.faults) cut;
+      counted = sink_counted old new e (marked_from t None input) (same ∙ r.faults) cut;
     }
 
 -- a read failed
-pub read_cut : (text : TextParts) (old now new : Ends) (line : List ℕ) (f : Bool) → HasCopied text old now line f
+pub read_cut : (t : QueriedParts) (old now new : Ends) (query : Option ℕ) (line : List ℕ) (f : Bool) → HasCopied t old now query line f
     → Took now.left new.left [] → now.source_faults ≤ new.source_faults → Rose now.source_faults new.source_faults → new.written ≡ now.written
-    → new.sink_faults ≡ now.sink_faults → CutShort text old new fault.ReadFault
-read_cut text old now new line f r t later rose written faults =
-    let took = subst (Took old.left new.left) (append-nil r.front) (took_more old.left now.left new.left r.front [] r.took t) in
+    → new.sink_faults ≡ now.sink_faults → CutShort t old new fault.ReadFault
+read_cut t old now new query line f r none later rose written faults =
+    let took = subst (Took old.left new.left) (append-nil r.front) (took_more old.left now.left new.left r.front [] r.took none) in
     let whole = whole_of old.left new.left r.front took in
-    let part = gave_front text (sink_of old) (sink_of now) r.front line f r.gave whole.after in
+    let input = r.front ++ whole.after in
+    let part = gave_front t (sink_of old) (sink_of now) None r.front query line f r.gave whole.after in
     record {
-      input = r.front ++ whole.after;
+      input = input;
       whole = whole.is;
-      wrote = subst (λ w. PutPart old.written w (marked text (r.front ++ whole.after))) (sym written) part.put;
+      wrote = subst (λ w. PutPart old.written w (marked t input)) (sym written) (part_whole t old now input part.put);
       front = r.front;
       took = took;
       counted = (subst (λ n. Rose n new.source_faults) r.faults rose, subst (λ n. n ≤ new.source_faults) r.faults later, faults ∙ part.faults);
     }
 
 -- memory was wanting between two pieces
-pub memory_cut : (text : TextParts) (old now : Ends) (line : List ℕ) (f : Bool) → HasCopied text old now line f → CutShort text old now fault.NoMemory
-memory_cut text old now line f r =
+pub memory_cut : (t : QueriedParts) (old now : Ends) (query : Option ℕ) (line : List ℕ) (f : Bool) → HasCopied t old now query line f → CutShort t old now fault.NoMemory
+memory_cut t old now query line f r =
     let whole = whole_of old.left now.left r.front r.took in
-    let part = gave_front text (sink_of old) (sink_of now) r.front line f r.gave whole.after in
+    let input = r.front ++ whole.after in
+    let part = gave_front t (sink_of old) (sink_of now) None r.front query line f r.gave whole.after in
     record {
-      input = r.front ++ whole.after;
+      input = input;
       whole = whole.is;
-      wrote = part.put;
+      wrote = part_whole t old now input part.put;
       front = r.front;
       took = r.took;
       counted = (r.faults, part.faults);
     }
 
-pub none_cut : (text : TextParts) (e : Ends) → CutShort text e e fault.NoMemory
-none_cut text e = memory_cut text e e [] false (none_read text e)
+pub none_cut : (t : QueriedParts) (e : Ends) → CutShort t e e fault.NoMemory
+none_cut t e = memory_cut t e e None [] false (none_read t e)
 
-pub copy_cut : (text : TextParts) (old new : Ends) (e : Fault) (r : Result Bool Fault) → r ≡ Err e → CutShort text old new e → CopyEnds text old new r
-copy_cut text old new e r is h = subst (CopyEnds text old new) (sym is) h
+pub copy_cut : (t : QueriedParts) (old new : Ends) (e : Fault) (r : Result Bool Fault) → r ≡ Err e → CutShort t old new e → CopyEnds t old new r
+copy_cut t old new e r is h = subst (CopyEnds t old new) (sym is) h
 
 -- ---- the headline
 
@@ -150,9 +161,9 @@ rose_not a b e l = omega (arith, e)
 not_below : (a b : ℕ) → b ≡ a → a ≤ b
 not_below a b e = omega (arith, e)
 
-decided_refused : (b : Bool) → IsDecided (refused_status b)
-decided_refused true = tt
-decided_refused false = tt
+decided_told : (b : Bool) → IsDecided (told_status b)
+decided_told true = tt
+decided_told false = tt
 
 -- a run that needs no input
 some_input : (a : Asked) (old new : Option (List ℕ)) → NeedsNoInput a → IsInput a old new []
@@ -167,7 +178,7 @@ decided_output asked.Usage input = tt
 decided_output asked.Help input = tt
 decided_output asked.Version input = tt
 decided_output (asked.Unreadable name) input = tt
-decided_output (asked.Text text) input = decided_refused (is_refused input)
+decided_output (asked.Text text) input = decided_told (is_told text input)
 
 pub run_line : (a : Asked) (old new : Ends) (result : Status) → NeedsNoInput a → new.left ≡ old.left → new.source_faults ≡ old.source_faults
     → Ending (sink_of old) (sink_of new) result (output_status a []) (output a []) → Headline a old new result

@@ -1,5 +1,5 @@
 -- What was read and written when a call ends.
-use Rattle.std.specs.Prelude.{◌≡◌, ◌≤◌, ◌⊎◌, ℕ, List, ◌++◌, Some, IsSome, Bool, false, Result, MatchResult, ◌||◌}
+use Rattle.std.specs.Prelude.{◌≡◌, ◌≤◌, ◌⊎◌, ℕ, List, ◌++◌, Option, Some, IsSome, Bool, false, Result, MatchResult, ◌||◌}
 use Rattle.std.specs.List.{list_any}
 use Rattle.byte_ports.specs.Ends.{Ends, SinkState, sink_of, WroteAll, WroteFront, WrotePart}
 use Rattle.byte_ports.specs.Ports.{PutPart, Rose, Took, IsAtEnd}
@@ -8,8 +8,9 @@ use Rattle.clpwhere.specs.declared.outcome.Fault.TheVariants as fault
 use Rattle.clpwhere.specs.declared.outcome.Status.{Status}
 use Rattle.clpwhere.specs.declared.outcome.Status.TheVariants as status
 use Rattle.byte_ports.specs.Lines.{is_newline}
-use Rattle.clpwhere.specs.MarkedLines.{marked, is_refused}
-use Rattle.clpwhere.specs.Parts.{TextParts}
+use Rattle.clpwhere.specs.MarkedLines.{marked, is_told}
+use Rattle.clpwhere.specs.QueriedLines.{marked_from, tells_from}
+use Rattle.clpwhere.specs.Parts.{QueriedParts}
 
 -- what a fault leaves of a piece; writing has no fault of reading
 abbrev pub CutBy : SinkState → SinkState → Fault → List ℕ → Type 0
@@ -28,33 +29,33 @@ Wrote old new result piece =
 abbrev pub IsOpen : List ℕ → Type 0
 IsOpen line = list_any is_newline line ≡ false
 
--- of the bytes read, all but an open line have given this output, and told a refusal or none
-pub record Gave (text : TextParts) (bytes line out : List ℕ) (refused : Bool) : Type 0 where
-  pub output : (rest : List ℕ) → marked text (bytes ++ rest) ≡ out ++ marked text (line ++ rest)
-  pub tells : (rest : List ℕ) → is_refused (bytes ++ rest) ≡ (refused || is_refused (line ++ rest))
+-- of bytes that begin at a line of the query from, all but an open line of the query have given this output, and told something or nothing
+pub record Gave (t : QueriedParts) (from : Option ℕ) (bytes : List ℕ) (query : Option ℕ) (line out : List ℕ) (told : Bool) : Type 0 where
+  pub output : (rest : List ℕ) → marked_from t from (bytes ++ rest) ≡ out ++ marked_from t query (line ++ rest)
+  pub tells : (rest : List ℕ) → tells_from t from (bytes ++ rest) ≡ (told || tells_from t query (line ++ rest))
 
 -- of bytes behind an open line, that have left another one
-pub record GaveAll (text : TextParts) (old new : SinkState) (bytes line : List ℕ) (refused : Bool) : Type 0 where
+pub record GaveAll (t : QueriedParts) (old new : SinkState) (from : Option ℕ) (bytes : List ℕ) (query : Option ℕ) (line : List ℕ) (told : Bool) : Type 0 where
   pub out : List ℕ
-  pub gave : Gave text bytes line out refused
+  pub gave : Gave t from bytes query line out told
   pub wrote : WroteAll old new out
   pub rest : IsOpen line
 
-abbrev pub Fed : TextParts → SinkState → SinkState → List ℕ → List ℕ → Result Bool Fault → Type 0
-Fed text old new bytes line result = MatchResult result
-    (λ refused. GaveAll text old new bytes line refused)
-    (λ e. (rest : List ℕ) → CutBy old new e (marked text (bytes ++ rest)))
+abbrev pub Fed : QueriedParts → SinkState → SinkState → Option ℕ → List ℕ → Option ℕ → List ℕ → Result Bool Fault → Type 0
+Fed t old new from bytes query line result = MatchResult result
+    (λ told. GaveAll t old new from bytes query line told)
+    (λ e. (rest : List ℕ) → CutBy old new e (marked_from t from (bytes ++ rest)))
 
 -- ---- the whole input
 
 -- it was read to its end, and its output was written
-pub record Copied (text : TextParts) (old new : Ends) (refused : Bool) : Type 0 where
+pub record Copied (t : QueriedParts) (old new : Ends) (told : Bool) : Type 0 where
   pub input : List ℕ
   pub took : Took old.left new.left input
   pub end : IsAtEnd new.left
   pub source_faults : new.source_faults ≡ old.source_faults
-  pub wrote : WroteAll (sink_of old) (sink_of new) (marked text input)
-  pub tells : refused ≡ is_refused input
+  pub wrote : WroteAll (sink_of old) (sink_of new) (marked t input)
+  pub tells : told ≡ is_told t input
 
 -- which count a fault raised
 abbrev pub Counted : Fault → Ends → Ends → Type 0
@@ -68,16 +69,16 @@ Counted fault.NoMemory old new =
     (new.source_faults ≡ old.source_faults) × (new.sink_faults ≡ old.sink_faults)
 
 -- a front of its output was written
-pub record CutShort (text : TextParts) (old new : Ends) (e : Fault) : Type 0 where
+pub record CutShort (t : QueriedParts) (old new : Ends) (e : Fault) : Type 0 where
   pub input : List ℕ
   pub whole : IsSome new.left → old.left ≡ Some input
-  pub wrote : PutPart old.written new.written (marked text input)
+  pub wrote : PutPart old.written new.written (marked t input)
   pub front : List ℕ
   pub took : Took old.left new.left front
   pub counted : Counted e old new
 
-abbrev pub CopyEnds : TextParts → Ends → Ends → Result Bool Fault → Type 0
-CopyEnds text old new result = MatchResult result (Copied text old new) (CutShort text old new)
+abbrev pub CopyEnds : QueriedParts → Ends → Ends → Result Bool Fault → Type 0
+CopyEnds t old new result = MatchResult result (Copied t old new) (CutShort t old new)
 
 -- ---- how a run ends
 

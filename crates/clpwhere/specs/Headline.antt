@@ -5,7 +5,7 @@ use Rattle.clpwhere.specs.declared.outcome.Status.{Status}
 use Rattle.clpwhere.specs.declared.outcome.Status.TheVariants.{Done, Usage, Refused, Unreadable, ReadFault, WriteFault, NoMemory, Warned}
 use Rattle.clpwhere.specs.declared.command.Asked.{Asked}
 use Rattle.clpwhere.specs.declared.command.Asked.TheVariants as asked
-use Rattle.clpwhere.specs.MarkedLines.{marked, is_refused}
+use Rattle.clpwhere.specs.MarkedLines.{marked, is_told}
 use Rattle.clpwhere.specs.Parts.{TextParts}
 use Rattle.clpwhere.specs.WarnedLines.{IsWarned}
 use Rattle.byte_ports.specs.Ends.{Ends, SinkState, WroteAll, WroteFront}
@@ -22,11 +22,11 @@ IsDecided WriteFault = ⊥
 IsDecided NoMemory = ⊥
 
 abbrev pub usage : List ℕ
-usage = codes "usage: clpwhere [--warn FILE ..|FILE]\n"
+usage = codes "usage: clpwhere [--warn FILE ..|[--faults] FILE]\n"
 
 abbrev pub help : List ℕ
 help =
-    usage ++ codes "clpwhere FILE reads from its input what clpfd wrote, and explains each refusal in it by the text in the file.\nclpwhere --warn FILE .. warns of what often is a mistake in the text that the files make together.\nclpwhere --version writes the version.\n"
+    usage ++ codes "clpwhere FILE reads from its input what clpfd wrote, and explains each refusal in it by the text in the file.\nclpwhere --faults FILE tells below each fault in it the place of the query too.\nclpwhere --warn FILE .. warns of what often is a mistake in the text that the files make together.\nclpwhere --version writes the version.\n"
 
 abbrev pub version : List ℕ
 version = codes "clpwhere 1.0\n"
@@ -42,9 +42,9 @@ output asked.Version input = version
 output (asked.Unreadable name) input = unreadable (string_bytes name)
 output (asked.Text text) input = marked text input
 
-abbrev pub refused_status : Bool → Status
-refused_status true = Refused
-refused_status false = Done
+abbrev pub told_status : Bool → Status
+told_status true = Refused
+told_status false = Done
 
 -- and its status
 abbrev pub output_status : Asked → List ℕ → Status
@@ -52,7 +52,7 @@ output_status asked.Usage input = Usage
 output_status asked.Help input = Done
 output_status asked.Version input = Done
 output_status (asked.Unreadable name) input = Unreadable
-output_status (asked.Text text) input = refused_status (is_refused input)
+output_status (asked.Text text) input = told_status (is_told text input)
 
 -- An input of the run: what the source had left, where it still tells its bytes after the run, and
 -- else some bytes. Without a text the source isn't looked at.

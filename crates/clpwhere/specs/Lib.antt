@@ -9,12 +9,16 @@ pub mod Functors
 pub mod Reasons
 pub mod Sentences
 pub mod Refusals
+pub mod FaultLines
 pub mod MarkedLines
+pub mod PlacedFaults
+pub mod QueriedLines
 pub mod Files
 pub mod PlacedLines
 pub mod Cursors
 pub mod WarnedLines
 pub mod Faults
+pub mod Queries
 pub mod Endings
 pub mod Words
 pub mod Headline

@@ -6,15 +6,18 @@ use Rattle.clpwhere.specs.declared.command.Asked.{Asked}
 use Rattle.clpwhere.specs.declared.command.Asked.TheVariants as asked
 use Rattle.clpwhere.specs.declared.command.Request as code
 use Rattle.clpwhere.specs.declared.command.Request.TheVariants as coded
+use Rattle.clpwhere.specs.Parts.{QueriedParts}
+use Rattle.clpwhere.specs.Queries.{AreQueries}
 use Rattle.clpwhere.specs.declared.command.Wanted.{Wanted}
 use Rattle.clpwhere.specs.declared.command.Wanted.TheVariants as wanted
 
--- the usage line, lines on the words, the version, explanations by a file, or warnings of files
+-- the usage line, lines on the words, the version, explanations by a file, those of faults too, or warnings of files
 pub data Request : Type 0 where
   usage : Request
   help : Request
   version : Request
   explain : List ℕ → Request
+  faults : List ℕ → Request
   warn : List (List ℕ) → Request
 
 -- what the program keeps of it
@@ -23,6 +26,7 @@ seen_request coded.Usage = usage
 seen_request coded.Help = help
 seen_request coded.Version = version
 seen_request (coded.Explain word) = explain (string_bytes word.now)
+seen_request (coded.Faults word) = faults (string_bytes word.now)
 seen_request (coded.Warn words) = warn (map string_bytes words.now)
 
 -- a word that begins with - names no file
@@ -40,23 +44,38 @@ of_one_word word =
     else if is_file_name word then explain word
     else usage
 
+abbrev pub of_two_words : List ℕ → List ℕ → Request
+of_two_words word second = if bytes_eq word (codes "--faults") && is_file_name second then faults second else usage
+
 abbrev pub of_words : List ℕ → List (List ℕ) → Request
 of_words word [] = of_one_word word
-of_words word (second ∷ words) = usage
+of_words word (second ∷ []) = of_two_words word second
+of_words word (second ∷ (third ∷ words)) = usage
 
 -- what the words ask for
 abbrev pub request_of : List (List ℕ) → Request
 request_of [] = usage
 request_of (word ∷ words) = if bytes_eq word (codes "--warn") && are_file_names words then warn words else of_words word words
 
+-- The text of a file: without its queries where its refusals alone are to be explained, and with them where its faults are too.
+abbrev pub IsExplainer : Request → QueriedParts → Type 0
+IsExplainer r t =
+    ((r ≡ explain t.text.name) × (t.queries ≡ []))
+    ⊎ ((r ≡ faults t.text.name) × AreQueries t.text.bytes t.queries)
+
+-- what names a file that can't be read
+abbrev pub IsUnreadable : Request → List ℕ → Type 0
+IsUnreadable r name =
+    (r ≡ explain name) ⊎ ((r ≡ faults name)
+    ⊎ ((names : List (List ℕ)) × (r ≡ warn names) × Contains names name))
+
 -- the file of a request that can't be read is told in place of what was asked for
 abbrev pub IsAskedBy : List (List ℕ) → Asked → Type 0
 IsAskedBy words asked.Usage = request_of words ≡ usage
 IsAskedBy words asked.Help = request_of words ≡ help
 IsAskedBy words asked.Version = request_of words ≡ version
-IsAskedBy words (asked.Unreadable name) = (request_of words ≡ explain (string_bytes name))
-    ⊎ ((names : List (List ℕ)) × (request_of words ≡ warn names) × Contains names (string_bytes name))
-IsAskedBy words (asked.Text text) = request_of words ≡ explain text.name
+IsAskedBy words (asked.Unreadable name) = IsUnreadable (request_of words) (string_bytes name)
+IsAskedBy words (asked.Text text) = IsExplainer (request_of words) text
 
 abbrev pub IsWantedBy : List (List ℕ) → Wanted → Type 0
 IsWantedBy words (wanted.Explanations a) = IsAskedBy words a

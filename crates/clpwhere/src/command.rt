@@ -4,8 +4,9 @@ ghost use Rattle.std.specs.Prelude.{◌≡◌, ◌≢◌, map, string_bytes, IfO
 ghost use Rattle.std.specs.List.{list_all, Contains};
 ghost use Rattle.std.specs.IoError.{error_kind};
 ghost use Rattle.std.specs.declared.io.ErrorKind.TheVariants as kind;
-ghost use Rattle.clpwhere.specs.Words.{are_file_names, is_file_name, of_one_word, request_of, seen_request, IsWantedBy};
+ghost use Rattle.clpwhere.specs.Words.{are_file_names, is_file_name, of_one_word, of_two_words, request_of, seen_request, IsWantedBy};
 
+use crate::queries::{QueriedText, with_queries};
 use crate::text::NamedText;
 use fd_language::NoMemory;
 use std::alloc::Global;
@@ -24,8 +25,8 @@ pub enum Asked {
     Version,
     /// The text of a file, by its name, that can't be read.
     Unreadable(String),
-    /// To explain refusals of this text.
-    Text(NamedText),
+    /// To explain refusals of this text, and faults where its queries are given.
+    Text(QueriedText),
 }
 
 /// What the words ask for.
@@ -43,8 +44,10 @@ enum Request<'a> {
     Usage,
     Help,
     Version,
-    /// Explanations by the text of this file.
+    /// Explanations of refusals by the text of this file.
     Explain(&'a String),
+    /// Explanations of faults too.
+    Faults(&'a String),
     /// Warnings of the text that these files make.
     Warn(&'a [String]),
 }
@@ -89,6 +92,17 @@ fn of_one_word(word: &String) -> Request<'_>
     Request::Usage
 }
 
+/// What two words ask for.
+fn of_two_words<'a>(word: &str, second: &'a String) -> Request<'a>
+    ensures { seen_request result ≡ of_two_words word.now (string_bytes second.entry.now) }
+{
+    if word == "--faults" && is_file_name(second.as_str()) {
+        Request::Faults(second)
+    } else {
+        Request::Usage
+    }
+}
+
 /// What the words ask for.
 fn request_of(words: &[String]) -> Request<'_>
     ensures { seen_request result ≡ request_of (map string_bytes words.entry.now) }
@@ -101,7 +115,8 @@ fn request_of(words: &[String]) -> Request<'_>
     }
     match rest {
         [] => of_one_word(first),
-        [_, ..] => Request::Usage,
+        [second] => of_two_words(first.as_str(), second),
+        [_, _, ..] => Request::Usage,
     }
 }
 
@@ -162,7 +177,17 @@ pub fn read_wanted<R: Files + AllocGlobal>(rt: &R, words: &[String]) -> Result<W
         Request::Help => Ok(Wanted::Explanations(Asked::Help)),
         Request::Version => Ok(Wanted::Explanations(Asked::Version)),
         Request::Explain(word) => match read_file(rt, word.as_str())? {
-            Ok(text) => Ok(Wanted::Explanations(Asked::Text(text))),
+            Ok(text) => {
+                let text = QueriedText::new(text, Vec::new(rt.alloc()));
+                Ok(Wanted::Explanations(Asked::Text(text)))
+            }
+            Err(name) => Ok(Wanted::Explanations(Asked::Unreadable(name))),
+        },
+        Request::Faults(word) => match read_file(rt, word.as_str())? {
+            Ok(text) => {
+                let text = with_queries(rt.alloc(), text)?;
+                Ok(Wanted::Explanations(Asked::Text(text)))
+            }
             Err(name) => Ok(Wanted::Explanations(Asked::Unreadable(name))),
         },
         Request::Warn(names) => match read_files(rt, names)? {

@@ -4,15 +4,18 @@ ghost use Rattle.std.specs.Prelude.{◌≡◌, ◌≤◌, ◌++◌, IfErr, IfOk,
 ghost use Rattle.byte_ports.specs.Ends.{sink_at};
 ghost use Rattle.clpwhere.specs.Endings.{Wrote};
 ghost use Rattle.clpwhere.specs.declared.outcome.Fault.TheVariants as fault;
-ghost use Rattle.clpwhere.specs.MarkedLines.{caret_lines, explained, is_refusal, marked_line, place_line, shown_place, told_at};
+ghost use Rattle.clpwhere.specs.MarkedLines.{caret_lines, explained, is_explained, marked_line, place_line, shown_place, told_at};
 ghost use Rattle.clpwhere.specs.Places.{characters, cut_mark, shown_before, shown_character, shown_characters, shown_from};
 ghost use Rattle.clpwhere.specs.PlacedLines.{IsLineOf};
 ghost use Rattle.clpwhere.specs.Numbers.{last_place};
 ghost use Rattle.clpwhere.specs.Refusals.{seen};
+ghost use Rattle.clpwhere.specs.PlacedFaults.{told_fault};
 
 use crate::before_place::{Before, read_before};
+use crate::faults::{PlacedFault, fault_sentence, fault_words, placed_fault};
 use crate::outcome::Fault;
 use crate::placed_line::{PlacedLine, line_of};
+use crate::queries::QueriedText;
 use crate::reason::Reason;
 use crate::refusal::{Refusal, refusal_of};
 use crate::sentences::reason_sentence;
@@ -178,26 +181,47 @@ fn put<K: Sink>(sink: &mut K, piece: &[u8]) -> Result<(), Fault>
     Ok(write_all(sink, piece)?)
 }
 
-/// Writes what becomes of a line, and tells whether it told a refusal.
-pub(crate) fn put_line<K: Sink>(
+/// The line of a fault, without its newline, and below it the place of its query.
+fn told_fault(
     alloc: Global,
     text: &NamedText,
+    words: &[u8],
+    found: PlacedFault,
+) -> Result<Vec<u8>, NoMemory>
+    ensures { IfOk result (λ out. out.items ≡ told_fault text.now words.now found) }
+{
+    let line = line_of(alloc, text, found.place, text.line(found.place))?;
+    let said = fault_words(alloc, found.query, found.fault)?;
+    let sentence = fault_sentence(found.fault);
+    let told = told_at(alloc, text, found.place, &line, said.as_bytes(), sentence)?;
+    let mut out = Vec::from_slice(alloc, words)?;
+    out.extend_from_slice(b"\n")?;
+    out.extend_from_slice(&told)?;
+    Ok(out)
+}
+
+/// Writes what becomes of a line that belongs to the query with this number, and tells whether it was explained.
+pub(crate) fn put_line<K: Sink>(
+    alloc: Global,
+    text: &QueriedText,
+    query: Option<u64>,
     line: &[u8],
     sink: &mut K,
 ) -> Result<bool, Fault>
     ensures wrote { Wrote (sink_at (K.written sink.old) (K.faults sink.old))
         (sink_at (K.written sink.new) (K.faults sink.new))
-        result (marked_line text.now line.now) }
-    ensures told { IfOk result (λ told. told ≡ is_refusal line.now) }
+        result (marked_line text.now query line.now) }
+    ensures told { IfOk result (λ told. told ≡ is_explained text.now query line.now) }
 {
-    match refusal_of(before_byte(line, b'\n')) {
-        Some(refusal) => {
-            put(sink, &explained(alloc, text, &refusal)?)?;
-            Ok(true)
-        }
-        None => {
-            put(sink, line)?;
-            Ok(false)
-        }
+    let words = before_byte(line, b'\n');
+    if let Some(refusal) = refusal_of(words) {
+        put(sink, &explained(alloc, text.text(), &refusal)?)?;
+        return Ok(true);
     }
+    if let Some(found) = placed_fault(text, query, words) {
+        put(sink, &told_fault(alloc, text.text(), words, found)?)?;
+        return Ok(true);
+    }
+    put(sink, line)?;
+    Ok(false)
 }

@@ -12,6 +12,7 @@ mod before_place;
 mod command;
 mod copy;
 mod explanations;
+mod faults;
 mod files;
 mod foreign_names;
 mod foreign_words;
@@ -19,6 +20,7 @@ mod functors;
 pub mod laws;
 mod outcome;
 mod placed_line;
+mod queries;
 mod reason;
 mod refusal;
 mod sentences;
@@ -29,6 +31,7 @@ use crate::command::check_memory;
 pub use crate::command::{Asked, Wanted, read_wanted};
 use crate::copy::copy_input;
 pub use crate::outcome::Status;
+pub use crate::queries::{QueriedText, with_queries};
 pub use crate::text::NamedText;
 pub use crate::warnings::warn;
 use byte_ports::{ReaderSource, Sink, Source, WriterSink, write_all};
@@ -60,8 +63,8 @@ fn unreadable(alloc: Global, name: &str) -> Result<String, NoMemory>
 
 /// Writes what the words ask for, and tells how the run ended.
 ///
-/// Of an input that `clpfd` wrote each line that tells a refusal becomes its explanation by the text, and every other line stays as
-/// it is. The input is read in pieces, and each line is written when it was read whole. Without a text the source is left as it was.
+/// Of an input that `clpfd` wrote each line that tells a refusal becomes its explanation by the text. Below each line that tells a
+/// fault the place of its query is told, where the text's queries are given. Every other line stays as it is. The input is read in pieces, and each line is written when it was read whole. Without a text the source is left as it was.
 /// The status says which case it was: see `Status`.
 pub fn run<S: Source, K: Sink>(alloc: Global, asked: &Asked, source: &mut S, sink: &mut K) -> Status
     ensures headline { Headline asked.now
@@ -74,12 +77,12 @@ pub fn run<S: Source, K: Sink>(alloc: Global, asked: &Asked, source: &mut S, sin
     match asked {
         Asked::Usage => put_last(
             sink,
-            b"usage: clpwhere [--warn FILE ..|FILE]\n",
+            b"usage: clpwhere [--warn FILE ..|[--faults] FILE]\n",
             Status::Usage,
         ),
         Asked::Help => put_last(
             sink,
-            b"usage: clpwhere [--warn FILE ..|FILE]\nclpwhere FILE reads from its input what clpfd wrote, and explains each refusal in it by the text in the file.\nclpwhere --warn FILE .. warns of what often is a mistake in the text that the files make together.\nclpwhere --version writes the version.\n",
+            b"usage: clpwhere [--warn FILE ..|[--faults] FILE]\nclpwhere FILE reads from its input what clpfd wrote, and explains each refusal in it by the text in the file.\nclpwhere --faults FILE tells below each fault in it the place of the query too.\nclpwhere --warn FILE .. warns of what often is a mistake in the text that the files make together.\nclpwhere --version writes the version.\n",
             Status::Done,
         ),
         Asked::Version => put_last(sink, b"clpwhere 1.0\n", Status::Done),

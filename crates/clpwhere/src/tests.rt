@@ -1,24 +1,40 @@
 //! What runs write, over ends in memory.
 
-use crate::{Asked, NamedText, Status, run, warn};
+use crate::{Asked, NamedText, QueriedText, Status, run, warn, with_queries};
 use byte_ports::{MemorySink, MemorySource};
 use std::alloc::Global;
 use std::process::Abort;
 use std::test::Fail;
 
-/// The status of a run over memory for a text that lies in the file `t.pl`, and the bytes that it wrote.
+/// The status of a run over memory, and the bytes that it wrote.
+fn written_for(
+    alloc: Global,
+    asked: &Asked,
+    input: &[u8],
+    failing_reads: Vec<u64>,
+) -> Result<(Status, Vec<u8>), Fail> {
+    let mut source = MemorySource::new(input.to_vec(alloc)?, failing_reads);
+    let mut sink = MemorySink::new(alloc, 1000, Vec::new(alloc))?;
+    let status = run(alloc, asked, &mut source, &mut sink);
+    Ok((status, sink.bytes().to_vec(alloc)?))
+}
+
+/// A text that lies in the file `t.pl`.
+fn text_of(alloc: Global, text: &[u8]) -> Result<NamedText, Fail> {
+    let name = String::from_str(alloc, "t.pl")?;
+    Ok(NamedText::new(name, text.to_vec(alloc)?))
+}
+
+/// Those where refusals are explained by a text.
 fn written(
     alloc: Global,
     text: &[u8],
     input: &[u8],
     failing_reads: Vec<u64>,
 ) -> Result<(Status, Vec<u8>), Fail> {
-    let name = String::from_str(alloc, "t.pl")?;
-    let asked = Asked::Text(NamedText::new(name, text.to_vec(alloc)?));
-    let mut source = MemorySource::new(input.to_vec(alloc)?, failing_reads);
-    let mut sink = MemorySink::new(alloc, 1000, Vec::new(alloc))?;
-    let status = run(alloc, &asked, &mut source, &mut sink);
-    Ok((status, sink.bytes().to_vec(alloc)?))
+    let text = text_of(alloc, text)?;
+    let asked = Asked::Text(QueriedText::new(text, Vec::new(alloc)));
+    written_for(alloc, &asked, input, failing_reads)
 }
 
 fn gives(
@@ -247,6 +263,47 @@ fn behind_a_name_and_inside_a_token_the_sentence_names_both(rt: HostRuntime) -> 
         "t.pl:1:4: syntax\np(12).\n   ^\n",
         both,
     )
+}
+
+/// A text, what `clpfd` wrote for it, and what becomes of that where faults are explained too.
+const FAULTS: [(&str, &str, &str); 5] = [
+    (
+        "p(1).\n?- p(X).\n?- X is Y + 1.\n  ?- X = a, X in 1..2.\n",
+        "query 1\nX = 1\nend\nquery 2\nerror: instantiation\nquery 3\nX = 1\nerror: type\n",
+        "query 1\nX = 1\nend\nquery 2\nerror: instantiation\nt.pl:3:1: error: instantiation in query 2\n?- X is Y + 1.\n^\nA goal of this query, or of a clause that it calls, met an open variable where it needs a value: in arithmetic, as a parameter of a range, as the end of a list, among the numbers of fd_element and fd_atmost, or right of #<=>. Or fd_min, fd_max, fd_size or fd_dom met a variable without a domain.\nquery 3\nX = 1\nerror: type\nt.pl:4:3: error: type in query 3\n  ?- X = a, X in 1..2.\n  ^\nA goal of this query, or of a clause that it calls, met an atom or a compound term where it needs a variable, an integer, a list or a comparison. Constraints have +, - and * alone, and is has // and mod too.\n",
+    ),
+    (
+        "p :- X #< Y*Z. ?- p. ?- X is 1//0.",
+        "query 1\nquery 01\nquery 1st\nquery\nerror: nonlinear\nquery 2\nerror: evaluation",
+        "query 1\nquery 01\nquery 1st\nquery\nerror: nonlinear\nt.pl:1:16: error: nonlinear in query 1\np :- X #< Y*Z. ?- p. ?- X is 1//0.\n               ^\nA goal of this query, or of a clause that it calls, has a product with variables on both sides. Such a product may only be one side of #=, with a variable or an integer on the other.\nquery 2\nerror: evaluation\nt.pl:1:22: error: evaluation in query 2\np :- X #< Y*Z. ?- p. ?- X is 1//0.\n                     ^\nA goal of this query, or of a clause that it calls, divides by 0, or has a number of more than 63 bits as a result, a coefficient or a constant.\n",
+    ),
+    (
+        "?- fd_minimize(fd_labeling([X]), Y).",
+        "error: parameter\nquery 0\nerror: parameter\nquery 2\nerror: parameter\nquery 1\nerror: parameters\n",
+        "error: parameter\nquery 0\nerror: parameter\nquery 2\nerror: parameter\nquery 1\nerror: parameters\n",
+    ),
+    (
+        "?- fd_minimize(fd_labeling([X]), Y).",
+        "query 1\nerror: parameter\n",
+        "query 1\nerror: parameter\nt.pl:1:1: error: parameter in query 1\n?- fd_minimize(fd_labeling([X]), Y).\n^\nA goal of this query, or of a clause that it calls, met a parameter of a range that is below 0 or, as a divisor, below 1; or the cost of fd_minimize or fd_maximize is a variable that is no open member of the list.\n",
+    ),
+    (
+        "p(1)\n?- p(X).",
+        "query 1\nerror: type\nrefused at 5: syntax\n",
+        "query 1\nerror: type\nt.pl:2:1: syntax\n?- p(X).\n^\nA whole term ends just before this place, which wants an operator, a comma, a bar, a closing bracket or the full stop that fits there. Often a comma or the full stop is missing just before it.\n",
+    ),
+];
+
+#[test]
+fn a_fault_has_the_place_of_its_query(rt: HostRuntime) -> Result<(), Fail> {
+    let alloc = rt.alloc();
+    for (text, input, output) in FAULTS {
+        let asked = Asked::Text(with_queries(alloc, text_of(alloc, text.as_bytes())?)?);
+        let (ended, bytes) = written_for(alloc, &asked, input.as_bytes(), Vec::new(alloc))?;
+        assert_eq!(rt; bytes.as_slice(), output.as_bytes(), "at {input}");
+        assert_eq!(rt; ended == Status::Done, input == output);
+    }
+    Ok(())
 }
 
 #[test]

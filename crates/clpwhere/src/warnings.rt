@@ -107,7 +107,7 @@ fn read_text(alloc: Global, text: &str) -> Result<Sentences, Unread>
 }
 
 /// The sentences of a text of bytes.
-fn read_bytes(alloc: Global, bytes: &[u8]) -> Result<Sentences, Unread>
+pub(crate) fn read_bytes(alloc: Global, bytes: &[u8]) -> Result<Sentences, Unread>
     ensures read { IfOk result (λ s. IsReadAs bytes.now (sentences_of s)) }
     ensures own { IfOk result AreOwn }
     ensures fault { IfErr result (IsUnreadBy bytes.now) }

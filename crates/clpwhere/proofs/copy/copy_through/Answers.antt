@@ -1,6 +1,6 @@
-use Rattle.std.proofs.Common.{rules, ◌≡◌, ◌<◌, [], length, take, refl, sym, ap, subst}
+use Rattle.std.proofs.Common.{rules, ◌≡◌, ◌<◌, [], length, take, refl, ap}
 use Rattle.byte_ports.specs.Ends.{Ends}
-use Rattle.clpwhere.proofs.Runs.{HasCopied, copied, copy_cut, last_cut, memory_cut, more_cut, more_read, read_cut}
+use Rattle.clpwhere.proofs.Runs.{copied, copy_cut, last_cut, memory_cut, more_cut, more_read, read_cut}
 use Rattle.clpwhere.proofs.copy.copy_through.Goals as goal
 
 pub returns-in_err-finish-in-Ok-eq0 : goal.returns-in_err-finish-in-Ok-eq0
@@ -26,9 +26,7 @@ returns-in_err-finish-in-Ok-eq0 g c =
     let zero : c.in-Ok-eq0.field-0 ≡ 0 = search rules in
     let none : take c.in-Ok-eq0.field-0 c.read.new.buf ≡ [] = ap (λ k. take k c.read.new.buf) zero in
     let some : 0 < length c.read.new.buf = search rules in
-    let read : HasCopied c.args.text.now old now c.deref.result.now c.reading.is_told = subst (λ l. HasCopied c.args.text.now old now l c.reading.is_told)
-    (sym c.deref.ensures.value) c.reading.invariant in
-    let cut = last_cut c.args.text.now old now new c.deref.result.now (take c.in-Ok-eq0.field-0 c.read.new.buf) c.reading.is_told c.in_err-finish-in-Ok-eq0.field-0.0 read
+    let cut = last_cut c.args.text.now old now new c.reading.line.query c.reading.line.bytes.items (take c.in-Ok-eq0.field-0 c.read.new.buf) c.reading.is_told c.in_err-finish-in-Ok-eq0.field-0.0 c.reading.invariant
     c.in-Ok-eq0.ensures.bytes none (c.in-Ok-eq0.ensures.end zero some) c.in-Ok-eq0.ensures.ok c.in_err-finish-in-Ok-eq0.ensures.wrote in
     copy_cut c.args.text.now old new c.in_err-finish-in-Ok-eq0.field-0.0 c.from_residual.result (search rules) cut
 
@@ -55,9 +53,7 @@ returns-in-Ok-eq0 g c =
     let zero : c.in-Ok-eq0.field-0 ≡ 0 = search rules in
     let none : take c.in-Ok-eq0.field-0 c.read.new.buf ≡ [] = ap (λ k. take k c.read.new.buf) zero in
     let some : 0 < length c.read.new.buf = search rules in
-    let read : HasCopied c.args.text.now old now c.deref.result.now c.reading.is_told = subst (λ l. HasCopied c.args.text.now old now l c.reading.is_told)
-    (sym c.deref.ensures.value) c.reading.invariant in
-    copied c.args.text.now old now new c.deref.result.now (take c.in-Ok-eq0.field-0 c.read.new.buf) c.reading.is_told c.in_ok-finish-in-Ok-eq0.field-0 read
+    copied c.args.text.now old now new c.reading.line.query c.reading.line.bytes.items (take c.in-Ok-eq0.field-0 c.read.new.buf) c.reading.is_told c.in_ok-finish-in-Ok-eq0.field-0 c.reading.invariant
     c.in-Ok-eq0.ensures.bytes none (c.in-Ok-eq0.ensures.end zero some) c.in-Ok-eq0.ensures.ok c.in_ok-finish-in-Ok-eq0.ensures.wrote c.in_ok-finish-in-Ok-eq0.ensures.told
 
 pub returns-in_err-is_told-in-Ok : goal.returns-in_err-is_told-in-Ok
@@ -80,7 +76,7 @@ returns-in_err-is_told-in-Ok g c =
       source_faults = g.S.Source.faults c.read.new.self;
       sink_faults = g.K.Sink.faults c.feed.new.sink;
     } in
-    let cut = more_cut c.args.text.now old now new c.reading.line.items (take c.in-Ok.count c.read.new.buf) c.reading.is_told c.in_err-is_told-in-Ok.field-0.0 c.reading.invariant
+    let cut = more_cut c.args.text.now old now new c.reading.line.query c.reading.line.bytes.items (take c.in-Ok.count c.read.new.buf) c.reading.is_told c.in_err-is_told-in-Ok.field-0.0 c.reading.invariant
     c.in-Ok.ensures.bytes c.in-Ok.ensures.ok c.in_err-is_told-in-Ok.ensures in
     copy_cut c.args.text.now old new c.in_err-is_told-in-Ok.field-0.0 c.from_residual-in_err-is_told-in-Ok.result (search rules) cut
 
@@ -104,7 +100,7 @@ returns-in-Err g c =
       source_faults = g.S.Source.faults c.read.new.self;
       sink_faults = g.K.Sink.faults c.reading.sink;
     } in
-    read_cut c.args.text.now old now new c.reading.line.items c.reading.is_told c.reading.invariant c.in-Err.ensures.err c.in-Err.ensures.later c.in-Err.ensures.cause refl refl
+    read_cut c.args.text.now old now new c.reading.line.query c.reading.line.bytes.items c.reading.is_told c.reading.invariant c.in-Err.ensures.err c.in-Err.ensures.later c.in-Err.ensures.cause refl refl
 
 pub reading-preserved : goal.reading-preserved
 reading-preserved g c =
@@ -126,7 +122,7 @@ reading-preserved g c =
       source_faults = g.S.Source.faults c.read.new.self;
       sink_faults = g.K.Sink.faults c.feed.new.sink;
     } in
-    more_read c.args.text.now old now new c.reading.line.items c.feed.new.line.items (take c.in-Ok.count c.read.new.buf) c.reading.is_told c.in_ok-is_told-in-Ok.field-0 c.reading.invariant
+    more_read c.args.text.now old now new c.reading.line.query c.reading.line.bytes.items c.feed.new.line.query c.feed.new.line.bytes.items (take c.in-Ok.count c.read.new.buf) c.reading.is_told c.in_ok-is_told-in-Ok.field-0 c.reading.invariant
     c.in-Ok.ensures.bytes c.in-Ok.ensures.ok c.in_ok-is_told-in-Ok.ensures
 
 pub returns : goal.returns
@@ -143,4 +139,4 @@ returns g c =
       source_faults = g.S.Source.faults c.reading.source;
       sink_faults = g.K.Sink.faults c.reading.sink;
     } in
-    memory_cut c.args.text.now old now c.reading.line.items c.reading.is_told c.reading.invariant
+    memory_cut c.args.text.now old now c.reading.line.query c.reading.line.bytes.items c.reading.is_told c.reading.invariant
