@@ -266,31 +266,31 @@ fn behind_a_name_and_inside_a_token_the_sentence_names_both(rt: HostRuntime) -> 
 }
 
 /// A text, what `clpfd` wrote for it, and what becomes of that where faults are explained too.
-const FAULTS: [(&str, &str, &str); 5] = [
+const FAULTS: [(&[u8], &[u8], &[u8]); 5] = [
     (
-        "p(1).\n?- p(X).\n?- X is Y + 1.\n  ?- X = a, X in 1..2.\n",
-        "query 1\nX = 1\nend\nquery 2\nerror: instantiation\nquery 3\nX = 1\nerror: type\n",
-        "query 1\nX = 1\nend\nquery 2\nerror: instantiation\nt.pl:3:1: error: instantiation in query 2\n?- X is Y + 1.\n^\nA goal of this query, or of a clause that it calls, met an open variable where it needs a value: in arithmetic, as a parameter of a range, as the end of a list, among the numbers of fd_element and fd_atmost, or right of #<=>. Or fd_min, fd_max, fd_size or fd_dom met a variable without a domain.\nquery 3\nX = 1\nerror: type\nt.pl:4:3: error: type in query 3\n  ?- X = a, X in 1..2.\n  ^\nA goal of this query, or of a clause that it calls, met an atom or a compound term where it needs a variable, an integer, a list or a comparison. Constraints have +, - and * alone, and is has // and mod too.\n",
+        b"p(1).\n?- p(X).\n?- X is Y + 1.\n  ?- X = a, X in 1..2.\n",
+        b"query 1\nX = 1\nend\nquery 2\nerror: instantiation\nquery 3\nX = 1\nerror: type\n",
+        b"query 1\nX = 1\nend\nquery 2\nerror: instantiation\nt.pl:3:1: error: instantiation in query 2\n?- X is Y + 1.\n^\nA goal of this query, or of a clause that it calls, met an open variable where it needs a value: in arithmetic, as a parameter of a range, as the end of a list, among the numbers of fd_element and fd_atmost, or right of #<=>. Or fd_min, fd_max, fd_size or fd_dom met a variable without a domain.\nquery 3\nX = 1\nerror: type\nt.pl:4:3: error: type in query 3\n  ?- X = a, X in 1..2.\n  ^\nA goal of this query, or of a clause that it calls, met an atom or a compound term where it needs a variable, an integer, a list or a comparison. Constraints have +, - and * alone, and is has // and mod too.\n",
     ),
     (
-        "p :- X #< Y*Z. ?- p. ?- X is 1//0.",
-        "query 1\nquery 01\nquery 1st\nquery\nerror: nonlinear\nquery 2\nerror: evaluation",
-        "query 1\nquery 01\nquery 1st\nquery\nerror: nonlinear\nt.pl:1:16: error: nonlinear in query 1\np :- X #< Y*Z. ?- p. ?- X is 1//0.\n               ^\nA goal of this query, or of a clause that it calls, has a product with variables on both sides. Such a product may only be one side of #=, with a variable or an integer on the other.\nquery 2\nerror: evaluation\nt.pl:1:22: error: evaluation in query 2\np :- X #< Y*Z. ?- p. ?- X is 1//0.\n                     ^\nA goal of this query, or of a clause that it calls, divides by 0, or has a number of more than 63 bits as a result, a coefficient or a constant.\n",
+        b"p :- X #< Y*Z. ?- p. ?- X is 1//0.",
+        b"query 1\nquery 01\nquery 1st\nquery\nerror: nonlinear\nquery 2\nerror: evaluation",
+        b"query 1\nquery 01\nquery 1st\nquery\nerror: nonlinear\nt.pl:1:16: error: nonlinear in query 1\np :- X #< Y*Z. ?- p. ?- X is 1//0.\n               ^\nA goal of this query, or of a clause that it calls, has a product with variables on both sides. Such a product may only be one side of #=, with a variable or an integer on the other.\nquery 2\nerror: evaluation\nt.pl:1:22: error: evaluation in query 2\np :- X #< Y*Z. ?- p. ?- X is 1//0.\n                     ^\nA goal of this query, or of a clause that it calls, divides by 0, or has a number of more than 63 bits as a result, a coefficient or a constant.\n",
     ),
     (
-        "?- fd_minimize(fd_labeling([X]), Y).",
-        "error: parameter\nquery 0\nerror: parameter\nquery 2\nerror: parameter\nquery 1\nerror: parameters\n",
-        "error: parameter\nquery 0\nerror: parameter\nquery 2\nerror: parameter\nquery 1\nerror: parameters\n",
+        b"?- fd_minimize(fd_labeling([X]), Y).",
+        b"error: parameter\nquery 0\nerror: parameter\nquery 2\nerror: parameter\nquery 1\nerror: parameters\n",
+        b"error: parameter\nquery 0\nerror: parameter\nquery 2\nerror: parameter\nquery 1\nerror: parameters\n",
     ),
     (
-        "?- fd_minimize(fd_labeling([X]), Y).",
-        "query 1\nerror: parameter\n",
-        "query 1\nerror: parameter\nt.pl:1:1: error: parameter in query 1\n?- fd_minimize(fd_labeling([X]), Y).\n^\nA goal of this query, or of a clause that it calls, met a parameter of a range that is below 0 or, as a divisor, below 1; or the cost of fd_minimize or fd_maximize is a variable that is no open member of the list.\n",
+        b"?- fd_minimize(fd_labeling([X]), Y).",
+        b"query 1\nerror: parameter\n",
+        b"query 1\nerror: parameter\nt.pl:1:1: error: parameter in query 1\n?- fd_minimize(fd_labeling([X]), Y).\n^\nA goal of this query, or of a clause that it calls, met a parameter of a range that is below 0 or, as a divisor, below 1; or the cost of fd_minimize or fd_maximize is a variable that is no open member of the list.\n",
     ),
     (
-        "p(1)\n?- p(X).",
-        "query 1\nerror: type\nrefused at 5: syntax\n",
-        "query 1\nerror: type\nt.pl:2:1: syntax\n?- p(X).\n^\nA whole term ends just before this place, which wants an operator, a comma, a bar, a closing bracket or the full stop that fits there. Often a comma or the full stop is missing just before it.\n",
+        b"p(1)\n?- p(X).",
+        b"query 1\nerror: type\nrefused at 5: syntax\n",
+        b"query 1\nerror: type\nt.pl:2:1: syntax\n?- p(X).\n^\nA whole term ends just before this place, which wants an operator, a comma, a bar, a closing bracket or the full stop that fits there. Often a comma or the full stop is missing just before it.\n",
     ),
 ];
 
@@ -298,9 +298,9 @@ const FAULTS: [(&str, &str, &str); 5] = [
 fn a_fault_has_the_place_of_its_query(rt: HostRuntime) -> Result<(), Fail> {
     let alloc = rt.alloc();
     for (text, input, output) in FAULTS {
-        let asked = Asked::Text(with_queries(alloc, text_of(alloc, text.as_bytes())?)?);
-        let (ended, bytes) = written_for(alloc, &asked, input.as_bytes(), Vec::new(alloc))?;
-        assert_eq!(rt; bytes.as_slice(), output.as_bytes(), "at {input}");
+        let asked = Asked::Text(with_queries(alloc, text_of(alloc, text)?)?);
+        let (ended, bytes) = written_for(alloc, &asked, input, Vec::new(alloc))?;
+        assert_eq!(rt; bytes.as_slice(), output);
         assert_eq!(rt; ended == Status::Done, input == output);
     }
     Ok(())
