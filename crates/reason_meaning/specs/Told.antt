@@ -91,13 +91,19 @@ module _ (M N n : ℕ) (prog : Program) (q : Query) (stays : List Bool) (src : S
   left_over [] = all_kept q.goals
   left_over (ks ∷ kss) = both (untold stays ks) (left_over kss)
 
-  -- So many reasons more, with no told goal that one of kss or of each other has. Fewer only where the goals that are left aren't known to have no answer.
+  -- whether the last reason told no goal: what stays has no answer by itself
+  abbrev pub told_nothing : List (List Bool) → Bool
+  told_nothing [] = false
+  told_nothing (ks ∷ kss) = count_by (λ b. b) (told stays ks) == 0
+
+  -- So many reasons more, with no told goal that one of kss or of each other has. Fewer only where the goals that are left aren't known to have no answer, or the last
+  -- reason told no goal.
   pub MoreLines : ℕ → List (List Bool) → List ℕ → Type 0
   MoreLines zero kss out = out ≡ []
-  MoreLines (suc r) kss out =
+  MoreLines (suc r) kss out = ((told_nothing kss ≡ true) × (out ≡ [])) ⊎ ((told_nothing kss ≡ false) × (
       ((o : Outcome) × HasOutcome M N n prog q (kept (left_over kss) q.goals) o × (o ≡ unanswered → ⊥) × (out ≡ []))
       ⊎ ((ks : List Bool) × (here : List ℕ) × (rest : List ℕ)
-      × IsWithin ks (left_over kss) × ReasonLines ks here × MoreLines r (ks ∷ kss) rest × (out ≡ here ++ rest))
+      × IsWithin ks (left_over kss) × ReasonLines ks here × MoreLines r (ks ∷ kss) rest × (out ≡ here ++ rest))))
 
   -- By the query's own outcome: where it has no answer a reason is told, and r more.
   pub OutcomeLines : ℕ → Outcome → List ℕ → Type 0
